@@ -1,4 +1,5 @@
 // What set-up is given: accounts and funds (crates/gateway/src/accounts.rs), and the timing of sessions (exchange.rs).
+ghost use mathlib.Core.Path.{_≡_};
 
 // An account: its id, which is also its owner id in the book, its secret, and its limits.
 pub struct Account {
@@ -41,5 +42,3 @@ impl Timing {
         }
     }
 }
-
-ghost use mathlib.Core.Path.{_≡_};

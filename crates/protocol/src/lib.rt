@@ -1,4 +1,6 @@
 // The message values of crates/protocol/src/lib.rs, with the Rust's names, cases and order. The wire form is left out.
+pub mod codes;
+
 use orderbook::CancelReason;
 use orderbook::MaybePrice;
 use orderbook::MaybeQty;

@@ -1,0 +1,21 @@
+use mathlib.Core.Path.{sym}
+use borrow.Author.Needs.{needs}
+use lib.ListN.{List·getD-eq-default}
+use Rattle.protocol.specs.Codes.{rejectCases}
+use Rattle.protocol.proofs.codes.reject_of.Statement.{statement}
+use Rattle.protocol.proofs.codes.reject_of.Tie as tie
+
+mul-result : tie.Need-mul-result
+mul-result c = search needs
+
+array-copy-out-result : tie.Need-array-copy-out-result
+array-copy-out-result c = search needs
+
+returns : tie.Need-returns
+returns c = search needs
+
+returns-2 : tie.Need-returns-2
+returns-2 c = sym (List·getD-eq-default rejectCases _ {n = c .before .args .code} (search needs))
+
+pub reject-of-spec : {M : Type 1} → statement M
+reject-of-spec = tie.close (tie.spec mul-result array-copy-out-result returns returns-2)
