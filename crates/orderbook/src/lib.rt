@@ -194,3 +194,22 @@ pub enum CancelReason {
     PriceBand,
     TradingPhase,
 }
+
+// A book listing, which stands for the book: its resting orders and its stops. A hidden part is in `leaves` and not in `visible`.
+pub enum Listed {
+    Order {
+        id: OrderId,
+        owner: OwnerId,
+        side: Side,
+        price: Price,
+        leaves: Qty,
+        visible: Qty,
+    },
+    Stop {
+        id: OrderId,
+        owner: OwnerId,
+        side: Side,
+        limit: MaybePrice,
+        qty: Qty,
+    },
+}

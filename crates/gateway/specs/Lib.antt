@@ -1,0 +1,15 @@
+pub mod Limits
+pub mod Money
+pub mod Ledger
+pub mod Saved
+pub mod Bytes
+pub mod Core
+pub mod Depth
+pub mod Rest
+pub mod Entry
+pub mod Deliver
+pub mod Listing
+pub mod Calls
+pub mod Start
+pub mod Fits
+pub mod Restart
