@@ -150,9 +150,12 @@ tests (event n e) c = event-tests n e c ++ ((outside, fits-after (event n e) c) 
 
 -- ---- the step
 
+abbrev pub flight : Origin → ℕ → Command → Flight
+flight from n k = record { number = n; session = from .session; owner = owner-of k; places = places k }
+
 abbrev pub flights-after : Origin → Item → List Flight → List Flight
 flights-after from (account a) fs = fs
-flights-after from (command n k) fs = fs ++ (record { number = n; session = from .session; owner = owner-of k; places = places k } ∷ [])
+flights-after from (command n k) fs = fs ++ (flight from n k ∷ [])
 flights-after from (event n e) fs = drop-below n fs
 
 abbrev pub accounts-after : Item → List (Option Account) → List (Option Account)

@@ -1,0 +1,5 @@
+pub mod Base
+pub mod Money
+pub mod Forget
+pub mod View
+pub mod Invariant
