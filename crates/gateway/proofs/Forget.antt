@@ -10,8 +10,9 @@ use lib.ListN.{length, getD, set}
 use lib.Dec.{eqb, leb}
 use Rattle.orderbook.specs.declared.Side.{Side}
 use Rattle.accounts.specs.declared.Funds.{Funds}
-use Rattle.gateway.specs.Ledger.{Order, Ledger, New, Item, account, command, event, order-of, owner-of, placed, find, update, remove, with-leaves, with-price, with-orders, left}
+use Rattle.gateway.specs.Ledger.{Order, Ledger, New, Item, account, command, event, order-of, owner-of, placed, number-of, find, remove, with-leaves, with-price, with-orders, left}
 use Rattle.gateway.specs.Ledger.{Change, mark-by, fill, set-leaves, reprice, retire, changes, change, changed, pay, paper, wallet-of, is-some, step, held, held-by, wallet-fits, wallets-fit, holds-fit, open-of}
+use Rattle.gateway.specs.Table.{look, without, update}
 use Rattle.gateway.specs.Restart.{forget, forgetting}
 use Rattle.gateway.proofs.Base.{if-map}
 
@@ -27,15 +28,18 @@ module _ (N : ℕ) where
   forgotten (some o) = some (forget N o)
 
   pub find-forget : (n : ℕ) (os : List Order) → find n (map (forget N) os) ≡ forgotten (find n os)
+  unfolding look
   find-forget n [] = refl
   find-forget n (o ∷ os) = sym (if-map forgotten (eqb (o .number) n) refl (sym (find-forget n os)))
 
   pub remove-forget : (n : ℕ) (os : List Order) → map (forget N) (remove n os) ≡ remove n (map (forget N) os)
+  unfolding without
   remove-forget n [] = refl
   remove-forget n (o ∷ os) = if-map (map (forget N)) (eqb (o .number) n) (remove-forget n os) (ap (λ l. forget N o ∷ l) (remove-forget n os))
 
   pub update-forget : (f : Order → Order) → ((o : Order) → forget N (f o) ≡ f (forget N o)) →
-    (n : ℕ) (os : List Order) → map (forget N) (update n f os) ≡ update n f (map (forget N) os)
+    (n : ℕ) (os : List Order) → map (forget N) (update number-of n f os) ≡ update number-of n f (map (forget N) os)
+  unfolding update
   update-forget f h n [] = refl
   update-forget f h n (o ∷ os) = ap₂ (λ x l. x ∷ l) (if-map (forget N) (eqb (o .number) n) (h o) refl) (update-forget f h n os)
 

@@ -25,8 +25,9 @@ use Rattle.accounts.specs.declared.Funds.{Funds}
 use Rattle.accounts.specs.declared.MaybeFunds as F
 use Rattle.gateway.specs.Limits.{word, owner-slots, most-orders, most-in-flight}
 use Rattle.gateway.specs.Money.{fits, settle}
-use Rattle.gateway.specs.Ledger.{Order, Ledger, New, Item, account, command, event, order-of, owner-of, is-some, map-option, placed, find, update, remove, with-leaves, with-price, left}
+use Rattle.gateway.specs.Ledger.{Order, Ledger, New, Item, account, command, event, order-of, owner-of, is-some, map-option, placed, number-of, find, remove, with-leaves, with-price, left}
 use Rattle.gateway.specs.Ledger.{Change, mark-by, fill, set-leaves, reprice, retire, changes, change, changed, pay, paper, funds-of, step, same-side, order-hold, held, wallet-fits, wallets-fit, holds-fit, open-of}
+use Rattle.gateway.specs.Table.{without, update}
 use Rattle.gateway.specs.Core.{Tests, Pass, Origin, Flight, Core, flight, drop-below, places, owner-below, tests, core-step}
 use Rattle.gateway.specs.Start.{funds-in}
 use Rattle.gateway.specs.Fits.{Unsigned, Signed, PriceFits, FundsFit, MaybeFundsFit, AccountFits, CommandFits, EventFits}
@@ -69,6 +70,7 @@ then (kept p q s) (ended t) = ended (then s t)
 then (kept p q s) (kept p′ q′ t) = kept (p′ ∙ p) (q′ ∙ q) (then s t)
 
 remove-shrinks : (n : ℕ) (os : List Order) → Shrinks os (remove n os)
+unfolding without
 remove-shrinks n [] = empty
 remove-shrinks n (o ∷ os) =
     let h = remove-shrinks n os in
@@ -78,11 +80,12 @@ remove-shrinks n (o ∷ os) =
 abbrev Keeps : (Order → Order) → Type 0
 Keeps f = (o : Order) → (f o .number ≡ o .number) × (f o .account ≡ o .account)
 
-update-shrinks : (f : Order → Order) → Keeps f → (n : ℕ) (os : List Order) → Shrinks os (update n f os)
+update-shrinks : (f : Order → Order) → Keeps f → (n : ℕ) (os : List Order) → Shrinks os (update number-of n f os)
+unfolding update
 update-shrinks f h n [] = empty
 update-shrinks f h n (o ∷ os) =
     let t = update-shrinks f h n os in
-    split (λ b. Shrinks (o ∷ os) (cond b (f o) o ∷ update n f os)) (eqb (o .number) n) (λ e. kept (h o .0) (h o .1) t) (λ e. kept refl refl t)
+    split (λ b. Shrinks (o ∷ os) (cond b (f o) o ∷ update number-of n f os)) (eqb (o .number) n) (λ e. kept (h o .0) (h o .1) t) (λ e. kept refl refl t)
 
 one-of : {os ps qs : List Order} (b : Bool) → Shrinks os ps → Shrinks os qs → Shrinks os (cond b ps qs)
 one-of true s t = s
@@ -171,12 +174,14 @@ changes-fit n (MassCancelled o k) h = tt
 changes-fit n (PhaseChanged p) h = tt
 
 remove-fits : (n : ℕ) (os : List Order) → All OrderFits os → All OrderFits (remove n os)
+unfolding without
 remove-fits n [] h = tt
 remove-fits n (o ∷ os) h =
     let t = remove-fits n os (h .1) in
     split (λ b. All OrderFits (cond b (remove n os) (o ∷ remove n os))) (eqb (o .number) n) (λ e. t) (λ e. (h .0, t))
 
-update-fits : (f : Order → Order) → ((o : Order) → OrderFits o → OrderFits (f o)) → (n : ℕ) (os : List Order) → All OrderFits os → All OrderFits (update n f os)
+update-fits : (f : Order → Order) → ((o : Order) → OrderFits o → OrderFits (f o)) → (n : ℕ) (os : List Order) → All OrderFits os → All OrderFits (update number-of n f os)
+unfolding update
 update-fits f g n [] h = tt
 update-fits f g n (o ∷ os) h =
     (split (λ b. OrderFits (cond b (f o) o)) (eqb (o .number) n) (λ e. g o (h .0)) (λ e. h .0), update-fits f g n os (h .1))
@@ -189,7 +194,7 @@ reprice-fits p o g h = record { ref-fits = h .ref-fits; price-fits = g; leaves-f
 
 left-fits : (f : Order → Order) → ((o : Order) → OrderFits o → OrderFits (f o)) → (n v : ℕ) (os : List Order) → Unsigned v → All OrderFits os → All OrderFits (left n f v os)
 left-fits f g n v os u h =
-    split (λ b. All OrderFits (cond b (remove n os) (update n (λ o. with-leaves v (f o)) os))) (eqb v 0) (λ e. remove-fits n os h)
+    split (λ b. All OrderFits (cond b (remove n os) (update number-of n (λ o. with-leaves v (f o)) os))) (eqb v 0) (λ e. remove-fits n os h)
     (λ e. update-fits (λ o. with-leaves v (f o)) (λ o k. leaves-fits v (f o) u (g o k)) n os h)
 
 pub record LedgerFits (l : Ledger) : Type 0 where

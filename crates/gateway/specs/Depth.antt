@@ -13,6 +13,7 @@ use Rattle.orderbook.specs.declared.Event.{Event}
 use Rattle.orderbook.specs.declared.Event.the-variants.{Accepted, Rejected, Trade, Rested, Replenished, Cancelled, Modified, StopPlaced, Triggered, MassCancelled, PhaseChanged}
 use Rattle.gateway.specs.Limits.{word, most-orders, most-levels, most-changed}
 use Rattle.gateway.specs.Ledger.{same-side}
+use Rattle.gateway.specs.Table.{look, without, insert, replace}
 
 -- a resting order; an iceberg shows a part of what is left
 pub record Resting : Type 0 where
@@ -69,21 +70,11 @@ level k d = level-in (k .1) (levels (k .0) (d .resting))
 
 -- ---- what an event does
 
+abbrev pub resting-number : Resting → ℕ
+resting-number o = o .number
+
 abbrev pub find-resting : ℕ → List Resting → Option Resting
-find-resting n [] = none
-find-resting n (o ∷ os) = cond (eqb (o .number) n) (some o) (find-resting n os)
-
-abbrev pub insert : Resting → List Resting → List Resting
-insert r [] = r ∷ []
-insert r (o ∷ os) = cond (ltb (r .number) (o .number)) (r ∷ o ∷ os) (o ∷ insert r os)
-
-abbrev pub replace : Resting → List Resting → List Resting
-replace r [] = []
-replace r (o ∷ os) = cond (eqb (o .number) (r .number)) r o ∷ replace r os
-
-abbrev pub drop-resting : ℕ → List Resting → List Resting
-drop-resting n [] = []
-drop-resting n (o ∷ os) = cond (eqb (o .number) n) (drop-resting n os) (o ∷ drop-resting n os)
+find-resting n os = look resting-number n os
 
 abbrev pub key-of : Resting → Key
 key-of o = (o .side, o .price)
@@ -103,13 +94,13 @@ showing visible leaves o = record { number = o .number; side = o .side; price = 
 
 -- the order comes, shows something else, or goes: its level has changed, also where the quantity stays equal
 unfoldable pub add : Resting → Depth → Depth
-add o d = record { resting = insert o (d .resting); changed = remember (key-of o) (d .changed) }
+add o d = record { resting = insert resting-number o (d .resting); changed = remember (key-of o) (d .changed) }
 
 unfoldable pub show : Resting → Depth → Depth
-show o d = record { resting = replace o (d .resting); changed = remember (key-of o) (d .changed) }
+show o d = record { resting = replace resting-number o (d .resting); changed = remember (key-of o) (d .changed) }
 
 unfoldable pub take-off : Resting → Depth → Depth
-take-off o d = record { resting = drop-resting (o .number) (d .resting); changed = remember (key-of o) (d .changed) }
+take-off o d = record { resting = without resting-number (o .number) (d .resting); changed = remember (key-of o) (d .changed) }
 
 -- what happens to the order n where it rests
 abbrev pub where-resting : ℕ → (Resting → Depth → Depth) → Depth → Depth

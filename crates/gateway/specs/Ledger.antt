@@ -18,6 +18,7 @@ use Rattle.accounts.specs.declared.Account.{Account}
 use Rattle.accounts.specs.declared.Funds.{Funds}
 use Rattle.accounts.specs.declared.MaybeFunds as F
 use Rattle.gateway.specs.Money.{fits, hold, settle}
+use Rattle.gateway.specs.Table.{look, without, update}
 
 -- a live order, with the fields of the checkpoint
 pub record Order : Type 0 where
@@ -72,19 +73,16 @@ abbrev pub placed : ℕ → ℕ → ℕ → Option New → List Order
 placed ref n a none = []
 placed ref n a (some x) = record { number = n; account = a; client-ref = ref; side = x .side; price = x .price; leaves = x .qty } ∷ []
 
--- ---- the table of orders: find n, change n, end n
+-- ---- the table of orders
+
+abbrev pub number-of : Order → ℕ
+number-of o = o .number
 
 abbrev pub find : ℕ → List Order → Option Order
-find n [] = none
-find n (o ∷ os) = cond (eqb (o .number) n) (some o) (find n os)
-
-abbrev pub update : ℕ → (Order → Order) → List Order → List Order
-update n f [] = []
-update n f (o ∷ os) = cond (eqb (o .number) n) (f o) o ∷ update n f os
+find n os = look number-of n os
 
 abbrev pub remove : ℕ → List Order → List Order
-remove n [] = []
-remove n (o ∷ os) = cond (eqb (o .number) n) (remove n os) (o ∷ remove n os)
+remove n os = without number-of n os
 
 abbrev pub with-leaves : ℕ → Order → Order
 with-leaves v o = record { number = o .number; account = o .account; client-ref = o .client-ref; side = o .side; price = o .price; leaves = v }
@@ -121,7 +119,7 @@ changes n (PhaseChanged p) = []
 
 -- an order with nothing left is done
 abbrev pub left : ℕ → (Order → Order) → ℕ → List Order → List Order
-left n f v os = cond (eqb v 0) (remove n os) (update n (λ o. with-leaves v (f o)) os)
+left n f v os = cond (eqb v 0) (remove n os) (update number-of n (λ o. with-leaves v (f o)) os)
 
 abbrev pub wallet-of : Option Order → List (Option Funds) → Option Funds
 wallet-of none ws = none
@@ -149,7 +147,7 @@ change (mark-by t m p) l =
     record { last = l .last; wallets = l .wallets; orders = l .orders; mark = cond (paper t l && paper m l) (l .mark) (Some p) }
 change (fill n p q v) l =
     record { last = l .last; wallets = pay p q (find n (l .orders)) (l .wallets); orders = left n (λ o. o) v (l .orders); mark = l .mark }
-change (set-leaves n v) l = with-orders (update n (with-leaves v) (l .orders)) l
+change (set-leaves n v) l = with-orders (update number-of n (with-leaves v) (l .orders)) l
 change (reprice n p v) l = with-orders (left n (with-price p) v (l .orders)) l
 change (retire n) l = with-orders (remove n (l .orders)) l
 

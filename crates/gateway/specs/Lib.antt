@@ -1,5 +1,6 @@
 pub mod Limits
 pub mod Money
+pub mod Table
 pub mod Ledger
 pub mod Saved
 pub mod Bytes

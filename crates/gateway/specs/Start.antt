@@ -18,7 +18,7 @@ use Rattle.gateway.specs.Depth.{Depth, levels-fit, levels-few}
 use Rattle.gateway.specs.Rest.{Rest}
 use Rattle.gateway.specs.Entry.{is-zero}
 use Rattle.gateway.specs.Calls.{Gateway}
-use Rattle.gateway.specs.Listing.{number-of, owner-of-listed, listed-orders, listed-depth, listed-times}
+use Rattle.gateway.specs.Listing.{listed-number, listed-owner, listed-orders, listed-depth, listed-times}
 use Rattle.gateway.specs.Saved.{Saved, slots}
 use Rattle.gateway.specs.Bytes.{decode}
 
@@ -71,7 +71,7 @@ begin timing l t d notices =
 -- by ascending number: above the last number, its owner, listed twice
 abbrev pub owners-of : ℕ → ℕ → List Listed → Bool
 owners-of limit n [] = true
-owners-of limit n (x ∷ xs) = cond (eqb (number-of x) n) (ltb (owner-of-listed x) limit) true && owners-of limit n xs
+owners-of limit n (x ∷ xs) = cond (eqb (listed-number x) n) (ltb (listed-owner x) limit) true && owners-of limit n xs
 
 abbrev pub listed-tests : ℕ → ℕ → List Listed → List Order → Tests ℕ
 listed-tests limit last xs [] = []
