@@ -31,7 +31,7 @@ use Rattle.gateway.specs.Table.{without, update}
 use Rattle.gateway.specs.Core.{Tests, Pass, Origin, Flight, Core, flight, drop-below, places, owner-below, tests, core-step}
 use Rattle.gateway.specs.Start.{funds-in}
 use Rattle.gateway.specs.Fits.{Unsigned, Signed, PriceFits, FundsFit, MaybeFundsFit, AccountFits, CommandFits, EventFits}
-use Rattle.gateway.proofs.Base.{split}
+use Rattle.gateway.proofs.Base.{split, same?}
 use Rattle.gateway.proofs.Forget.{step-forget, holds-forget}
 use Rattle.gateway.proofs.Money.{settle-fits}
 
@@ -303,15 +303,6 @@ Owned t ws = (i : ℕ) → is-some (getD ws i none) ≡ is-some (funds-in (getD 
 some-map : (f : Funds → Funds) (w : Option Funds) → is-some (map-option f w) ≡ is-some w
 some-map f none = refl
 some-map f (some w) = refl
-
-same? : (i j : ℕ) → (i ≡ j) ⊎ (i ≡ j → ⊥)
-same? i j = split (λ b. (eqb i j ≡ b) → (i ≡ j) ⊎ (i ≡ j → ⊥)) (eqb i j) (λ e q. inl (eqb-true i j q)) (λ e q. inr (eqb-false i j q)) refl
-
--- a set past the end changes nothing
-set-past : {A : Type 0} (l : List A) (i : ℕ) (v : A) → length l ≤ i → set l i v ≡ l
-set-past [] i v h = refl
-set-past (x ∷ l) zero v h = absurd (omega (arith, h))
-set-past (x ∷ l) (suc i) v h = ap (λ t. x ∷ t) (set-past l i v (omega arith))
 
 still-some : (ws : List (Option Funds)) (i : ℕ) (v : Option Funds) → is-some v ≡ is-some (getD ws i none) → (j : ℕ) →
   is-some (getD (set ws i v) j none) ≡ is-some (getD ws j none)

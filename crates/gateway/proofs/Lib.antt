@@ -3,3 +3,5 @@ pub mod Money
 pub mod Forget
 pub mod View
 pub mod Invariant
+pub mod Sessions
+pub mod Sorted
