@@ -11,7 +11,7 @@ use lib.IntN.{ℤ, pos, negℤ, natAbs, _+ℤ_, _-ℤ_, _*ℤ_, +ℤ-idr}
 use borrow.Author.Needs.{needs}
 use borrow.Author.Tests.{le-leb, lt-leb, leb-true, leb-false}
 use Rattle.words.specs.Words.{half, int, _⊖_, signed, Place, place-of, fit-in, fit}
-use Rattle.words.proofs.Diff.{⊖-ind, pos-is, ⊖-same, leb-same, neg-is, diff2, sum3, le-neg-neg, le-neg-pos, le-pos-neg}
+use Rattle.words.proofs.Diff.{⊖-ind, pos-is, ⊖-same, leb-same, neg-is, diff2, sum3, within, le-neg-neg, le-neg-pos, le-pos-neg}
 use Rattle.words.proofs.Int.{int-zero, low, low-is, high-is}
 use Rattle.words.proofs.Fit.{lies-in, lies-above, lies-below}
 use Rattle.words.proofs.Product.{high-lt, mul-is}
@@ -33,6 +33,9 @@ hi-more ah al bh bl f h = sym (lt-leb (ah * 2 ^ 64 + al) (bh * 2 ^ 64 + bl) (hig
 
 pub hi-same : (ah al bh bl : ℕ) → bh ≤ ah → ah ≤ bh → leb al bl ≡ leb (ah * 2 ^ 64 + al) (bh * 2 ^ 64 + bl)
 hi-same ah al bh bl h k = leb-same al bl (ah * 2 ^ 64 + al) (bh * 2 ^ 64 + bl) (omega arith) (omega arith)
+
+pub sums-le : (a b c u v w : ℕ) (l r : ℕ) (t : Bool) → int a ≡ u ⊖ half → int c ≡ w ⊖ half → l ≡ u + w → int b ≡ v ⊖ half → r ≡ v + half → t ≡ leb l r → t ≡ leZ (int a) (int b -ℤ int c)
+sums-le a b c u v w l r t ea ec el eb er e = e ∙ (λ i. leb (el i) (er i)) ∙ sym (within half v w u eb ec ea)
 
 pub fits-pos : (n : ℕ) → n < half → some (int n) ≡ fit (pos n)
 fits-pos n h = ap fit-in (lies-in n n 0 (pos-is n n 0 (omega arith)) (low-is n n 0 h (omega arith)) (omega arith) (omega arith))
@@ -86,4 +89,4 @@ less-zero a b = rw int-zero (ap (λ (z : ℤ). z +ℤ int b) (+ℤ-idr (int a)))
 pub plus-zero : (a b : ℕ) → int a -ℤ int b +ℤ int 0 ≡ int a -ℤ int b
 plus-zero a b = rw int-zero (+ℤ-idr (int a -ℤ int b))
 
-pub ruleset laws = (needs, low, fits-pos, not-pos, fits-neg, not-neg, not-wide, one-word, hi-less, hi-more, hi-same, product, both-neg, neg-pos, pos-neg, both-pos, both, not-both)
+pub ruleset laws = (needs, low, fits-pos, not-pos, fits-neg, not-neg, not-wide, one-word, hi-less, hi-more, hi-same, sums-le, product, both-neg, neg-pos, pos-neg, both-pos, both, not-both)

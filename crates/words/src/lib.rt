@@ -119,6 +119,15 @@ pub fn wide_le(a: Wide, b: Wide) -> bool
     }
 }
 
+// a <= b - c
+pub fn le_sub(a: u64, b: u64, c: u64) -> bool
+    ensures { λ r. ⌜ r ≡ leZ (int a) (int b -ℤ int c) ⌝ }
+{
+    let left = wide_add(raised(a), raised(c));
+    let right = wide_add(raised(b), HALF);
+    wide_le(left, right)
+}
+
 // A number by its sign and its size, for products. Zero may have either sign.
 pub struct Sized {
     pub neg: bool,
