@@ -7,14 +7,14 @@ use native.Mathlib.Nat.{le-of-lt}
 use native.Mathlib.Omega.{arith}
 use lib.Dec.{leb}
 use lib.Signed.{leZ}
-use lib.IntN.{ℤ, pos, negℤ, natAbs, _+ℤ_, _-ℤ_, _*ℤ_, +ℤ-idr}
+use lib.IntN.{ℤ, pos, negℤ, natAbs, _+ℤ_, _-ℤ_, +ℤ-idr}
 use borrow.Author.Needs.{needs}
 use borrow.Author.Tests.{le-leb, lt-leb, leb-true, leb-false}
 use Rattle.words.specs.Words.{half, int, _⊖_, signed, Place, place-of, fit-in, fit}
 use Rattle.words.proofs.Diff.{⊖-ind, pos-is, ⊖-same, leb-same, neg-is, diff2, sum3, within, le-neg-neg, le-neg-pos, le-pos-neg}
 use Rattle.words.proofs.Int.{int-zero, low, low-is, high-is}
 use Rattle.words.proofs.Fit.{lies-in, lies-above, lies-below}
-use Rattle.words.proofs.Product.{high-lt, mul-is}
+use Rattle.words.proofs.Product.{high-lt, product}
 
 pub high-neg : (w n : ℕ) → w < 2 ^ 64 → half ≤ w → w + n ≡ 2 ^ 64 → int w ≡ negℤ (pos n)
 high-neg w n f h e = high-is w 0 n f h e ∙ sym (neg-is n)
@@ -58,9 +58,6 @@ one-word s t h l r z e p = p ∙ (λ i. fit (signed (sym e i) (low-only i)))
   where
     low-only : l ≡ h * 2 ^ 64 + l
     low-only = omega arith
-
-pub product : (w n : ℕ) (s : Bool) (m p : ℕ) → int w ≡ signed s m → p ≡ m * n → signed s p ≡ int w *ℤ pos n
-product w n s m p e f = sym (mul-is s m n p e f)
 
 pub both-neg : (s t r : Bool) (m n : ℕ) → s ≡ true → t ≡ true → r ≡ leb n m → r ≡ leZ (signed s m) (signed t n)
 both-neg s t r m n p q e = rw (p, q) (e ∙ sym (le-neg-neg m n))

@@ -6,7 +6,7 @@ use native.Mathlib.Nat.{zero-mul, mul-add, add-mul, mul-assoc, mul-right-comm, m
 use native.Mathlib.Omega.{arith}
 use lib.Arith.{digits-lt}
 use lib.IntN.{ℤ, pos, _*ℤ_}
-use Rattle.words.specs.Words.{base, signed}
+use Rattle.words.specs.Words.{base, int, signed}
 
 -- omega's numbers have at most 38 digits, so nothing here is multiplied by 2^64 twice
 columns : (x w y v : ℕ) → (x * base + w) * (y * base + v) ≡ (x * y * base + (x * v + w * y)) * base + w * v
@@ -33,5 +33,5 @@ times false m q = refl
 times true zero q = rw (zero-mul q)
 times true (suc m) q = refl
 
-pub mul-is : {x : ℤ} (s : Bool) (m q n : ℕ) → x ≡ signed s m → n ≡ m * q → x *ℤ pos q ≡ signed s n
-mul-is s m q n e f = ap (λ (z : ℤ). z *ℤ pos q) e ∙ times s m q ∙ ap (signed s) (sym f)
+pub product : (w n : ℕ) (s : Bool) (m p : ℕ) → int w ≡ signed s m → p ≡ m * n → signed s p ≡ int w *ℤ pos n
+product w n s m p e f = sym (ap (λ (z : ℤ). z *ℤ pos n) e ∙ times s m n ∙ ap (signed s) (sym f))
