@@ -38,13 +38,13 @@ module _ (N : ℕ) where
   remove-forget n (o ∷ os) = if-map (map (forget N)) (eqb (o .number) n) (remove-forget n os) (ap (λ l. forget N o ∷ l) (remove-forget n os))
 
   pub update-forget : (f : Order → Order) → ((o : Order) → forget N (f o) ≡ f (forget N o)) →
-    (n : ℕ) (os : List Order) → map (forget N) (update number-of n f os) ≡ update number-of n f (map (forget N) os)
+      (n : ℕ) (os : List Order) → map (forget N) (update number-of n f os) ≡ update number-of n f (map (forget N) os)
   unfolding update
   update-forget f h n [] = refl
   update-forget f h n (o ∷ os) = ap₂ (λ x l. x ∷ l) (if-map (forget N) (eqb (o .number) n) (h o) refl) (update-forget f h n os)
 
   pub left-forget : (f : Order → Order) → ((o : Order) → forget N (f o) ≡ f (forget N o)) →
-    (n v : ℕ) (os : List Order) → map (forget N) (left n f v os) ≡ left n f v (map (forget N) os)
+      (n v : ℕ) (os : List Order) → map (forget N) (left n f v os) ≡ left n f v (map (forget N) os)
   left-forget f h n v os =
       if-map (map (forget N)) (eqb v 0) (remove-forget n os)
       (update-forget (λ o. with-leaves v (f o)) (λ o. ap (with-leaves v) (h o)) n os)

@@ -24,16 +24,16 @@ use Rattle.accounts.specs.declared.Account.{Account}
 use Rattle.accounts.specs.declared.Funds.{Funds}
 use Rattle.accounts.specs.declared.MaybeFunds as F
 use Rattle.gateway.specs.Limits.{word, owner-slots, most-orders, most-in-flight}
-use Rattle.gateway.specs.Money.{fits, settle}
+use Rattle.wallet.specs.Wallet.{settle}
 use Rattle.gateway.specs.Ledger.{Order, Ledger, New, Item, account, command, event, order-of, owner-of, is-some, map-option, placed, number-of, find, remove, with-leaves, with-price, left}
-use Rattle.gateway.specs.Ledger.{Change, mark-by, fill, set-leaves, reprice, retire, changes, change, changed, pay, paper, funds-of, step, same-side, order-hold, held, wallet-fits, wallets-fit, holds-fit, open-of}
+use Rattle.gateway.specs.Ledger.{Change, mark-by, fill, set-leaves, reprice, retire, changes, change, changed, pay, paper, funds-of, step, same-side, order-hold, held, fits, wallet-fits, wallets-fit, holds-fit, open-of}
 use Rattle.gateway.specs.Table.{without, update}
 use Rattle.gateway.specs.Core.{Tests, Pass, Origin, Flight, Core, flight, drop-below, places, owner-below, tests, core-step}
 use Rattle.gateway.specs.Start.{funds-in}
 use Rattle.gateway.specs.Fits.{Unsigned, Signed, PriceFits, FundsFit, MaybeFundsFit, AccountFits, CommandFits, EventFits}
 use Rattle.gateway.proofs.Base.{split, same?}
 use Rattle.gateway.proofs.Forget.{step-forget, holds-forget}
-use Rattle.gateway.proofs.Money.{settle-fits}
+use Rattle.gateway.proofs.Money.{settle-fits, zero-fits}
 
 -- ---- orders
 
@@ -220,17 +220,33 @@ pay-fits p q (some o) ws h = set-fits (o .account) _ ws (settled-fits (o .side) 
 change-fits : (x : Change) (l : Ledger) → ChangeFits x → LedgerFits l → LedgerFits (change x l)
 unfolding change
 change-fits (mark-by t m p) l h k =
-    record { last-fits = k .last-fits; money-fits = k .money-fits; orders-fit = k .orders-fit
-    ; mark-fits = split (λ b. PriceFits (cond b (l .mark) (Some p))) (paper t l && paper m l) (λ e. k .mark-fits) (λ e. h) }
+    record {
+      last-fits = k .last-fits;
+      money-fits = k .money-fits;
+      orders-fit = k .orders-fit;
+      mark-fits = split (λ b. PriceFits (cond b (l .mark) (Some p))) (paper t l && paper m l) (λ e. k .mark-fits) (λ e. h);
+    }
 change-fits (fill n p q v) l h k =
-    record { last-fits = k .last-fits; money-fits = pay-fits p q (find n (l .orders)) (l .wallets) (k .money-fits)
-    ; orders-fit = left-fits (λ o. o) (λ o g. g) n v (l .orders) h (k .orders-fit); mark-fits = k .mark-fits }
+    record {
+      last-fits = k .last-fits;
+      money-fits = pay-fits p q (find n (l .orders)) (l .wallets) (k .money-fits);
+      orders-fit = left-fits (λ o. o) (λ o g. g) n v (l .orders) h (k .orders-fit);
+      mark-fits = k .mark-fits;
+    }
 change-fits (set-leaves n v) l h k =
-    record { last-fits = k .last-fits; money-fits = k .money-fits
-    ; orders-fit = update-fits (with-leaves v) (λ o g. leaves-fits v o h g) n (l .orders) (k .orders-fit); mark-fits = k .mark-fits }
+    record {
+      last-fits = k .last-fits;
+      money-fits = k .money-fits;
+      orders-fit = update-fits (with-leaves v) (λ o g. leaves-fits v o h g) n (l .orders) (k .orders-fit);
+      mark-fits = k .mark-fits;
+    }
 change-fits (reprice n p v) l h k =
-    record { last-fits = k .last-fits; money-fits = k .money-fits
-    ; orders-fit = left-fits (with-price p) (λ o g. reprice-fits p o (h .0) g) n v (l .orders) (h .1) (k .orders-fit); mark-fits = k .mark-fits }
+    record {
+      last-fits = k .last-fits;
+      money-fits = k .money-fits;
+      orders-fit = left-fits (with-price p) (λ o g. reprice-fits p o (h .0) g) n v (l .orders) (h .1) (k .orders-fit);
+      mark-fits = k .mark-fits;
+    }
 change-fits (retire n) l h k =
     record { last-fits = k .last-fits; money-fits = k .money-fits; orders-fit = remove-fits n (l .orders) (k .orders-fit); mark-fits = k .mark-fits }
 
@@ -261,18 +277,26 @@ placed-fits ref n a (SetPhase p) r h = tt
 pub step-fits : (ref : ℕ) (i : Item) (l : Ledger) → Unsigned ref → ItemFits i → LedgerFits l → LedgerFits (step ref i l)
 unfolding step
 step-fits ref (account a) l r h k =
-    record { last-fits = k .last-fits; money-fits = set-fits (a .id) (funds-of (a .funds)) (l .wallets) (funds-fit (a .funds) h) (k .money-fits)
-    ; orders-fit = k .orders-fit; mark-fits = k .mark-fits }
+    record {
+      last-fits = k .last-fits;
+      money-fits = set-fits (a .id) (funds-of (a .funds)) (l .wallets) (funds-fit (a .funds) h) (k .money-fits);
+      orders-fit = k .orders-fit;
+      mark-fits = k .mark-fits;
+    }
 step-fits ref (command n c) l r h k =
-    record { last-fits = h .0; money-fits = k .money-fits
-    ; orders-fit = all-more OrderFits OrderFits (λ o g. g) (l .orders) _ (k .orders-fit) (placed-fits ref n (owner-of c) c r (h .1)); mark-fits = k .mark-fits }
+    record {
+      last-fits = h .0;
+      money-fits = k .money-fits;
+      orders-fit = all-more OrderFits OrderFits (λ o g. g) (l .orders) _ (k .orders-fit) (placed-fits ref n (owner-of c) c r (h .1));
+      mark-fits = k .mark-fits;
+    }
 step-fits ref (event n e) l r h k = changed-fits (changes n e) l (changes-fit n e h) k
 
 -- ---- wallets
 
 -- a change leaves the last number, and pays into the wallets at most
 change-pays : (P : List (Option Funds) → Type 0) → ((p : ℤ) (q : ℕ) (o : Option Order) (ws : List (Option Funds)) → P ws → P (pay p q o ws)) →
-  (x : Change) (l : Ledger) → P (l .wallets) → (change x l .last ≡ l .last) × P (change x l .wallets)
+    (x : Change) (l : Ledger) → P (l .wallets) → (change x l .last ≡ l .last) × P (change x l .wallets)
 unfolding change
 change-pays P h (mark-by t m p) l w = (refl, w)
 change-pays P h (fill n p q v) l w = (refl, h p q _ _ w)
@@ -281,7 +305,7 @@ change-pays P h (reprice n p v) l w = (refl, w)
 change-pays P h (retire n) l w = (refl, w)
 
 pub paid : (P : List (Option Funds) → Type 0) → ((p : ℤ) (q : ℕ) (o : Option Order) (ws : List (Option Funds)) → P ws → P (pay p q o ws)) →
-  (xs : List Change) (l : Ledger) → P (l .wallets) → (changed xs l .last ≡ l .last) × P (changed xs l .wallets)
+    (xs : List Change) (l : Ledger) → P (l .wallets) → (changed xs l .last ≡ l .last) × P (changed xs l .wallets)
 paid P h [] l w = (refl, w)
 paid P h (x ∷ xs) l w =
     let t = change-pays P h x l w in
@@ -305,7 +329,7 @@ some-map f none = refl
 some-map f (some w) = refl
 
 still-some : (ws : List (Option Funds)) (i : ℕ) (v : Option Funds) → is-some v ≡ is-some (getD ws i none) → (j : ℕ) →
-  is-some (getD (set ws i v) j none) ≡ is-some (getD ws j none)
+    is-some (getD (set ws i v) j none) ≡ is-some (getD ws j none)
 still-some [] i v h j = refl
 still-some (w ∷ ws) zero v h zero = h
 still-some (w ∷ ws) zero v h (suc j) = refl
@@ -319,19 +343,19 @@ pay-owned t p q (some o) ws h = λ j. still-some ws (o .account) _ (some-map (se
 
 -- a new account's wallet
 owned-set : (a : Account) (t : List (Option Account)) (ws : List (Option Funds)) → a .id < length t → length t ≤ length ws → Owned t ws →
-  Owned (set t (a .id) (some a)) (set ws (a .id) (funds-of (a .funds)))
+    Owned (set t (a .id) (some a)) (set ws (a .id) (funds-of (a .funds)))
 owned-set a t ws l m h j =
     ⊎-elim
     (λ (e : j ≡ a .id).
-      subst (λ k. is-some (getD (set ws (a .id) (funds-of (a .funds))) k none) ≡ is-some (funds-in (getD (set t (a .id) (some a)) k none))) (sym e)
-      (ap is-some (getD-set-same ws (a .id) (funds-of (a .funds)) none (omega arith)) ∙ ap (λ o. is-some (funds-in o)) (sym (getD-set-same t (a .id) (some a) none l))))
+    subst (λ k. is-some (getD (set ws (a .id) (funds-of (a .funds))) k none) ≡ is-some (funds-in (getD (set t (a .id) (some a)) k none))) (sym e)
+    (ap is-some (getD-set-same ws (a .id) (funds-of (a .funds)) none (omega arith)) ∙ ap (λ o. is-some (funds-in o)) (sym (getD-set-same t (a .id) (some a) none l))))
     (λ ne. ap is-some (getD-set-other ws (a .id) j _ none ne) ∙ h j ∙ ap (λ o. is-some (funds-in o)) (sym (getD-set-other t (a .id) j _ none ne)))
     (same? j (a .id))
 
 -- ---- hold totals
 
 fit-set : (k i : ℕ) (v : Option Funds) (ws : List (Option Funds)) (os : List Order) → wallet-fits (k + i) v os ≡ true →
-  wallets-fit k ws os ≡ true → wallets-fit k (set ws i v) os ≡ true
+    wallets-fit k ws os ≡ true → wallets-fit k (set ws i v) os ≡ true
 fit-set k i v [] os h t = t
 fit-set k zero v (w ∷ ws) os h t =
     and-eq-true-iff (wallet-fits k v os) (wallets-fit (suc k) ws os) .1
@@ -349,9 +373,8 @@ held-none a s (o ∷ os) h =
     (eqb (o .account) a) (λ e z. absurd (omega (arith, z))) (λ e z. +ℤ-idl (held a s os) ∙ held-none a s os z) h
 
 fits-none : (a : ℕ) (v : Option Funds) (os : List Order) → open-of a os ≡ 0 → wallet-fits a v os ≡ true
-unfolding fits
 fits-none a none os h = refl
-fits-none a (some w) os h = simp (held-none a Buy os h, held-none a Sell os h)
+fits-none a (some w) os h = simp (held-none a Buy os h, held-none a Sell os h, zero-fits)
 
 -- ---- the run of commands in flight: consecutive numbers that end at the last
 
@@ -397,7 +420,7 @@ holds-ref ref n k l h =
     ∙ holds-forget (l .last) _
 
 place-rise : (ref n a limit : ℕ) (x : Option New) (l : Ledger) → l .last < n → Rise 0 (l .orders) → All (Keyed (In (l .last) limit)) (l .orders) →
-  Rise 0 (l .orders ++ placed ref n a x)
+    Rise 0 (l .orders ++ placed ref n a x)
 place-rise ref n a limit none l h t u = rw append-nil t
 place-rise ref n a limit (some x) l h t u = rise-more 0 (l .last) limit (l .orders) _ (omega arith) h t u
 
@@ -413,7 +436,7 @@ placer-below limit ref n (CancelAll o) h = tt
 placer-below limit ref n (SetPhase p) h = tt
 
 place-few : (ref n a : ℕ) (x : Option New) (os : List Order) → not (is-some x) || ltb (length os) most-orders ≡ true → length os ≤ most-orders →
-  length (os ++ placed ref n a x) ≤ most-orders
+    length (os ++ placed ref n a x) ≤ most-orders
 place-few ref n a none os h t = rw append-nil t
 place-few ref n a (some x) os h t = rw length-append (omega (arith, ltb-true (length os) most-orders h))
 
@@ -421,39 +444,45 @@ place-few ref n a (some x) os h t = rw length-append (omega (arith, ltb-true (le
 pub core-ok : (from : Origin) (i : Item) (c : Core) → Unsigned (from .client-ref) → ItemFits i → CoreOk c → Pass (tests i c) → CoreOk (core-step from i c)
 unfolding step tests holds-fit
 core-ok from (account a) c r f ok p =
-    record { slots = rw length-set (ok .slots)
-    ; owned = owned-set a (c .accounts) (c .ledger .wallets) (ltb-true (a .id) (length (c .accounts)) (p .0)) (omega (arith, ok .slots, ok .limit)) (ok .owned)
-    ; rise = ok .rise
-    ; inside = rw length-set (ok .inside)
-    ; few = ok .few
-    ; runs = ok .runs
-    ; flying = ok .flying
-    ; holds = fit-set 0 (a .id) _ (c .ledger .wallets) (c .ledger .orders) (fits-none (0 + a .id) (funds-of (a .funds)) (c .ledger .orders) (rw zero-add (eqb-true _ 0 (p .1 .1 .0)))) (ok .holds)
-    ; limit = rw length-set (ok .limit)
-    ; fit = step-fits (from .client-ref) (account a) (c .ledger) r f (ok .fit) }
+    record {
+      slots = rw length-set (ok .slots);
+      owned = owned-set a (c .accounts) (c .ledger .wallets) (ltb-true (a .id) (length (c .accounts)) (p .0)) (omega (arith, ok .slots, ok .limit)) (ok .owned);
+      rise = ok .rise;
+      inside = rw length-set (ok .inside);
+      few = ok .few;
+      runs = ok .runs;
+      flying = ok .flying;
+      holds = fit-set 0 (a .id) _ (c .ledger .wallets) (c .ledger .orders) (fits-none (0 + a .id) (funds-of (a .funds)) (c .ledger .orders) (rw zero-add (eqb-true _ 0 (p .1 .1 .0)))) (ok .holds);
+      limit = rw length-set (ok .limit);
+      fit = step-fits (from .client-ref) (account a) (c .ledger) r f (ok .fit);
+    }
 core-ok from (command n k) c r f ok p =
     let e = eqb-true n (c .ledger .last + 1) (p .0) in
     let m = length (c .accounts) in
-    record { slots = ok .slots
-    ; owned = ok .owned
-    ; rise = place-rise (from .client-ref) n (owner-of k) m (order-of k) (c .ledger) (omega arith) (ok .rise) (ok .inside)
-    ; inside = all-more (Keyed (In (c .ledger .last) m)) (Keyed (In n m)) (λ o v. (omega (arith, v .0), v .1)) (c .ledger .orders) _ (ok .inside)
-        (placer-below m (from .client-ref) n k (p .1 .1 .0))
-    ; few = place-few (from .client-ref) n (owner-of k) (order-of k) (c .ledger .orders) (p .1 .1 .1 .1 .0) (ok .few)
-    ; runs = runs-more (c .ledger .last) n (c .flights) (flight from n k) e refl (ok .runs)
-    ; flying = rw length-append (omega (arith, ltb-true (length (c .flights)) most-in-flight (p .1 .1 .1 .0)))
-    ; holds = holds-ref (from .client-ref) n k (c .ledger) (omega arith) ∙ p .1 .1 .1 .1 .1 .0
-    ; limit = ok .limit
-    ; fit = step-fits (from .client-ref) (command n k) (c .ledger) r f (ok .fit) }
+    record {
+      slots = ok .slots;
+      owned = ok .owned;
+      rise = place-rise (from .client-ref) n (owner-of k) m (order-of k) (c .ledger) (omega arith) (ok .rise) (ok .inside);
+      inside = all-more (Keyed (In (c .ledger .last) m)) (Keyed (In n m)) (λ o v. (omega (arith, v .0), v .1)) (c .ledger .orders) _ (ok .inside)
+          (placer-below m (from .client-ref) n k (p .1 .1 .0));
+      few = place-few (from .client-ref) n (owner-of k) (order-of k) (c .ledger .orders) (p .1 .1 .1 .1 .0) (ok .few);
+      runs = runs-more (c .ledger .last) n (c .flights) (flight from n k) e refl (ok .runs);
+      flying = rw length-append (omega (arith, ltb-true (length (c .flights)) most-in-flight (p .1 .1 .1 .0)));
+      holds = holds-ref (from .client-ref) n k (c .ledger) (omega arith) ∙ p .1 .1 .1 .1 .1 .0;
+      limit = ok .limit;
+      fit = step-fits (from .client-ref) (command n k) (c .ledger) r f (ok .fit);
+    }
 core-ok from (event n e) c r f ok p =
     let s = shrunk (changes n e) (c .ledger) in
-    record { slots = paid (λ ws. length ws ≡ owner-slots) (pay-length owner-slots) (changes n e) (c .ledger) (ok .slots) .1
-    ; owned = paid (Owned (c .accounts)) (pay-owned (c .accounts)) (changes n e) (c .ledger) (ok .owned) .1
-    ; rise = rise-shrinks 0 s (ok .rise)
-    ; inside = rw last-stays (all-shrinks _ s (ok .inside))
-    ; few = omega (arith, length-shrinks s, ok .few)
-    ; runs = rw last-stays (runs-below _ n (c .flights) (ok .runs))
-    ; flying = few-below most-in-flight n (c .flights) (ok .flying)
-    ; holds = p .1 .1 .1 .0
-    ; limit = ok .limit
-    ; fit = step-fits (from .client-ref) (event n e) (c .ledger) r f (ok .fit) }
+    record {
+      slots = paid (λ ws. length ws ≡ owner-slots) (pay-length owner-slots) (changes n e) (c .ledger) (ok .slots) .1;
+      owned = paid (Owned (c .accounts)) (pay-owned (c .accounts)) (changes n e) (c .ledger) (ok .owned) .1;
+      rise = rise-shrinks 0 s (ok .rise);
+      inside = rw last-stays (all-shrinks _ s (ok .inside));
+      few = omega (arith, length-shrinks s, ok .few);
+      runs = rw last-stays (runs-below _ n (c .flights) (ok .runs));
+      flying = few-below most-in-flight n (c .flights) (ok .flying);
+      holds = p .1 .1 .1 .0;
+      limit = ok .limit;
+      fit = step-fits (from .client-ref) (event n e) (c .ledger) r f (ok .fit);
+    }

@@ -39,9 +39,11 @@ pub record Alike (xs ys : List (Option Session)) : Type 0 where
 
 pub alike-ok : (limit : ℕ) {xs ys : List (Option Session)} → Alike xs ys → SessionsOk limit xs → SessionsOk limit ys
 alike-ok limit e ok =
-    record { slots = e .len ∙ ok .slots
-    ; known = λ i. subst (Known limit) (sym (e .acct i)) (ok .known i)
-    ; single = λ a i j p q. ok .single a i j (sym (e .acct i) ∙ p) (sym (e .acct j) ∙ q) }
+    record {
+      slots = e .len ∙ ok .slots;
+      known = λ i. subst (Known limit) (sym (e .acct i)) (ok .known i);
+      single = λ a i j p q. ok .single a i j (sym (e .acct i) ∙ p) (sym (e .acct j) ∙ q);
+    }
 
 pub alike-refl : (xs : List (Option Session)) → Alike xs xs
 alike-refl xs = record { len = refl; acct = λ i. refl }
@@ -72,9 +74,11 @@ closed-alike f xs = record { len = sized xs; acct = kept xs }
     sized : (xs : List (Option Session)) → length (close-where f xs) ≡ length xs
     sized [] = refl
     sized (x ∷ xs) = ap suc (sized xs)
+
     one : (b : Bool) (x : Session) → cond b (record { account = x .account; last-received = x .last-received; last-sent = x .last-sent; closing = true; subscribed = x .subscribed }) x .account ≡ x .account
     one true x = refl
     one false x = refl
+
     kept : (xs : List (Option Session)) (i : ℕ) → at (close-where f xs) i ≡ at xs i
     kept [] i = refl
     kept (x ∷ xs) zero = map-acct _ (λ y. one (f y) y) x
@@ -107,9 +111,11 @@ at-emptied (x ∷ xs) (suc s) (suc i) = at-emptied xs s i
 
 pub emptied-ok : (limit : ℕ) (xs : List (Option Session)) (s : ℕ) → SessionsOk limit xs → SessionsOk limit (set xs s none)
 emptied-ok limit xs s ok =
-    record { slots = rw length-set (ok .slots)
-    ; known = λ i. ⊎-elim (λ e. subst (Known limit) (sym e) tt) (λ e. subst (Known limit) (sym e) (ok .known i)) (at-emptied xs s i)
-    ; single = λ a i j p q. ok .single a i j (was a i p) (was a j q) }
+    record {
+      slots = rw length-set (ok .slots);
+      known = λ i. ⊎-elim (λ e. subst (Known limit) (sym e) tt) (λ e. subst (Known limit) (sym e) (ok .known i)) (at-emptied xs s i);
+      single = λ a i j p q. ok .single a i j (was a i p) (was a j q);
+    }
   where
     was : (a i : ℕ) → at (set xs s none) i ≡ some a → at xs i ≡ some a
     was a i p = ⊎-elim (λ e. absurd (some-none (sym e ∙ p))) (λ e. sym e ∙ p) (at-emptied xs s i)
@@ -133,18 +139,20 @@ nobody a s (x ∷ xs) h (suc i) p = nobody a (suc s) xs (tail (logged-in a x) h)
 
 -- a login: slot s is account a's, and nobody else has a
 pub taken-ok : (limit a s : ℕ) (xs : List (Option Session)) (v : Option Session) → account-of v ≡ some a → a < limit → s < length xs →
-  ((i : ℕ) → at xs i ≡ some a → ⊥) → SessionsOk limit xs → SessionsOk limit (set xs s v)
+    ((i : ℕ) → at xs i ≡ some a → ⊥) → SessionsOk limit xs → SessionsOk limit (set xs s v)
 taken-ok limit a s xs v e l h free ok =
-    record { slots = rw length-set (ok .slots)
-    ; known = λ i. ⊎-elim (λ (q : i ≡ s). subst (Known limit) (sym (here i q)) l) (λ ne. subst (Known limit) (sym (at-set-other xs s i v ne)) (ok .known i)) (same? i s)
-    ; single = λ b i j p q.
-      ⊎-elim
-      (λ (u : i ≡ s). ⊎-elim (λ (w : j ≡ s). u ∙ sym w) (λ ne. absurd (free j (sym (at-set-other xs s j v ne) ∙ q ∙ sym p ∙ here i u))) (same? j s))
-      (λ ne. ⊎-elim
-        (λ (w : j ≡ s). absurd (free i (sym (at-set-other xs s i v ne) ∙ p ∙ sym q ∙ here j w)))
-        (λ ne′. ok .single b i j (sym (at-set-other xs s i v ne) ∙ p) (sym (at-set-other xs s j v ne′) ∙ q))
-        (same? j s))
-      (same? i s) }
+    record {
+      slots = rw length-set (ok .slots);
+      known = λ i. ⊎-elim (λ (q : i ≡ s). subst (Known limit) (sym (here i q)) l) (λ ne. subst (Known limit) (sym (at-set-other xs s i v ne)) (ok .known i)) (same? i s);
+      single = λ b i j p q.
+          ⊎-elim
+          (λ (u : i ≡ s). ⊎-elim (λ (w : j ≡ s). u ∙ sym w) (λ ne. absurd (free j (sym (at-set-other xs s j v ne) ∙ q ∙ sym p ∙ here i u))) (same? j s))
+          (λ ne. ⊎-elim
+          (λ (w : j ≡ s). absurd (free i (sym (at-set-other xs s i v ne) ∙ p ∙ sym q ∙ here j w)))
+          (λ ne′. ok .single b i j (sym (at-set-other xs s i v ne) ∙ p) (sym (at-set-other xs s j v ne′) ∙ q))
+          (same? j s))
+          (same? i s);
+    }
   where
     here : (i : ℕ) → i ≡ s → at (set xs s v) i ≡ some a
     here i q = ap (at (set xs s v)) q ∙ at-set-same xs s v h ∙ e

@@ -99,10 +99,26 @@ module _ (N : ℕ) where
   pub tests-view : (i : Item) (c : Core) → above N i → Pass (tests i c) → Pass (tests i (view c))
   unfolding tests
   tests-view (account a) c h p = (p .0, (p .1 .0, (rw open-forget (p .1 .1 .0), tt)))
-  tests-view (command n k) c h p =
-      (p .0, (p .1 .0, (p .1 .1 .0, (few-view (c .flights) (p .1 .1 .1 .0),
-      (rw length-map (p .1 .1 .1 .1 .0), (fits-view (command n k) c h ∙ p .1 .1 .1 .1 .1 .0, tt))))))
-  tests-view (event n e) c h p =
-      (rw (run-view n (c .flights) h) (first-unsent n (drop-below n (c .flights)) ∙ p .0),
-      (p .1 .0, (rw (run-view n (c .flights) h, places-unsent (drop-below n (c .flights))) (p .1 .1 .0),
-      (fits-view (event n e) c h ∙ p .1 .1 .1 .0, tt))))
+  tests-view (command n k) c h p = (
+    p .0,
+    (
+      p .1 .0,
+      (
+        p .1 .1 .0,
+        (
+          few-view (c .flights) (p .1 .1 .1 .0),
+          (rw length-map (p .1 .1 .1 .1 .0), (fits-view (command n k) c h ∙ p .1 .1 .1 .1 .1 .0, tt)),
+        ),
+      ),
+    ),
+  )
+  tests-view (event n e) c h p = (
+    rw (run-view n (c .flights) h) (first-unsent n (drop-below n (c .flights)) ∙ p .0),
+    (
+      p .1 .0,
+      (
+        rw (run-view n (c .flights) h, places-unsent (drop-below n (c .flights))) (p .1 .1 .0),
+        (fits-view (event n e) c h ∙ p .1 .1 .1 .0, tt),
+      ),
+    ),
+  )

@@ -131,13 +131,23 @@ row-wallet r = (getD r 0 0, record { cash = toZ w64 (getD r 1 0); position = toZ
 
 abbrev pub row-order : List ℕ → Order
 row-order r =
-    record { number = getD r 0 0; account = getD r 1 0; client-ref = getD r 2 0; side = side-from (getD r 3 0 % 2)
-    ; price = price-from (getD r 3 0 / 2) (getD r 4 0); leaves = getD r 5 0 }
+    record {
+      number = getD r 0 0;
+      account = getD r 1 0;
+      client-ref = getD r 2 0;
+      side = side-from (getD r 3 0 % 2);
+      price = price-from (getD r 3 0 / 2) (getD r 4 0);
+      leaves = getD r 5 0;
+    }
 
 abbrev pub saved : Raw → Saved
 saved r =
-    record { last = getD (r .head) 0 0; mark = price-from (getD (r .head) 1 0) (getD (r .head) 2 0)
-    ; wallets = map row-wallet (r .wallets); orders = map row-order (r .orders) }
+    record {
+      last = getD (r .head) 0 0;
+      mark = price-from (getD (r .head) 1 0) (getD (r .head) 2 0);
+      wallets = map row-wallet (r .wallets);
+      orders = map row-order (r .orders);
+    }
 
 -- ---- what is well formed
 

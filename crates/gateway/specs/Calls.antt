@@ -16,7 +16,7 @@ use Rattle.protocol.specs.declared.LogoutReason.{LogoutReason}
 use Rattle.protocol.specs.declared.LogoutReason.the-variants.{Idle, Shutdown}
 use Rattle.accounts.specs.declared.Account.{Account}
 use Rattle.gateway.specs.Limits.{session-slots, sequence, full, too-short, outside, inconsistent, bad-session, not-quiet}
-use Rattle.gateway.specs.Money.{full-bucket}
+use Rattle.risk.specs.Throttle as Throttle
 use Rattle.gateway.specs.Ledger.{Item, account, command, event, is-some, map-option}
 use Rattle.gateway.specs.Core.{Tests, Core, system, core-step, tests}
 use Rattle.gateway.specs.Depth.{levels, levels-fit, levels-few}
@@ -114,7 +114,7 @@ is-empty (x ∷ xs) = false
 
 -- an accepted account starts with a full bucket
 abbrev pub joined : Account → Rest → Rest
-joined a r = with-buckets (set (r .buckets) (a .id) (full-bucket (a .«messages_per_second»))) r
+joined a r = with-buckets (set (r .buckets) (a .id) (Throttle.full (a .«messages_per_second»))) r
 
 abbrev pub replay-tests : Item → Core → Rest → Tests ℕ
 replay-tests i c r = (sequence, no-session (r .sessions)) ∷ tests i c

@@ -17,8 +17,7 @@ use Rattle.protocol.specs.declared.ReportKind.the-variants as Kind
 use Rattle.protocol.specs.declared.TradeTick.{TradeTick}
 use Rattle.accounts.specs.declared.Funds.{Funds}
 use Rattle.gateway.specs.Limits.{most-trades, most-notices, full, outside, inconsistent}
-use Rattle.gateway.specs.Money.{hold}
-use Rattle.gateway.specs.Ledger.{Order, Ledger, Change, mark-by, fill, set-leaves, reprice, retire, change, changes, Item, event, find, is-some, wallet-of, order-hold}
+use Rattle.gateway.specs.Ledger.{Order, Ledger, Change, mark-by, fill, set-leaves, reprice, retire, change, changes, Item, event, find, is-some, wallet-of, hold, order-hold}
 use Rattle.gateway.specs.Core.{Tests, Flight, Core, system, drop-below, event-tests, fits-after}
 use Rattle.gateway.specs.Depth.{Depth, apply, depth-agrees, levels-fit, depth-few}
 use Rattle.gateway.specs.Rest.{Session, Mail, Rest, with-delivered, pending, session-at, session-of, logged-in, report, report-to, each-session}
@@ -51,6 +50,7 @@ tell-sender n i k c r = go (drop-below n (c .flights))
     to f none = []
     to f (some s) =
         cond (logged-in (f .owner) (session-at s r)) (report s (about n i (refused-ref (f .places) (find i (c .ledger .orders))) k) r) []
+
     go : List Flight → List Mail
     go [] = []
     go (f ∷ fs) = to f (f .session)

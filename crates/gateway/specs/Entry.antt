@@ -33,8 +33,12 @@ use Rattle.protocol.specs.declared.RejectCode.the-variants.{TooManyOrders, Thro
 use Rattle.accounts.specs.declared.Account.{Account}
 use Rattle.accounts.specs.declared.Funds.{Funds}
 use Rattle.gateway.specs.Limits.{word, most-orders, most-in-flight, most-in-batch, most-notices}
-use Rattle.gateway.specs.Money.{hold, hold-of, near, Bucket, Taken, full-bucket, take-token}
-use Rattle.gateway.specs.Ledger.{Order, Ledger, New, Item, command, is-some, order-of, held, open-of}
+use Rattle.wallet.specs.Wallet as W
+use Rattle.risk.specs.declared.Bucket.{Bucket}
+use Rattle.risk.specs.declared.Taken.{Taken}
+use Rattle.risk.specs.Collar.{near-market}
+use Rattle.risk.specs.Throttle as Throttle
+use Rattle.gateway.specs.Ledger.{Order, Ledger, New, Item, command, is-some, price-option, hold, order-of, held, open-of}
 use Rattle.gateway.specs.Core.{Tests, Origin, Core, account-at, fits-after}
 use Rattle.gateway.specs.Depth.{Depth, Level, Key, level, levels}
 use Rattle.gateway.specs.Rest.{Session, Mail, send, close, Rest, with-sessions, with-buckets, with-batch, with-published, pending, session-at, is-open, is-present, is-subscribed, session-of, update-session, set-received, set-account, set-closing, set-subscribed, each-session}
@@ -169,20 +173,10 @@ command-of n a o = go (o .kind)
     go Kind.Market = Market n a (o .side) (o .qty)
     go (Kind.Stop t l) = Stop n a (o .side) t l (o .qty)
 
--- no percent or no mark: near
-abbrev pub near-market : ℤ → Option ℕ → MaybePrice → Bool
-near-market p none m = true
-near-market p (some percent) None = true
-near-market p (some percent) (Some m) = near p m percent
-
-abbrev pub available : Side → ℕ → Funds → List Order → ℤ
-available Buy a w os = w .cash -ℤ held a Buy os
-available Sell a w os = w .position -ℤ held a Sell os
-
 -- the amount fits, is not negative, and the free part of the wallet covers it exactly
 abbrev pub covered : Option ℤ → Side → ℕ → Funds → List Order → Bool
 covered none s a w os = false
-covered (some h) s a w os = leZ (pos 0) h && leZ h (available s a w os)
+covered (some h) s a w os = leZ (pos 0) h && W.covers s h (balance-with a os w)
 
 -- a wallet's account places limit orders that it can pay for in full
 abbrev pub paper-tests : ℕ → NewOrder → Option Funds → Core → Rest → Tests RejectCode
@@ -191,8 +185,8 @@ paper-tests a o (some w) c r = go (o .kind)
   where
     go : OrderKind → Tests RejectCode
     go (Kind.Limit p t d) =
-        (OffMarket, near-market p (r .collar) (c .ledger .mark))
-        ∷ (InsufficientFunds, covered (hold-of (o .side) p (o .qty)) (o .side) a w (c .ledger .orders))
+        (OffMarket, near-market p (r .collar) (price-option (c .ledger .mark)))
+        ∷ (InsufficientFunds, covered (W.hold-of (o .side) p (o .qty)) (o .side) a w (c .ledger .orders))
         ∷ []
     go Kind.Market = (NotAllowed, false) ∷ []
     go (Kind.Stop t l) = (NotAllowed, false) ∷ []
@@ -234,11 +228,11 @@ rate-of none = 0
 rate-of (some a) = a .«messages_per_second»
 
 abbrev pub bucket-at : ℕ → Rest → Bucket
-bucket-at a r = getD (r .buckets) a (full-bucket 0)
+bucket-at a r = getD (r .buckets) a (Throttle.full 0)
 
 -- the token is taken first, and stays taken whatever reject follows
 abbrev pub with-token : ℕ → ℕ → ℕ → Core → Rest → (Rest → Plan) → Plan
-with-token s a ref c r enter = go (take-token (bucket-at a r) (rate-of (account-at a c)) (r .clock))
+with-token s a ref c r enter = go (Throttle.take-token (rate-of (account-at a c)) (r .clock) (bucket-at a r))
   where
     go : Taken → Plan
     go t =
@@ -320,8 +314,8 @@ hear s a (In.Cancel i) c r =
 hear s a (In.Modify i p q) c r =
     with-token s a 0 c r
     (λ after.
-      unless ((NotAllowed, not (is-some (wallet-at a c))) ∷ can-number Unavailable c after) (reject s 0 after)
-      (numbered (some s) (Modify i a p q) c after))
+    unless ((NotAllowed, not (is-some (wallet-at a c))) ∷ can-number Unavailable c after) (reject s 0 after)
+    (numbered (some s) (Modify i a p q) c after))
 hear s a In.MassCancel c r =
     with-token s a 0 c r (λ after. unless (can-number Unavailable c after) (reject s 0 after) (numbered (some s) (CancelAll a) c after))
 
@@ -332,6 +326,7 @@ receive s m c r = go (session-at s r)
     heard : Option ℕ → Rest → Plan
     heard none after = greet s m c after
     heard (some a) after = hear s a m c after
+
     go : Option Session → Plan
     go none = sends [] r
     go (some x) = cond (x .closing) (sends [] r) (heard (x .account) (update-session s (set-received (r .clock)) r))

@@ -21,8 +21,7 @@ use Rattle.accounts.specs.declared.Account.{Account}
 use Rattle.accounts.specs.declared.Funds.{Funds}
 use Rattle.accounts.specs.declared.MaybeFunds as F
 use Rattle.gateway.specs.Limits.{word}
-use Rattle.gateway.specs.Money.{fits}
-use Rattle.gateway.specs.Ledger.{Item, account, command, event}
+use Rattle.gateway.specs.Ledger.{Item, account, command, event, fits}
 use Rattle.gateway.specs.Calls.{Call, add-account, connect, set-paper-collar, wallet, last-seq, depth-levels, receive-from, tick, publish, end-session, shut-down, disconnect, detach, take-batch, deliver-event, replay-command, replay-event, finish, checkpoint}
 
 abbrev pub Unsigned : ℕ → Type 0

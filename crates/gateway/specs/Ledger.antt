@@ -17,7 +17,8 @@ use Rattle.orderbook.specs.declared.Event.the-variants.{Accepted, Rejected, Tra
 use Rattle.accounts.specs.declared.Account.{Account}
 use Rattle.accounts.specs.declared.Funds.{Funds}
 use Rattle.accounts.specs.declared.MaybeFunds as F
-use Rattle.gateway.specs.Money.{fits, hold, settle}
+use Rattle.words.specs.Words.{fit}
+use Rattle.wallet.specs.Wallet as W
 use Rattle.gateway.specs.Table.{look, without, update}
 
 -- a live order, with the fields of the checkpoint
@@ -136,7 +137,7 @@ map-option f (some a) = some (f a)
 -- a fill settles with the order's own side (`traded`)
 unfoldable pub pay : ℤ → ℕ → Option Order → List (Option Funds) → List (Option Funds)
 pay p q none ws = ws
-pay p q (some o) ws = set ws (o .account) (map-option (settle (o .side) p q) (getD ws (o .account) none))
+pay p q (some o) ws = set ws (o .account) (map-option (W.settle (o .side) p q) (getD ws (o .account) none))
 
 -- paper accounts that trade with each other do not move the mark
 unfoldable pub paper : ℕ → Ledger → Bool
@@ -180,6 +181,14 @@ same-side Buy Sell = false
 same-side Sell Buy = false
 same-side Sell Sell = true
 
+abbrev pub price-option : MaybePrice → Option ℤ
+price-option None = none
+price-option (Some p) = some p
+
+-- what an order with these fields holds: 0 without a price, or where the amount does not fit (wallet/specs)
+unfoldable pub hold : Side → MaybePrice → ℕ → ℤ
+hold s p v = W.held s (price-option p) v
+
 -- what an order holds of its account's wallet, where it has one
 abbrev pub order-hold : Order → ℤ
 order-hold o = hold (o .side) (o .price) (o .leaves)
@@ -191,6 +200,10 @@ held-by a s o = cond (eqb (o .account) a && same-side s (o .side)) (order-hold o
 abbrev pub held : ℕ → Side → List Order → ℤ
 held a s [] = pos 0
 held a s (o ∷ os) = held-by a s o +ℤ held a s os
+
+-- 64 bits signed
+unfoldable pub fits : ℤ → Bool
+fits z = is-some (fit z)
 
 abbrev pub wallet-fits : ℕ → Option Funds → List Order → Bool
 wallet-fits a none os = true

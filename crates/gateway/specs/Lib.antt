@@ -1,5 +1,4 @@
 pub mod Limits
-pub mod Money
 pub mod Table
 pub mod Ledger
 pub mod Saved

@@ -11,7 +11,7 @@ use Rattle.protocol.specs.declared.Report as R
 use Rattle.protocol.specs.declared.TradeTick.{TradeTick}
 use Rattle.protocol.specs.declared.Outbound.the-variants as Out
 use Rattle.accounts.specs.declared.Timing.{Timing}
-use Rattle.gateway.specs.Money.{Bucket}
+use Rattle.risk.specs.declared.Bucket.{Bucket}
 use Rattle.gateway.specs.Ledger.{is-some, map-option}
 use Rattle.gateway.specs.Depth.{Depth}
 

@@ -11,7 +11,8 @@ use Rattle.accounts.specs.declared.Account.{Account}
 use Rattle.accounts.specs.declared.Funds.{Funds}
 use Rattle.accounts.specs.declared.Timing.{Timing}
 use Rattle.gateway.specs.Limits.{owner-slots, session-slots, most-orders, out-of-range, foreign, full, outside, inconsistent, malformed}
-use Rattle.gateway.specs.Money.{Bucket, full-bucket}
+use Rattle.risk.specs.declared.Bucket.{Bucket}
+use Rattle.risk.specs.Throttle as Throttle
 use Rattle.gateway.specs.Ledger.{Order, Ledger, funds-of, is-some, order-hold, wallet-of, holds-fit}
 use Rattle.gateway.specs.Core.{Tests, Core}
 use Rattle.gateway.specs.Depth.{Depth, levels-fit, levels-few}
@@ -45,8 +46,8 @@ all-below n [] = true
 all-below n (a ∷ l) = ltb (a .id) n && all-below n l
 
 abbrev pub bucket-of : Option Account → Bucket
-bucket-of none = full-bucket 0
-bucket-of (some a) = full-bucket (a .«messages_per_second»)
+bucket-of none = Throttle.full 0
+bucket-of (some a) = Throttle.full (a .«messages_per_second»)
 
 -- n slots, as many as there are accounts filled from them and the rest from nobody
 abbrev pub by-slot : {A : Type 0} → (Option Account → A) → ℕ → List (Option Account) → List A
@@ -63,8 +64,10 @@ funds-in (some a) = funds-of (a .funds)
 -- no session, nothing in flight, nothing waiting; the clock reads 0
 abbrev pub begin : Timing → Ledger → List (Option Account) → Depth → List ℕ → Gateway
 begin timing l t d notices =
-    record { core = record { ledger = l; flights = []; accounts = t }
-    ; rest = record { timing = timing; clock = 0; sessions = replicate session-slots none; buckets = by-slot bucket-of owner-slots t; batch = []; delivered = l .last; published = l .last; depth = d; trades = []; notices = notices; collar = none } }
+    record {
+      core = record { ledger = l; flights = []; accounts = t };
+      rest = record { timing = timing; clock = 0; sessions = replicate session-slots none; buckets = by-slot bucket-of owner-slots t; batch = []; delivered = l .last; published = l .last; depth = d; trades = []; notices = notices; collar = none };
+    }
 
 -- ---- set-up
 
