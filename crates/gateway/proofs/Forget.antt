@@ -11,7 +11,8 @@ use lib.Dec.{eqb, leb}
 use Rattle.orderbook.specs.declared.Side.{Side}
 use Rattle.accounts.specs.declared.Funds.{Funds}
 use Rattle.gateway.specs.Ledger.{Order, Ledger, New, Item, account, command, event, order-of, owner-of, placed, number-of, find, remove, with-leaves, with-price, with-orders, left}
-use Rattle.gateway.specs.Ledger.{Change, mark-by, fill, set-leaves, reprice, retire, changes, change, changed, pay, paper, wallet-of, is-some, step, held, held-by, wallet-fits, wallets-fit, holds-fit, open-of}
+use Rattle.gateway.specs.Ledger.{Change, mark-by, fill, set-leaves, reprice, retire, changes, change, changed, pay, paper, wallet-of, step, held, held-by, wallet-fits, wallets-fit, holds-fit, open-of}
+use Rattle.gateway.specs.Basics.{option, is-some}
 use Rattle.gateway.specs.Table.{look, without, update}
 use Rattle.gateway.specs.Restart.{forget, forgetting}
 use Rattle.gateway.proofs.Base.{if-map}
@@ -49,10 +50,6 @@ module _ (N : ℕ) where
       if-map (map (forget N)) (eqb v 0) (remove-forget n os)
       (update-forget (λ o. with-leaves v (f o)) (λ o. ap (with-leaves v) (h o)) n os)
 
-  wallet-forget : (o : Option Order) (ws : List (Option Funds)) → wallet-of (forgotten o) ws ≡ wallet-of o ws
-  wallet-forget none ws = refl
-  wallet-forget (some o) ws = refl
-
   pay-forget : (p : ℤ) (q : ℕ) (o : Option Order) (ws : List (Option Funds)) → pay p q (forgotten o) ws ≡ pay p q o ws
   unfolding pay
   pay-forget p q none ws = refl
@@ -60,7 +57,11 @@ module _ (N : ℕ) where
 
   paper-forget : (n : ℕ) (l : Ledger) → paper n (forgetting N l) ≡ paper n l
   unfolding paper
-  paper-forget n l = ap (λ o. is-some (wallet-of o (l .wallets))) (find-forget n (l .orders)) ∙ ap is-some (wallet-forget (find n (l .orders)) (l .wallets))
+  paper-forget n l = ap (option false (λ o. is-some (wallet-of (l .wallets) o))) (find-forget n (l .orders)) ∙ same (find n (l .orders))
+    where
+      same : (o : Option Order) → option false (λ x. is-some (wallet-of (l .wallets) x)) (forgotten o) ≡ option false (λ x. is-some (wallet-of (l .wallets) x)) o
+      same none = refl
+      same (some o) = refl
 
   pub change-forget : (x : Change) (l : Ledger) → forgetting N (change x l) ≡ change x (forgetting N l)
   unfolding change

@@ -3,7 +3,7 @@ use Prim.Native.Nat.{ℕ, zero, suc, _+_, _<_, _≤_}
 use mathlib.Core.Bool.{Bool, true, false, cond, not, _&&_, _||_, and-eq-true-iff}
 use mathlib.Core.Path.{_≡_, refl, ap, ap₂, sym, _∙_, subst}
 use mathlib.Core.Logic.{⊎-elim, inl, inr, _⊎_}
-use mathlib.Core.Option.{Option, none, some}
+use mathlib.Core.Option.{Option, none, some, Option·map}
 use mathlib.Core.List.{List, [], _∷_, _++_, append-nil}
 use native.Mathlib.Omega.{arith}
 use native.Mathlib.Nat.{add-zero, zero-add}
@@ -25,8 +25,9 @@ use Rattle.accounts.specs.declared.Funds.{Funds}
 use Rattle.accounts.specs.declared.MaybeFunds as F
 use Rattle.gateway.specs.Limits.{word, owner-slots, most-orders, most-in-flight}
 use Rattle.wallet.specs.Wallet.{settle}
-use Rattle.gateway.specs.Ledger.{Order, Ledger, New, Item, account, command, event, order-of, owner-of, is-some, map-option, placed, number-of, find, remove, with-leaves, with-price, left}
+use Rattle.gateway.specs.Ledger.{Order, Ledger, New, Item, account, command, event, order-of, owner-of, placed, number-of, find, remove, with-leaves, with-price, left}
 use Rattle.gateway.specs.Ledger.{Change, mark-by, fill, set-leaves, reprice, retire, changes, change, changed, pay, paper, funds-of, step, same-side, order-hold, held, fits, wallet-fits, wallets-fit, holds-fit, open-of}
+use Rattle.gateway.specs.Basics.{option, is-some}
 use Rattle.gateway.specs.Table.{without, update}
 use Rattle.gateway.specs.Core.{Tests, Pass, Origin, Flight, Core, flight, drop-below, places, owner-below, tests, core-step}
 use Rattle.gateway.specs.Start.{funds-in}
@@ -203,7 +204,7 @@ pub record LedgerFits (l : Ledger) : Type 0 where
   pub orders-fit : All OrderFits (l .orders)
   pub mark-fits : PriceFits (l .mark)
 
-settled-fits : (s : Side) (p : ℤ) (q : ℕ) (w : Option Funds) → WalletFits (map-option (settle s p q) w)
+settled-fits : (s : Side) (p : ℤ) (q : ℕ) (w : Option Funds) → WalletFits (Option·map (settle s p q) w)
 settled-fits s p q none = tt
 settled-fits s p q (some w) = settle-fits s p q w
 
@@ -324,7 +325,7 @@ pay-length m p q (some o) ws h = rw length-set h
 abbrev pub Owned : List (Option Account) → List (Option Funds) → Type 0
 Owned t ws = (i : ℕ) → is-some (getD ws i none) ≡ is-some (funds-in (getD t i none))
 
-some-map : (f : Funds → Funds) (w : Option Funds) → is-some (map-option f w) ≡ is-some w
+some-map : (f : Funds → Funds) (w : Option Funds) → is-some (Option·map f w) ≡ is-some w
 some-map f none = refl
 some-map f (some w) = refl
 

@@ -5,3 +5,4 @@ pub mod View
 pub mod Invariant
 pub mod Sessions
 pub mod Sorted
+pub mod Feed

@@ -15,7 +15,8 @@ use Rattle.orderbook.specs.declared.Side.the-variants.{Buy, Sell}
 use Rattle.accounts.specs.declared.Funds.{Funds}
 use Rattle.words.specs.Words.{least, most, place-of, fit-in, nearest-to, fit, clamp, inside, above, below}
 use Rattle.wallet.specs.Wallet.{settle}
-use Rattle.gateway.specs.Ledger.{is-some, fits}
+use Rattle.gateway.specs.Basics.{is-some}
+use Rattle.gateway.specs.Ledger.{fits}
 use Rattle.gateway.specs.Fits.{FundsFit}
 use Rattle.gateway.proofs.Base.{split}
 

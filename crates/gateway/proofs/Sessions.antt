@@ -2,7 +2,7 @@
 use Prim.Native.Nat.{ℕ, zero, suc, _+_, _<_, _≤_}
 use mathlib.Core.Bool.{Bool, true, false, cond, not}
 use mathlib.Core.Path.{_≡_, refl, ap, sym, _∙_, subst}
-use mathlib.Core.Option.{Option, none, some}
+use mathlib.Core.Option.{Option, none, some, Option·map}
 use mathlib.Core.List.{List, [], _∷_, _++_}
 use mathlib.Core.Logic.{⊎-elim, inl, inr, _⊎_}
 use native.Mathlib.Omega.{arith}
@@ -12,9 +12,9 @@ use lib.ListN.{length, getD, set, length-set}
 use lib.Seq.{getD-set-same, getD-set-other}
 use lib.Dec.{eqb, ltb}
 use Rattle.gateway.specs.Limits.{session-slots}
-use Rattle.gateway.specs.Ledger.{is-some, map-option}
-use Rattle.gateway.specs.Rest.{Session, Mail, send, close, Rest, session-at, logged-in, is-account, session-from, session-of, update-session, set-sent, stamp, stamped, with-sessions}
-use Rattle.gateway.specs.Calls.{account-of, close-where}
+use Rattle.gateway.specs.Basics.{option, is-some}
+use Rattle.gateway.specs.Rest.{Session, Mail, send, close, Rest, session-at, account-of, logged-in, session-from, session-of, update-session, set-sent, stamp, stamped, with-sessions}
+use Rattle.gateway.specs.Calls.{close-where}
 use Rattle.gateway.proofs.Base.{split, same?}
 
 -- the account of the session in slot i
@@ -61,7 +61,7 @@ set-acct (x ∷ xs) (suc s) v h (suc i) = set-acct xs s v h i
 pub set-alike : (xs : List (Option Session)) (s : ℕ) (v : Option Session) → account-of v ≡ at xs s → Alike xs (set xs s v)
 set-alike xs s v h = record { len = length-set xs s v; acct = set-acct xs s v h }
 
-map-acct : (f : Session → Session) → ((x : Session) → f x .account ≡ x .account) → (o : Option Session) → account-of (map-option f o) ≡ account-of o
+map-acct : (f : Session → Session) → ((x : Session) → f x .account ≡ x .account) → (o : Option Session) → account-of (Option·map f o) ≡ account-of o
 map-acct f h none = refl
 map-acct f h (some x) = h x
 
@@ -122,8 +122,7 @@ emptied-ok limit xs s ok =
 
 -- nobody is logged in for a where session-of finds none
 acct-in : (a : ℕ) (x : Option Session) → account-of x ≡ some a → logged-in a x ≡ true
-acct-in a none p = absurd (some-none p)
-acct-in a (some x) p = ap (is-account a) p ∙ eq-eqb a a refl
+acct-in a x p = ap (option false (eqb a)) p ∙ eq-eqb a a refl
 
 pub nobody : (a s : ℕ) (xs : List (Option Session)) → is-some (session-from s a xs) ≡ false → (i : ℕ) → at xs i ≡ some a → ⊥
 nobody a s [] h i p = some-none p

@@ -9,7 +9,7 @@ use borrow.Author.Tests.{ltb-true, ltb-false, eqb-true, eqb-false}
 use lib.ListN.{length}
 use lib.Dec.{eqb, ltb}
 use Rattle.gateway.specs.Table.{look, without, insert, replace}
-use Rattle.gateway.specs.Ledger.{is-some}
+use Rattle.gateway.specs.Basics.{is-some}
 use Rattle.gateway.proofs.Base.{split}
 
 module _ {A : Type 0} where

@@ -1,8 +1,8 @@
 -- The calls of document 01 and their outcomes. A call makes a plan; the core moves by the recorded item alone.
 use Prim.Native.Nat.{ℕ, zero, suc, _+_, _-_}
 use mathlib.Core.Bool.{Bool, true, false, cond, not, _&&_, _||_}
-use mathlib.Core.Option.{Option, none, some}
-use mathlib.Core.List.{List, [], _∷_, _++_}
+use mathlib.Core.Option.{Option, none, some, Option·map}
+use mathlib.Core.List.{List, [], _∷_, _++_, map}
 use lib.ListN.{length, getD, set}
 use lib.Dec.{eqb, ltb, leb}
 use Rattle.orderbook.specs.declared.Side.{Side}
@@ -17,10 +17,11 @@ use Rattle.protocol.specs.declared.LogoutReason.the-variants.{Idle, Shutdown}
 use Rattle.accounts.specs.declared.Account.{Account}
 use Rattle.gateway.specs.Limits.{session-slots, sequence, full, too-short, outside, inconsistent, bad-session, not-quiet}
 use Rattle.risk.specs.Throttle as Throttle
-use Rattle.gateway.specs.Ledger.{Item, account, command, event, is-some, map-option}
+use Rattle.gateway.specs.Basics.{option, is-some, is-empty}
+use Rattle.gateway.specs.Ledger.{Item, account, command, event}
 use Rattle.gateway.specs.Core.{Tests, Core, system, core-step, tests}
 use Rattle.gateway.specs.Depth.{levels, levels-fit, levels-few}
-use Rattle.gateway.specs.Rest.{Session, Mail, send, close, Rest, at-time, with-sessions, with-buckets, with-batch, with-delivered, with-published, pending, with-collar, session-at, is-present, no-session, set-closing, stamped, each-session}
+use Rattle.gateway.specs.Rest.{Session, Mail, send, close, Rest, at-time, with-sessions, with-buckets, with-batch, with-delivered, with-published, pending, with-collar, session-at, account-of, is-present, no-session, set-closing, stamped, each-session}
 use Rattle.gateway.specs.Entry.{Answer, nothing, account-was, wallet-is, number-is, levels-are, commands, bytes, Plan, refuse, quiet, records, unless, sends, balance, ended, can-number, numbered, publish-mail, published, receive}
 use Rattle.gateway.specs.Deliver.{deliver, deliver-tests}
 use Rattle.gateway.specs.Listing.{listing-agrees, listed-depth}
@@ -69,8 +70,7 @@ abbrev pub end-mail : LogoutReason → ℕ → List Mail
 end-mail why s = send s (Out.Logout why) ∷ close s ∷ []
 
 abbrev pub close-where : (Session → Bool) → List (Option Session) → List (Option Session)
-close-where f [] = []
-close-where f (x ∷ xs) = map-option (λ y. cond (f y) (set-closing y) y) x ∷ close-where f xs
+close-where f xs = map (Option·map (λ y. cond (f y) (set-closing y) y)) xs
 
 -- a session that has sent nothing for the idle time
 abbrev pub is-idle : Rest → Session → Bool
@@ -81,8 +81,7 @@ abbrev pub is-silent : Rest → Session → Bool
 is-silent r x = not (x .closing) && (is-some (x .account) && leb (r .timing .heartbeat) (r .clock - x .last-sent))
 
 abbrev pub tick-mail : Rest → ℕ → Option Session → List Mail
-tick-mail r s none = []
-tick-mail r s (some x) = cond (is-idle r x) (end-mail Idle s) (cond (is-silent r x) (send s Out.Heartbeat ∷ []) [])
+tick-mail r s x = option [] (λ y. cond (is-idle r y) (end-mail Idle s) (cond (is-silent r y) (send s Out.Heartbeat ∷ []) [])) x
 
 abbrev pub ticked : Rest → Plan
 ticked r = sends (each-session (tick-mail r) r) (with-sessions (close-where (is-idle r) (r .sessions)) r)
@@ -99,18 +98,9 @@ fresh-session t = record { account = none; last-received = t; last-sent = t; clo
 abbrev pub without-session : ℕ → Rest → Rest
 without-session s r = with-sessions (set (r .sessions) s none) r
 
-abbrev pub account-of : Option Session → Option ℕ
-account-of none = none
-account-of (some x) = x .account
-
 -- a logged-in account's orders are cancelled: a client that is gone cannot manage them
 abbrev pub gone : Option ℕ → Core → Rest → Plan
-gone none c r = sends [] r
-gone (some a) c r = unless (can-number full c r) refuse (numbered none (CancelAll a) c r)
-
-abbrev pub is-empty : {A : Type 0} → List A → Bool
-is-empty [] = true
-is-empty (x ∷ xs) = false
+gone a c r = option (sends [] r) (λ b. unless (can-number full c r) refuse (numbered none (CancelAll b) c r)) a
 
 -- an accepted account starts with a full bucket
 abbrev pub joined : Account → Rest → Rest

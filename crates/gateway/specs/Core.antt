@@ -11,8 +11,9 @@ use Rattle.orderbook.specs.declared.Command.the-variants.{Limit, Market, Cancel
 use Rattle.orderbook.specs.declared.Event.{Event}
 use Rattle.orderbook.specs.declared.Event.the-variants.{Accepted, Rejected, Trade, Rested, Replenished, Cancelled, Modified, StopPlaced, Triggered, MassCancelled, PhaseChanged}
 use Rattle.accounts.specs.declared.Account.{Account}
+use Rattle.gateway.specs.Basics.{is-some}
 use Rattle.gateway.specs.Limits.{most-orders, most-in-flight, out-of-range, exists, sequence, full, outside, inconsistent, has-orders}
-use Rattle.gateway.specs.Ledger.{Ledger, Item, account, command, event, order-of, owner-of, is-some, step, holds-fit, open-of}
+use Rattle.gateway.specs.Ledger.{Ledger, Item, account, command, event, order-of, owner-of, step, holds-fit, open-of}
 
 -- tests, each with what its failure says: the first that fails decides
 abbrev pub Tests : Type 0 → Type 0

@@ -16,8 +16,9 @@ use Rattle.protocol.specs.declared.ReportKind.{ReportKind}
 use Rattle.protocol.specs.declared.ReportKind.the-variants as Kind
 use Rattle.protocol.specs.declared.TradeTick.{TradeTick}
 use Rattle.accounts.specs.declared.Funds.{Funds}
+use Rattle.gateway.specs.Basics.{option, is-some}
 use Rattle.gateway.specs.Limits.{most-trades, most-notices, full, outside, inconsistent}
-use Rattle.gateway.specs.Ledger.{Order, Ledger, Change, mark-by, fill, set-leaves, reprice, retire, change, changes, Item, event, find, is-some, wallet-of, hold, order-hold}
+use Rattle.gateway.specs.Ledger.{Order, Ledger, Change, mark-by, fill, set-leaves, reprice, retire, change, changes, Item, event, find, wallet-of, hold, order-hold}
 use Rattle.gateway.specs.Core.{Tests, Flight, Core, system, drop-below, event-tests, fits-after}
 use Rattle.gateway.specs.Depth.{Depth, apply, depth-agrees, levels-fit, depth-few}
 use Rattle.gateway.specs.Rest.{Session, Mail, Rest, with-delivered, pending, session-at, session-of, logged-in, report, report-to, each-session}
@@ -30,35 +31,25 @@ about n i ref k = record { seq = n; «order_id» = i; «client_ref» = ref; kind
 
 -- to the session of the account that owns the live order i (`tell_owner`)
 abbrev pub tell-owner : ℕ → ℕ → ReportKind → Core → Rest → List Mail
-tell-owner n i k c r = go (find i (c .ledger .orders))
-  where
-    go : Option Order → List Mail
-    go none = []
-    go (some o) = report-to (session-of (o .account) r) (about n i (o .client-ref) k) r
+tell-owner n i k c r =
+    option [] (λ o. report-to (session-of (o .account) r) (about n i (o .client-ref) k) r) (find i (c .ledger .orders))
 
 -- the client reference of a refused new order
-abbrev pub refused-ref : Bool → Option Order → ℕ
-refused-ref false o = 0
-refused-ref true none = 0
-refused-ref true (some o) = o .client-ref
+abbrev pub refused-ref : Flight → Option Order → ℕ
+refused-ref f o = cond (f .places) (option 0 (λ x. x .client-ref) o) 0
 
 -- to the sender alone, and only while the session is still that account's
-abbrev pub tell-sender : ℕ → ℕ → ReportKind → Core → Rest → List Mail
-tell-sender n i k c r = go (drop-below n (c .flights))
-  where
-    to : Flight → Option ℕ → List Mail
-    to f none = []
-    to f (some s) =
-        cond (logged-in (f .owner) (session-at s r)) (report s (about n i (refused-ref (f .places) (find i (c .ledger .orders))) k) r) []
-
-    go : List Flight → List Mail
-    go [] = []
-    go (f ∷ fs) = to f (f .session)
+abbrev pub tell-sender : ℕ → ℕ → ReportKind → Core → Rest → List Flight → List Mail
+tell-sender n i k c r [] = []
+tell-sender n i k c r (f ∷ fs) =
+    option []
+    (λ s. cond (logged-in (f .owner) (session-at s r)) (report s (about n i (refused-ref f (find i (c .ledger .orders))) k) r) [])
+    (f .session)
 
 -- a trade's taker is reported before its maker; each fill names the event's side, which need not be the order's
 unfoldable pub reports : ℕ → Event → Core → Rest → List Mail
 reports n (Accepted i) c r = tell-owner n i Kind.Accepted c r
-reports n (Rejected i why) c r = tell-sender n i (Kind.Rejected why) c r
+reports n (Rejected i why) c r = tell-sender n i (Kind.Rejected why) c r (drop-below n (c .flights))
 reports n (Trade t taker maker s p q tl ml) c r =
     tell-owner n taker (Kind.Fill t s p q tl) c r ++ tell-owner n maker (Kind.Fill t (oppositeOf s) p q ml) c r
 reports n (Rested i s p q v) c r = tell-owner n i (Kind.Rested s p q v) c r
@@ -93,11 +84,7 @@ named (reprice n p v) os = find n os
 named (retire n) os = find n os
 
 abbrev pub change-notices : Change → Ledger → List ℕ
-change-notices x l = go (named x (l .orders))
-  where
-    go : Option Order → List ℕ
-    go none = []
-    go (some o) = cond (is-some (wallet-of (some o) (l .wallets))) (order-notices x o) []
+change-notices x l = option [] (λ o. cond (is-some (wallet-of (l .wallets) o)) (order-notices x o) []) (named x (l .orders))
 
 abbrev pub notices-of : List Change → Ledger → List ℕ
 notices-of [] l = []

@@ -11,6 +11,7 @@ use Rattle.orderbook.specs.declared.Side.{Side}
 use Rattle.orderbook.specs.declared.Side.the-variants.{Buy, Sell}
 use Rattle.orderbook.specs.declared.Event.{Event}
 use Rattle.orderbook.specs.declared.Event.the-variants.{Accepted, Rejected, Trade, Rested, Replenished, Cancelled, Modified, StopPlaced, Triggered, MassCancelled, PhaseChanged}
+use Rattle.gateway.specs.Basics.{option, is-some}
 use Rattle.gateway.specs.Limits.{word, most-orders, most-levels, most-changed}
 use Rattle.gateway.specs.Ledger.{same-side}
 use Rattle.gateway.specs.Table.{look, without, insert, replace}
@@ -104,11 +105,7 @@ take-off o d = record { resting = without resting-number (o .number) (d .resting
 
 -- what happens to the order n where it rests
 abbrev pub where-resting : ℕ → (Resting → Depth → Depth) → Depth → Depth
-where-resting n f d = go (find-resting n (d .resting))
-  where
-    go : Option Resting → Depth
-    go none = d
-    go (some o) = f o d
+where-resting n f d = option d (λ o. f o d) (find-resting n (d .resting))
 
 abbrev pub filled : ℕ → ℕ → Resting → Depth → Depth
 filled q v o d = cond (eqb v 0) (take-off o d) (show (showing (o .visible - q) v o) d)
@@ -139,22 +136,11 @@ apply (PhaseChanged p) d = d
 
 -- a fill is at most what the order shows, where it rests
 abbrev pub shows : ℕ → ℕ → List Resting → Bool
-shows n q os = go (find-resting n os)
-  where
-    go : Option Resting → Bool
-    go none = true
-    go (some o) = leb q (o .visible)
-
-abbrev pub rests : ℕ → List Resting → Bool
-rests n os = go (find-resting n os)
-  where
-    go : Option Resting → Bool
-    go none = false
-    go (some o) = true
+shows n q os = option true (λ o. leb q (o .visible)) (find-resting n os)
 
 -- code 8 against the depth: no order rests again, and no fill exceeds the visible quantity
 unfoldable pub depth-agrees : Event → Depth → Bool
-depth-agrees (Rested i s p q v) d = not (rests i (d .resting))
+depth-agrees (Rested i s p q v) d = not (is-some (find-resting i (d .resting)))
 depth-agrees (Trade t taker maker s p q tl ml) d = shows maker q (d .resting) && shows taker q (d .resting)
 depth-agrees (Replenished i s p v) d = true
 depth-agrees (Cancelled i q why) d = true

@@ -1,7 +1,7 @@
 -- Sessions and entry: what a received message does (`receive`, `login`, `enter`, `subscribe`, `publish` of exchange.rs).
 use Prim.Native.Nat.{ℕ, zero, suc, _+_, _-_}
 use mathlib.Core.Bool.{Bool, true, false, cond, not, _&&_, _||_}
-use mathlib.Core.Option.{Option, none, some}
+use mathlib.Core.Option.{Option, none, some, Option·map}
 use mathlib.Core.List.{List, [], _∷_, _++_, map}
 use lib.IntN.{ℤ, pos, _-ℤ_}
 use lib.Signed.{leZ}
@@ -32,16 +32,17 @@ use Rattle.protocol.specs.declared.RejectCode.{RejectCode}
 use Rattle.protocol.specs.declared.RejectCode.the-variants.{TooManyOrders, Throttled, Unavailable, InsufficientFunds, NotAllowed, OffMarket}
 use Rattle.accounts.specs.declared.Account.{Account}
 use Rattle.accounts.specs.declared.Funds.{Funds}
+use Rattle.gateway.specs.Basics.{option, each, is-some}
 use Rattle.gateway.specs.Limits.{word, most-orders, most-in-flight, most-in-batch, most-notices}
 use Rattle.wallet.specs.Wallet as W
 use Rattle.risk.specs.declared.Bucket.{Bucket}
 use Rattle.risk.specs.declared.Taken.{Taken}
 use Rattle.risk.specs.Collar.{near-market}
 use Rattle.risk.specs.Throttle as Throttle
-use Rattle.gateway.specs.Ledger.{Order, Ledger, New, Item, command, is-some, price-option, hold, order-of, held, open-of}
+use Rattle.gateway.specs.Ledger.{Order, Ledger, New, Item, command, price-option, hold, order-of, held, open-of}
 use Rattle.gateway.specs.Core.{Tests, Origin, Core, account-at, fits-after}
 use Rattle.gateway.specs.Depth.{Depth, Level, Key, level, levels}
-use Rattle.gateway.specs.Rest.{Session, Mail, send, close, Rest, with-sessions, with-buckets, with-batch, with-published, pending, session-at, is-open, is-present, is-subscribed, session-of, update-session, set-received, set-account, set-closing, set-subscribed, each-session}
+use Rattle.gateway.specs.Rest.{Session, Mail, send, close, Rest, with-sessions, with-buckets, with-batch, with-published, pending, session-at, is-open, is-present, is-subscribed, account-of, session-of, update-session, set-received, set-account, set-closing, set-subscribed, each-session}
 
 -- ---- plans
 
@@ -78,11 +79,7 @@ abbrev pub balance-with : ℕ → List Order → Funds → Balance
 balance-with a os w = record { cash = w .cash; position = w .position; «cash_held» = held a Buy os; «position_held» = held a Sell os }
 
 abbrev pub balance : ℕ → Core → Option Balance
-balance a c = go (wallet-at a c)
-  where
-    go : Option Funds → Option Balance
-    go none = none
-    go (some w) = some (balance-with a (c .ledger .orders) w)
+balance a c = Option·map (balance-with a (c .ledger .orders)) (wallet-at a c)
 
 -- ---- ending a session
 
@@ -92,8 +89,7 @@ ended s m r = sends (send s m ∷ close s ∷ []) (update-session s set-closing 
 -- ---- login
 
 abbrev pub token-is : ℕ → Option Account → Bool
-token-is t none = false
-token-is t (some a) = eqb (a .token) t
+token-is t a = option false (λ x. eqb (x .token) t) a
 
 abbrev pub login-tests : ℕ → ℕ → ℕ → Core → Rest → Tests LoginError
 login-tests version a token c r =
@@ -103,8 +99,7 @@ login-tests version a token c r =
     ∷ []
 
 abbrev pub balance-to : ℕ → Option Balance → List Mail
-balance-to s none = []
-balance-to s (some b) = send s (Out.Balance b) ∷ []
+balance-to s b = option [] (λ x. send s (Out.Balance x) ∷ []) b
 
 -- an open order is told as if it had just rested
 abbrev pub rested : ℕ → ℕ → Order → ℤ → Mail
@@ -113,20 +108,13 @@ rested s last o p =
 
 -- account a's orders that have a price and are numbered at most the delivered number
 abbrev pub open-order : ℕ → ℕ → ℕ → ℕ → Order → List Mail
-open-order s a last delivered o = cond (eqb (o .account) a && leb (o .number) delivered) (go (o .price)) []
-  where
-    go : MaybePrice → List Mail
-    go None = []
-    go (Some p) = rested s last o p ∷ []
-
-abbrev pub open-orders : ℕ → ℕ → ℕ → ℕ → List Order → List Mail
-open-orders s a last delivered [] = []
-open-orders s a last delivered (o ∷ os) = open-order s a last delivered o ++ open-orders s a last delivered os
+open-order s a last delivered o =
+    cond (eqb (o .account) a && leb (o .number) delivered) (option [] (λ p. rested s last o p ∷ []) (price-option (o .price))) []
 
 abbrev pub logged-in : ℕ → ℕ → Core → Rest → Plan
 logged-in s a c r =
     sends
-    ((send s (Out.LoginAccepted a (c .ledger .last)) ∷ balance-to s (balance a c)) ++ open-orders s a (c .ledger .last) (r .delivered) (c .ledger .orders))
+    ((send s (Out.LoginAccepted a (c .ledger .last)) ∷ balance-to s (balance a c)) ++ each (open-order s a (c .ledger .last) (r .delivered)) (c .ledger .orders))
     (update-session s (set-account a) r)
 
 -- the first message of a session must be a login
@@ -165,48 +153,38 @@ price-of (Kind.Limit p t d) = Some p
 price-of Kind.Market = None
 price-of (Kind.Stop t l) = l
 
-abbrev pub command-of : ℕ → ℕ → NewOrder → Command
-command-of n a o = go (o .kind)
-  where
-    go : OrderKind → Command
-    go (Kind.Limit p t d) = Limit n a (o .side) p (o .qty) t d
-    go Kind.Market = Market n a (o .side) (o .qty)
-    go (Kind.Stop t l) = Stop n a (o .side) t l (o .qty)
+abbrev pub command-of : ℕ → ℕ → Side → ℕ → OrderKind → Command
+command-of n a s q (Kind.Limit p t d) = Limit n a s p q t d
+command-of n a s q Kind.Market = Market n a s q
+command-of n a s q (Kind.Stop t l) = Stop n a s t l q
 
 -- the amount fits, is not negative, and the free part of the wallet covers it exactly
 abbrev pub covered : Option ℤ → Side → ℕ → Funds → List Order → Bool
-covered none s a w os = false
-covered (some h) s a w os = leZ (pos 0) h && W.covers s h (balance-with a os w)
+covered hold s a w os = option false (λ h. leZ (pos 0) h && W.covers s h (balance-with a os w)) hold
 
 -- a wallet's account places limit orders that it can pay for in full
-abbrev pub paper-tests : ℕ → NewOrder → Option Funds → Core → Rest → Tests RejectCode
-paper-tests a o none c r = []
-paper-tests a o (some w) c r = go (o .kind)
-  where
-    go : OrderKind → Tests RejectCode
-    go (Kind.Limit p t d) =
-        (OffMarket, near-market p (r .collar) (price-option (c .ledger .mark)))
-        ∷ (InsufficientFunds, covered (W.hold-of (o .side) p (o .qty)) (o .side) a w (c .ledger .orders))
-        ∷ []
-    go Kind.Market = (NotAllowed, false) ∷ []
-    go (Kind.Stop t l) = (NotAllowed, false) ∷ []
+abbrev pub paper-tests : ℕ → Side → ℕ → Core → Rest → OrderKind → Funds → Tests RejectCode
+paper-tests a s q c r (Kind.Limit p t d) w =
+    (OffMarket, near-market p (r .collar) (price-option (c .ledger .mark)))
+    ∷ (InsufficientFunds, covered (W.hold-of s p q) s a w (c .ledger .orders))
+    ∷ []
+paper-tests a s q c r Kind.Market w = (NotAllowed, false) ∷ []
+paper-tests a s q c r (Kind.Stop t l) w = (NotAllowed, false) ∷ []
 
 abbrev pub is-zero : ℤ → Bool
 is-zero z = leZ z (pos 0) && leZ (pos 0) z
 
 -- the notice of a new order's hold, where its account has a wallet
 abbrev pub new-notice : ℕ → NewOrder → Option Funds → List ℕ
-new-notice a o none = []
-new-notice a o (some w) = cond (is-zero (hold (o .side) (price-of (o .kind)) (o .qty))) [] (a ∷ [])
+new-notice a o w = option [] (λ f. cond (is-zero (hold (o .side) (price-of (o .kind)) (o .qty))) [] (a ∷ [])) w
 
 abbrev pub most-open : Option Account → ℕ
-most-open none = 0
-most-open (some a) = a .«max_open_orders»
+most-open a = option 0 (λ x. x .«max_open_orders») a
 
 abbrev pub new-tests : ℕ → NewOrder → Command → Core → Rest → Tests RejectCode
 new-tests a o k c r =
     (TooManyOrders, ltb (open-of a (c .ledger .orders)) (most-open (account-at a c)))
-    ∷ paper-tests a o (wallet-at a c) c r
+    ∷ option [] (paper-tests a (o .side) (o .qty) c r (o .kind)) (wallet-at a c)
     ++ (can-number Unavailable c r
     ++ ((Unavailable, ltb (length (c .ledger .orders)) most-orders)
     ∷ (Unavailable, leb (length (r .notices ++ new-notice a o (wallet-at a c))) most-notices)
@@ -219,69 +197,46 @@ noticing ns r = pending (r .depth) (r .trades) (r .notices ++ ns) r
 -- an order's number is that of the command that places it
 abbrev pub enter-new : ℕ → ℕ → NewOrder → Core → Rest → Plan
 enter-new s a o c r =
-    let k = command-of (next c) a o in
+    let k = command-of (next c) a (o .side) (o .qty) (o .kind) in
     unless (new-tests a o k c r) (reject s (o .«client_ref») r)
     (records (record { client-ref = o .«client_ref»; session = some s }) (command (next c) k) [] (queued k (noticing (new-notice a o (wallet-at a c)) r)))
 
 abbrev pub rate-of : Option Account → ℕ
-rate-of none = 0
-rate-of (some a) = a .«messages_per_second»
+rate-of a = option 0 (λ x. x .«messages_per_second») a
 
 abbrev pub bucket-at : ℕ → Rest → Bucket
 bucket-at a r = getD (r .buckets) a (Throttle.full 0)
 
 -- the token is taken first, and stays taken whatever reject follows
+abbrev pub taken : ℕ → Core → Rest → Taken
+taken a c r = Throttle.take-token (rate-of (account-at a c)) (r .clock) (bucket-at a r)
+
 abbrev pub with-token : ℕ → ℕ → ℕ → Core → Rest → (Rest → Plan) → Plan
-with-token s a ref c r enter = go (Throttle.take-token (rate-of (account-at a c)) (r .clock) (bucket-at a r))
-  where
-    go : Taken → Plan
-    go t =
-        let after = with-buckets (set (r .buckets) a (t .bucket)) r in
-        unless ((Throttled, t .passed) ∷ []) (reject s ref after) (enter after)
+with-token s a ref c r enter =
+    let after = with-buckets (set (r .buckets) a (taken a c r .bucket)) r in
+    unless ((Throttled, taken a c r .passed) ∷ []) (reject s ref after) (enter after)
 
 -- ---- publishing
 
 abbrev pub update-of : ℕ → Side → Level → LevelUpdate
 update-of seq s l = record { seq = seq; side = s; price = l .price; qty = l .qty; orders = l .orders }
 
-abbrev pub updates : ℕ → Side → List Level → List LevelUpdate
-updates seq s [] = []
-updates seq s (l ∷ ls) = update-of seq s l ∷ updates seq s ls
+abbrev pub level-to : ℕ → ℕ → Side → Level → Mail
+level-to to seq s l = send to (Out.LevelUpdate (update-of seq s l))
 
--- each changed level once, as it is now
-abbrev pub changes-now : ℕ → List Key → Depth → List LevelUpdate
-changes-now seq [] d = []
-changes-now seq (k ∷ ks) d = update-of seq (k .0) (level k d) ∷ changes-now seq ks d
-
-abbrev pub ticks-to : ℕ → List TradeTick → List Mail
-ticks-to s [] = []
-ticks-to s (t ∷ ts) = send s (Out.TradeTick t) ∷ ticks-to s ts
-
-abbrev pub updates-to : ℕ → List LevelUpdate → List Mail
-updates-to s [] = []
-updates-to s (u ∷ us) = send s (Out.LevelUpdate u) ∷ updates-to s us
+-- trades, then each changed level once, as it is now
+abbrev pub changes-to : ℕ → Rest → List Mail
+changes-to s r =
+    map (λ t. send s (Out.TradeTick t)) (r .trades) ++ map (λ k. level-to s (r .delivered) (k .0) (level k (r .depth))) (r .depth .changed)
 
 -- one balance for each notice, to the account's session where it is open
 abbrev pub notice-mail : ℕ → Core → Rest → List Mail
-notice-mail a c r = go (session-of a r)
-  where
-    go : Option ℕ → List Mail
-    go none = []
-    go (some s) = cond (is-open (session-at s r)) (balance-to s (balance a c)) []
+notice-mail a c r = option [] (λ s. cond (is-open (session-at s r)) (balance-to s (balance a c)) []) (session-of a r)
 
-abbrev pub notices-mail : List ℕ → Core → Rest → List Mail
-notices-mail [] c r = []
-notices-mail (a ∷ ns) c r = notice-mail a c r ++ notices-mail ns c r
-
--- trades, then changed levels, to each open subscriber
-abbrev pub market-mail : Rest → List Mail
-market-mail r =
-    each-session
-    (λ s x. cond (is-open x && is-subscribed x) (ticks-to s (r .trades) ++ updates-to s (changes-now (r .delivered) (r .depth .changed) (r .depth))) [])
-    r
-
+-- balances in notice order, then the market's changes to each open subscriber
 abbrev pub publish-mail : Core → Rest → List Mail
-publish-mail c r = notices-mail (r .notices) c r ++ market-mail r
+publish-mail c r =
+    each (λ a. notice-mail a c r) (r .notices) ++ each-session (λ s x. cond (is-open x && is-subscribed x) (changes-to s r) []) r
 
 abbrev pub settled-depth : Depth → Depth
 settled-depth d = record { resting = d .resting; changed = [] }
@@ -294,7 +249,7 @@ snapshot s r =
     let bids = levels Buy (r .depth .resting) in
     let asks = levels Sell (r .depth .resting) in
     send s (Out.BookSnapshot (r .delivered) (length bids + length asks))
-    ∷ (updates-to s (updates (r .delivered) Buy bids) ++ updates-to s (updates (r .delivered) Sell asks))
+    ∷ (map (level-to s (r .delivered) Buy) bids ++ map (level-to s (r .delivered) Sell) asks)
 
 -- what was delivered and not published goes out first, to everyone
 abbrev pub subscribe : ℕ → Core → Rest → Plan
@@ -321,12 +276,6 @@ hear s a In.MassCancel c r =
 
 -- a session that is absent or closing is not heard; the clock is set all the same
 unfoldable pub receive : ℕ → Inbound → Core → Rest → Plan
-receive s m c r = go (session-at s r)
-  where
-    heard : Option ℕ → Rest → Plan
-    heard none after = greet s m c after
-    heard (some a) after = hear s a m c after
-
-    go : Option Session → Plan
-    go none = sends [] r
-    go (some x) = cond (x .closing) (sends [] r) (heard (x .account) (update-session s (set-received (r .clock)) r))
+receive s m c r =
+    let after = update-session s (set-received (r .clock)) r in
+    cond (is-present (session-at s r)) (option (greet s m c after) (λ a. hear s a m c after) (account-of (session-at s r))) (sends [] r)

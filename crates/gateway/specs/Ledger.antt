@@ -1,7 +1,7 @@
 -- The ledger: what a checkpoint holds, and what the record makes of it. It sees no gateway.
 use Prim.Native.Nat.{ℕ, zero, suc}
 use mathlib.Core.Bool.{Bool, true, false, cond, _&&_}
-use mathlib.Core.Option.{Option, none, some}
+use mathlib.Core.Option.{Option, none, some, Option·map}
 use mathlib.Core.List.{List, [], _∷_, _++_}
 use lib.IntN.{ℤ, pos, _+ℤ_}
 use lib.ListN.{getD, set}
@@ -19,6 +19,7 @@ use Rattle.accounts.specs.declared.Funds.{Funds}
 use Rattle.accounts.specs.declared.MaybeFunds as F
 use Rattle.words.specs.Words.{fit}
 use Rattle.wallet.specs.Wallet as W
+use Rattle.gateway.specs.Basics.{option, is-some}
 use Rattle.gateway.specs.Table.{look, without, update}
 
 -- a live order, with the fields of the checkpoint
@@ -71,8 +72,8 @@ owner-of (CancelAll o) = o
 owner-of (SetPhase p) = 0
 
 abbrev pub placed : ℕ → ℕ → ℕ → Option New → List Order
-placed ref n a none = []
-placed ref n a (some x) = record { number = n; account = a; client-ref = ref; side = x .side; price = x .price; leaves = x .qty } ∷ []
+placed ref n a x =
+    option [] (λ o. record { number = n; account = a; client-ref = ref; side = o .side; price = o .price; leaves = o .qty } ∷ []) x
 
 -- ---- the table of orders
 
@@ -122,28 +123,23 @@ changes n (PhaseChanged p) = []
 abbrev pub left : ℕ → (Order → Order) → ℕ → List Order → List Order
 left n f v os = cond (eqb v 0) (remove n os) (update number-of n (λ o. with-leaves v (f o)) os)
 
-abbrev pub wallet-of : Option Order → List (Option Funds) → Option Funds
-wallet-of none ws = none
-wallet-of (some o) ws = getD ws (o .account) none
-
-abbrev pub is-some : {A : Type 0} → Option A → Bool
-is-some none = false
-is-some (some a) = true
-
-abbrev pub map-option : {A B : Type 0} → (A → B) → Option A → Option B
-map-option f none = none
-map-option f (some a) = some (f a)
+-- the wallet of an order's account
+abbrev pub wallet-of : List (Option Funds) → Order → Option Funds
+wallet-of ws o = getD ws (o .account) none
 
 -- a fill settles with the order's own side (`traded`)
-unfoldable pub pay : ℤ → ℕ → Option Order → List (Option Funds) → List (Option Funds)
-pay p q none ws = ws
-pay p q (some o) ws = set ws (o .account) (map-option (W.settle (o .side) p q) (getD ws (o .account) none))
+abbrev pub paid-to : ℤ → ℕ → List (Option Funds) → Order → List (Option Funds)
+paid-to p q ws o = set ws (o .account) (Option·map (W.settle (o .side) p q) (wallet-of ws o))
 
--- paper accounts that trade with each other do not move the mark
+unfoldable pub pay : ℤ → ℕ → Option Order → List (Option Funds) → List (Option Funds)
+pay p q o ws = option ws (paid-to p q ws) o
+
+-- the order is live and its account has a wallet
 unfoldable pub paper : ℕ → Ledger → Bool
-paper n l = is-some (wallet-of (find n (l .orders)) (l .wallets))
+paper n l = option false (λ o. is-some (wallet-of (l .wallets) o)) (find n (l .orders))
 
 unfoldable pub change : Change → Ledger → Ledger
+-- paper accounts that trade with each other do not move the mark
 change (mark-by t m p) l =
     record { last = l .last; wallets = l .wallets; orders = l .orders; mark = cond (paper t l && paper m l) (l .mark) (Some p) }
 change (fill n p q v) l =

@@ -1,3 +1,4 @@
+pub mod Basics
 pub mod Limits
 pub mod Table
 pub mod Ledger

@@ -1,7 +1,7 @@
 -- The rest of the gateway: what no replay needs. Sessions, buckets, the batch, the depth and what waits to be published.
 use Prim.Native.Nat.{ℕ, zero, suc, _+_, _-_}
 use mathlib.Core.Bool.{Bool, true, false, cond, not, _&&_}
-use mathlib.Core.Option.{Option, none, some}
+use mathlib.Core.Option.{Option, none, some, Option·map}
 use mathlib.Core.List.{List, [], _∷_, _++_}
 use lib.ListN.{length, getD, set}
 use lib.Dec.{eqb}
@@ -12,7 +12,7 @@ use Rattle.protocol.specs.declared.TradeTick.{TradeTick}
 use Rattle.protocol.specs.declared.Outbound.the-variants as Out
 use Rattle.accounts.specs.declared.Timing.{Timing}
 use Rattle.risk.specs.declared.Bucket.{Bucket}
-use Rattle.gateway.specs.Ledger.{is-some, map-option}
+use Rattle.gateway.specs.Basics.{option, is-some}
 use Rattle.gateway.specs.Depth.{Depth}
 
 -- a connection; one that is closing hears nothing more and is sent nothing more
@@ -82,26 +82,23 @@ with-collar p r =
 abbrev pub session-at : ℕ → Rest → Option Session
 session-at s r = getD (r .sessions) s none
 
+-- logged in and not closing
 abbrev pub is-open : Option Session → Bool
-is-open none = false
-is-open (some x) = is-some (x .account) && not (x .closing)
+is-open x = option false (λ y. is-some (y .account) && not (y .closing)) x
 
--- present and not closing
+-- there and not closing
 abbrev pub is-present : Option Session → Bool
-is-present none = false
-is-present (some x) = not (x .closing)
+is-present x = option false (λ y. not (y .closing)) x
 
 abbrev pub is-subscribed : Option Session → Bool
-is-subscribed none = false
-is-subscribed (some x) = x .subscribed
+is-subscribed x = option false (λ y. y .subscribed) x
 
-abbrev pub is-account : ℕ → Option ℕ → Bool
-is-account a none = false
-is-account a (some b) = eqb a b
+-- the account that a session is logged in for
+abbrev pub account-of : Option Session → Option ℕ
+account-of x = option none (λ y. y .account) x
 
 abbrev pub logged-in : ℕ → Option Session → Bool
-logged-in a none = false
-logged-in a (some x) = is-account a (x .account)
+logged-in a x = option false (eqb a) (account-of x)
 
 -- the session logged in for account a, closing or not, counted from s
 abbrev pub session-from : ℕ → ℕ → List (Option Session) → Option ℕ
@@ -112,7 +109,7 @@ abbrev pub session-of : ℕ → Rest → Option ℕ
 session-of a r = session-from 0 a (r .sessions)
 
 abbrev pub update-session : ℕ → (Session → Session) → Rest → Rest
-update-session s f r = with-sessions (set (r .sessions) s (map-option f (session-at s r))) r
+update-session s f r = with-sessions (set (r .sessions) s (Option·map f (session-at s r))) r
 
 abbrev pub no-session : List (Option Session) → Bool
 no-session [] = true
@@ -150,8 +147,7 @@ abbrev pub report : ℕ → R.Report → Rest → List Mail
 report s m r = cond (is-open (session-at s r)) (send s (Out.Report m) ∷ []) []
 
 abbrev pub report-to : Option ℕ → R.Report → Rest → List Mail
-report-to none m r = []
-report-to (some s) m r = report s m r
+report-to s m r = option [] (λ t. report t m r) s
 
 -- what is sent to each session in turn, counted from s
 abbrev pub each-from : ℕ → (ℕ → Option Session → List Mail) → List (Option Session) → List Mail

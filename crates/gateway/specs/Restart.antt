@@ -2,12 +2,12 @@
 use Prim.Native.Nat.{ℕ, zero, suc, _<_}
 use mathlib.Core.Bool.{Bool, true, false, cond}
 use mathlib.Core.Path.{_≡_}
-use mathlib.Core.Option.{Option, none, some}
+use mathlib.Core.Option.{Option, none, some, Option·map}
 use mathlib.Core.List.{List, [], _∷_, _++_, map}
 use lib.Dec.{leb}
 use Rattle.accounts.specs.declared.Account.{Account}
 use Rattle.accounts.specs.declared.Timing.{Timing}
-use Rattle.gateway.specs.Ledger.{Order, Ledger, Item, account, command, event, replayed, map-option}
+use Rattle.gateway.specs.Ledger.{Order, Ledger, Item, account, command, event, replayed}
 use Rattle.gateway.specs.Saved.{Saved, opening}
 use Rattle.gateway.specs.Bytes.{decode}
 use Rattle.gateway.specs.Calls.{Gateway, Call, add-account, replay-command, replay-event, Outcome, refused, done, call}
@@ -71,7 +71,7 @@ forgetting n l = record { last = l .last; wallets = l .wallets; orders = map (fo
 
 -- the independent ledger: a checkpoint's bytes, then the record
 unfoldable pub ledger-of : List ℕ → List Item → Option Ledger
-ledger-of bs is = map-option (λ s. replayed is (opening s)) (decode bs)
+ledger-of bs is = Option·map (λ s. replayed is (opening s)) (decode bs)
 
 -- what demand 3 claims of a checkpoint's bytes, taken at the number n with the accounts l, the record since, and the gateway g of now:
 -- the bytes are restored, the record is replayed item by item, and the second gateway's ledger is the first's but for the lost client references,

@@ -1,7 +1,7 @@
 -- Set-up and restore: the two ways in which a list of calls begins.
 use Prim.Native.Nat.{ℕ, zero, suc}
-use mathlib.Core.Bool.{Bool, true, false, cond, _&&_}
-use mathlib.Core.Option.{Option, none, some}
+use mathlib.Core.Bool.{Bool, true, false, cond, not, _&&_}
+use mathlib.Core.Option.{Option, none, some, Option·getD, Option·map}
 use mathlib.Core.List.{List, [], _∷_, _++_}
 use lib.ListN.{length, getD, set, replicate}
 use lib.Dec.{eqb, ltb, leb}
@@ -10,10 +10,11 @@ use Rattle.orderbook.specs.declared.Listed.{Listed}
 use Rattle.accounts.specs.declared.Account.{Account}
 use Rattle.accounts.specs.declared.Funds.{Funds}
 use Rattle.accounts.specs.declared.Timing.{Timing}
+use Rattle.gateway.specs.Basics.{option, each, is-some}
 use Rattle.gateway.specs.Limits.{owner-slots, session-slots, most-orders, out-of-range, foreign, full, outside, inconsistent, malformed}
 use Rattle.risk.specs.declared.Bucket.{Bucket}
 use Rattle.risk.specs.Throttle as Throttle
-use Rattle.gateway.specs.Ledger.{Order, Ledger, funds-of, is-some, order-hold, wallet-of, holds-fit}
+use Rattle.gateway.specs.Ledger.{Order, Ledger, funds-of, order-hold, wallet-of, holds-fit}
 use Rattle.gateway.specs.Core.{Tests, Core}
 use Rattle.gateway.specs.Depth.{Depth, levels-fit, levels-few}
 use Rattle.gateway.specs.Rest.{Rest}
@@ -46,8 +47,7 @@ all-below n [] = true
 all-below n (a ∷ l) = ltb (a .id) n && all-below n l
 
 abbrev pub bucket-of : Option Account → Bucket
-bucket-of none = Throttle.full 0
-bucket-of (some a) = Throttle.full (a .«messages_per_second»)
+bucket-of a = Throttle.full (option 0 (λ x. x .«messages_per_second») a)
 
 -- n slots, as many as there are accounts filled from them and the rest from nobody
 abbrev pub by-slot : {A : Type 0} → (Option Account → A) → ℕ → List (Option Account) → List A
@@ -56,8 +56,7 @@ by-slot f (suc n) [] = f none ∷ by-slot f n []
 by-slot f (suc n) (a ∷ t) = f a ∷ by-slot f n t
 
 abbrev pub funds-in : Option Account → Option Funds
-funds-in none = none
-funds-in (some a) = funds-of (a .funds)
+funds-in a = option none (λ x. funds-of (x .funds)) a
 
 -- ---- the gateway that begins
 
@@ -103,13 +102,8 @@ set-up limit last l xs timing =
 -- ---- restore
 
 -- cash and seats are those of the bytes where the account has a wallet by its funds
-abbrev pub or-else : {A : Type 0} → Option A → A → A
-or-else none d = d
-or-else (some a) d = a
-
 abbrev pub restored-wallet : Option Funds → Option Funds → Option Funds
-restored-wallet none w = none
-restored-wallet (some f) w = some (or-else w f)
+restored-wallet f w = Option·map (Option·getD w) f
 
 abbrev pub restored-wallets : List (Option Funds) → List (Option Funds) → List (Option Funds)
 restored-wallets [] ws = []
@@ -134,9 +128,8 @@ restore-tests limit l s =
     ++ ((outside, holds-fit (restored-ledger (accounts-of limit l) s)) ∷ [])
 
 -- one notice for each order whose hold is not 0, ascending by number
-abbrev pub hold-notices : List (Option Funds) → List Order → List ℕ
-hold-notices ws [] = []
-hold-notices ws (o ∷ os) = cond (is-some (wallet-of (some o) ws)) (cond (is-zero (order-hold o)) [] (o .account ∷ [])) [] ++ hold-notices ws os
+abbrev pub hold-notice-of : List (Option Funds) → Order → List ℕ
+hold-notice-of ws o = cond (is-some (wallet-of ws o) && not (is-zero (order-hold o))) (o .account ∷ []) []
 
 abbrev pub empty-depth : Depth
 empty-depth = record { resting = []; changed = [] }
@@ -144,11 +137,7 @@ empty-depth = record { resting = []; changed = [] }
 unfoldable pub restore-saved : ℕ → List Account → Timing → Saved → Started
 restore-saved limit l timing s =
     let led = restored-ledger (accounts-of limit l) s in
-    start-unless (restore-tests limit l s) (begin timing led (accounts-of limit l) empty-depth (hold-notices (led .wallets) (led .orders)))
+    start-unless (restore-tests limit l s) (begin timing led (accounts-of limit l) empty-depth (each (hold-notice-of (led .wallets)) (led .orders)))
 
 unfoldable pub restore : ℕ → List Account → Timing → List ℕ → Started
-restore limit l timing xs = go (decode xs)
-  where
-    go : Option Saved → Started
-    go none = not-started malformed
-    go (some s) = restore-saved limit l timing s
+restore limit l timing xs = option (not-started malformed) (restore-saved limit l timing) (decode xs)
