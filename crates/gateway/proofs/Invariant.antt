@@ -387,7 +387,7 @@ runs-more : (last n : ℕ) (fs : List Flight) (f : Flight) → n ≡ last + 1 �
 runs-more last n [] f e g h = (omega arith, tt)
 runs-more last n (x ∷ fs) f e g h = (omega (arith, h .0, length-append fs (f ∷ [])), runs-more last n fs f e g (h .1))
 
-runs-below : (last n : ℕ) (fs : List Flight) → Runs last fs → Runs last (drop-below n fs)
+pub runs-below : (last n : ℕ) (fs : List Flight) → Runs last fs → Runs last (drop-below n fs)
 runs-below last n [] h = tt
 runs-below last n (f ∷ fs) h =
     let t = runs-below last n fs (h .1) in

@@ -6,3 +6,5 @@ pub mod Invariant
 pub mod Sessions
 pub mod Sorted
 pub mod Feed
+pub mod Listing
+pub mod Calls

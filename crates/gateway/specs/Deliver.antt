@@ -111,17 +111,19 @@ abbrev pub rest-after : ℕ → Event → Core → Rest → Rest
 rest-after n e c r =
     with-delivered n (pending (apply e (r .depth)) (r .trades ++ tick-of n e) (r .notices ++ notices-of (changes n e) (c .ledger)) r)
 
-abbrev pub deliver-tests : ℕ → Event → Core → Rest → Tests ℕ
-deliver-tests n e c r =
+abbrev pub feed-tests : ℕ → Event → Core → Rest → Tests ℕ
+feed-tests n e c r =
     let after = rest-after n e c r in
-    event-tests n e c
-    ++ ((inconsistent, depth-agrees e (r .depth))
+    (inconsistent, depth-agrees e (r .depth))
     ∷ (outside, fits-after (event n e) c)
     ∷ (outside, levels-fit (after .depth .resting))
     ∷ (full, depth-few (after .depth))
     ∷ (full, leb (length (after .trades)) most-trades)
     ∷ (full, leb (length (after .notices)) most-notices)
-    ∷ [])
+    ∷ []
+
+abbrev pub deliver-tests : ℕ → Event → Core → Rest → Tests ℕ
+deliver-tests n e c r = event-tests n e c ++ feed-tests n e c r
 
 abbrev pub deliver : ℕ → Event → Core → Rest → Plan
 deliver n e c r = records system (event n e) (reports n e c r) (rest-after n e c r)

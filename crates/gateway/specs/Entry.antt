@@ -201,6 +201,10 @@ enter-new s a o c r =
     unless (new-tests a o k c r) (reject s (o .«client_ref») r)
     (records (record { client-ref = o .«client_ref»; session = some s }) (command (next c) k) [] (queued k (noticing (new-notice a o (wallet-at a c)) r)))
 
+-- a command that places nothing, after the tests of its own
+abbrev pub enter-other : ℕ → Tests RejectCode → Command → Core → Rest → Plan
+enter-other s own k c r = unless (own ++ can-number Unavailable c r) (reject s 0 r) (numbered (some s) k c r)
+
 abbrev pub rate-of : Option Account → ℕ
 rate-of a = option 0 (λ x. x .«messages_per_second») a
 
@@ -264,15 +268,9 @@ hear s a In.Logout c r = ended s (Out.Logout Requested) r
 hear s a In.Heartbeat c r = sends [] r
 hear s a In.Subscribe c r = subscribe s c r
 hear s a (In.NewOrder o) c r = with-token s a (o .«client_ref») c r (enter-new s a o c)
-hear s a (In.Cancel i) c r =
-    with-token s a 0 c r (λ after. unless (can-number Unavailable c after) (reject s 0 after) (numbered (some s) (Cancel i a) c after))
-hear s a (In.Modify i p q) c r =
-    with-token s a 0 c r
-    (λ after.
-    unless ((NotAllowed, not (is-some (wallet-at a c))) ∷ can-number Unavailable c after) (reject s 0 after)
-    (numbered (some s) (Modify i a p q) c after))
-hear s a In.MassCancel c r =
-    with-token s a 0 c r (λ after. unless (can-number Unavailable c after) (reject s 0 after) (numbered (some s) (CancelAll a) c after))
+hear s a (In.Cancel i) c r = with-token s a 0 c r (enter-other s [] (Cancel i a) c)
+hear s a (In.Modify i p q) c r = with-token s a 0 c r (enter-other s ((NotAllowed, not (is-some (wallet-at a c))) ∷ []) (Modify i a p q) c)
+hear s a In.MassCancel c r = with-token s a 0 c r (enter-other s [] (CancelAll a) c)
 
 -- a session that is absent or closing is not heard; the clock is set all the same
 unfoldable pub receive : ℕ → Inbound → Core → Rest → Plan
