@@ -8,3 +8,4 @@ pub mod Sorted
 pub mod Feed
 pub mod Listing
 pub mod Calls
+pub mod Restore

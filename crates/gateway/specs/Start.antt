@@ -87,13 +87,22 @@ abbrev pub listed-ledger : ℕ → ℕ → List Account → List Listed → Ledg
 listed-ledger limit last l xs =
     record { last = last; wallets = by-slot funds-in owner-slots (accounts-of limit l); orders = listed-orders xs; mark = None }
 
-abbrev pub set-up-tests : ℕ → ℕ → List Account → List Listed → Tests ℕ
-set-up-tests limit last l xs =
-    ((full, leb limit owner-slots) ∷ (full, leb (length xs) most-orders) ∷ (out-of-range, all-below limit l) ∷ listed-tests limit last xs (listed-orders xs))
-    ++ ((full, levels-few (listed-depth xs .resting))
+abbrev pub entry-tests : ℕ → ℕ → List Account → List Listed → Tests ℕ
+entry-tests limit last l xs =
+    (full, leb limit owner-slots)
+    ∷ (full, leb (length xs) most-orders)
+    ∷ (out-of-range, all-below limit l)
+    ∷ listed-tests limit last xs (listed-orders xs)
+
+abbrev pub total-tests : ℕ → ℕ → List Account → List Listed → Tests ℕ
+total-tests limit last l xs =
+    (full, levels-few (listed-depth xs .resting))
     ∷ (outside, holds-fit (listed-ledger limit last l xs))
     ∷ (outside, levels-fit (listed-depth xs .resting))
-    ∷ [])
+    ∷ []
+
+abbrev pub set-up-tests : ℕ → ℕ → List Account → List Listed → Tests ℕ
+set-up-tests limit last l xs = entry-tests limit last l xs ++ total-tests limit last l xs
 
 unfoldable pub set-up : ℕ → ℕ → List Account → List Listed → Timing → Started
 set-up limit last l xs timing =
@@ -122,10 +131,15 @@ abbrev pub order-tests : ℕ → ℕ → List Order → Tests ℕ
 order-tests limit last [] = []
 order-tests limit last (o ∷ os) = (foreign, leb (o .number) last) ∷ (out-of-range, ltb (o .account) limit) ∷ order-tests limit last os
 
+abbrev pub saved-tests : ℕ → List Account → Saved → Tests ℕ
+saved-tests limit l s =
+    (full, leb limit owner-slots)
+    ∷ (out-of-range, all-below limit l)
+    ∷ (out-of-range, wallets-below limit (s .wallets))
+    ∷ order-tests limit (s .last) (s .orders)
+
 abbrev pub restore-tests : ℕ → List Account → Saved → Tests ℕ
-restore-tests limit l s =
-    ((full, leb limit owner-slots) ∷ (out-of-range, all-below limit l) ∷ (out-of-range, wallets-below limit (s .wallets)) ∷ order-tests limit (s .last) (s .orders))
-    ++ ((outside, holds-fit (restored-ledger (accounts-of limit l) s)) ∷ [])
+restore-tests limit l s = saved-tests limit l s ++ ((outside, holds-fit (restored-ledger (accounts-of limit l) s)) ∷ [])
 
 -- one notice for each order whose hold is not 0, ascending by number
 abbrev pub hold-notice-of : List (Option Funds) → Order → List ℕ
