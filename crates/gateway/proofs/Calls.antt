@@ -78,7 +78,7 @@ within-good : (c : Core) (room : ℕ) (p : Plan) → Good c p → Good c (within
 unfolding within
 within-good c room p h = guard-good c p _ (λ t. h)
 
-pass-append : {A : Type 0} (xs ys : Tests A) → Pass (xs ++ ys) → Pass xs × Pass ys
+pub pass-append : {A : Type 0} (xs ys : Tests A) → Pass (xs ++ ys) → Pass xs × Pass ys
 pass-append [] ys h = (tt, h)
 pass-append (x ∷ xs) ys h = let t = pass-append xs ys (h .1) in ((h .0, t .0), t .1)
 
@@ -348,7 +348,7 @@ gone-good none c r l ok rok = rok
 gone-good (some a) c r l ok rok =
     guard-good c (numbered none (CancelAll a) c r) (can-number full c r) (λ t. numbered-good full none (CancelAll a) c r refl refl (lt-ltb a _ l) tt ok rok t)
 
-listed-few : (xs : List Listed) (m : ℕ) → length xs ≡ m → m ≤ most-orders → levels-few (listed-depth xs .resting) ≡ true → depth-few (listed-depth xs) ≡ true
+pub listed-few : (xs : List Listed) (m : ℕ) → length xs ≡ m → m ≤ most-orders → levels-few (listed-depth xs .resting) ≡ true → depth-few (listed-depth xs) ≡ true
 unfolding depth-few
 listed-few xs m e h t =
     and-eq-true-iff (leb (length (listed-depth xs .resting)) most-orders) _ .1

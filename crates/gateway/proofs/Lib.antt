@@ -9,3 +9,4 @@ pub mod Feed
 pub mod Listing
 pub mod Calls
 pub mod Restore
+pub mod Begin

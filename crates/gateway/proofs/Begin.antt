@@ -1,0 +1,185 @@
+-- What set-up and restore accept keeps the invariant, so that a list of calls may start with either. Assumes nothing.
+use Prim.Native.Nat.{ℕ, zero, suc, _+_, _<_, _≤_}
+use mathlib.Core.Bool.{Bool, true, false, cond, not, _&&_, and-eq-true-iff}
+use mathlib.Core.Path.{_≡_, refl, ap, sym, _∙_, subst}
+use mathlib.Core.Option.{Option, none, some, Option·getD, Option·map}
+use mathlib.Core.List.{List, [], _∷_, _++_}
+use native.Mathlib.Omega.{arith}
+use borrow.Author.Tests.{ltb-true, leb-true, le-leb, eqb-true, eq-eqb}
+use lib.ListN.{length, getD, set, replicate, length-set, length-replicate, getD-replicate}
+use lib.Dec.{eqb, ltb, leb}
+use Rattle.orderbook.specs.declared.MaybePrice.the-variants.{None}
+use Rattle.orderbook.specs.declared.Listed.{Listed}
+use Rattle.orderbook.specs.declared.Listed.the-variants as L
+use Rattle.protocol.specs.declared.TradeTick.{TradeTick}
+use Rattle.accounts.specs.declared.Account.{Account}
+use Rattle.accounts.specs.declared.Funds.{Funds}
+use Rattle.accounts.specs.declared.MaybeFunds as F
+use Rattle.accounts.specs.declared.Timing.{Timing}
+use Rattle.gateway.specs.Basics.{option, each, is-some}
+use Rattle.gateway.specs.Limits.{word, owner-slots, session-slots, most-orders, most-notices}
+use Rattle.gateway.specs.Ledger.{Order, Ledger, number-of, funds-of, holds-fit}
+use Rattle.gateway.specs.Saved.{Saved, slots}
+use Rattle.gateway.specs.Core.{Tests, Pass, Core}
+use Rattle.gateway.specs.Depth.{Depth, depth-few, levels-few, levels-fit}
+use Rattle.gateway.specs.Rest.{Session, Rest, account-of}
+use Rattle.gateway.specs.Calls.{Gateway}
+use Rattle.gateway.specs.Listing.{listed-number, listed-owner, live, listed-orders, listed-depth, listed-times}
+use Rattle.gateway.specs.Start.{Started, not-started, started, start-unless, entered, accounts-of, all-below, bucket-of, by-slot, funds-in, begin, owners-of, listed-tests, listed-ledger, entry-tests, total-tests, set-up-tests, set-up}
+use Rattle.gateway.specs.Start.{restored-wallet, restored-wallets, restored-ledger, order-tests, saved-tests, restore-tests, hold-notice-of, empty-depth, restore-saved, restore}
+use Rattle.gateway.specs.Fits.{Unsigned, FundsFit, MaybeFundsFit, AccountFits, AccountsFit, ListedFits, ListingFits, Bytes}
+use Rattle.gateway.proofs.Base.{split}
+use Rattle.gateway.proofs.Sorted.{Each, Rises, each-insert}
+use Rattle.gateway.proofs.Invariant.{CoreOk, Rise, All, Keyed, In, Owned, OrderFits, WalletFits, WalletsFit, LedgerFits}
+use Rattle.gateway.proofs.Sessions.{SessionsOk, at, Known}
+use Rattle.gateway.proofs.Feed.{FeedOk}
+use Rattle.gateway.proofs.Listing.{distinct, live-number, live-rises, resting-rises, live-length, each-listed}
+use Rattle.gateway.proofs.Calls.{RestOk, listed-few, pass-append}
+use Rattle.gateway.proofs.Restore.{Accounts, by-slot-at, by-slot-length, by-slot-owned}
+
+-- the whole gateway's invariant
+pub record Ok (g : Gateway) : Type 0 where
+  pub core-is : CoreOk (g .core)
+  pub rest-is : RestOk (length (g .core .accounts)) (g .core .ledger .last) (g .rest)
+
+abbrev pub Begins : ℕ → List Account → Started → Type 0
+Begins limit l (not-started k) = Unit {0}
+Begins limit l (started g) = Ok g × Accounts limit l (g .core)
+
+start-begins : (limit : ℕ) (l : List Account) (g : Gateway) (ts : Tests ℕ) → (Pass ts → Begins limit l (started g)) → Begins limit l (start-unless ts g)
+unfolding start-unless
+start-begins limit l g [] h = h tt
+start-begins limit l g (t ∷ ts) h =
+    split (λ b. Begins limit l (cond b (start-unless ts g) (not-started (t .0)))) (t .1) (λ e. start-begins limit l g ts (λ u. h (e, u))) (λ e. tt)
+
+-- ---- accounts
+
+entered-length : (t : List (Option Account)) (l : List Account) → length (entered t l) ≡ length t
+entered-length t [] = refl
+entered-length t (a ∷ l) = entered-length (set t (a .id) (some a)) l ∙ length-set t (a .id) (some a)
+
+accounts-length : (limit : ℕ) (l : List Account) → length (accounts-of limit l) ≡ limit
+accounts-length limit l = entered-length (replicate limit none) l ∙ length-replicate limit none
+
+abbrev SlotFits : Option Account → Type 0
+SlotFits a = WalletFits (funds-in a)
+
+abbrev SlotsFit : List (Option Account) → Type 0
+SlotsFit t = Each SlotFits t
+
+funds-fit : (f : F.MaybeFunds) → MaybeFundsFit f → WalletFits (funds-of f)
+funds-fit F.the-variants.None h = tt
+funds-fit (F.the-variants.Some f) h = h
+
+slot-set : (t : List (Option Account)) (i : ℕ) (a : Option Account) → SlotFits a → SlotsFit t → SlotsFit (set t i a)
+slot-set [] i a h k = tt
+slot-set (x ∷ t) zero a h k = (h, k .1)
+slot-set (x ∷ t) (suc i) a h k = (k .0, slot-set t i a h (k .1))
+
+entered-fits : (t : List (Option Account)) (l : List Account) → AccountsFit l → SlotsFit t → SlotsFit (entered t l)
+entered-fits t [] h k = k
+entered-fits t (a ∷ l) h k = entered-fits (set t (a .id) (some a)) l (h .1) (slot-set t (a .id) (some a) (funds-fit (a .funds) (h .0)) k)
+
+none-fit : (n : ℕ) → SlotsFit (replicate n none)
+none-fit zero = tt
+none-fit (suc n) = (tt, none-fit n)
+
+by-slot-fits : (n : ℕ) (t : List (Option Account)) → SlotsFit t → WalletsFit (by-slot funds-in n t)
+by-slot-fits zero t h = tt
+by-slot-fits (suc n) [] h = (tt, by-slot-fits n [] tt)
+by-slot-fits (suc n) (a ∷ t) h = (h .0, by-slot-fits n t (h .1))
+
+funds-by-slot : (limit : ℕ) (l : List Account) → AccountsFit l → WalletsFit (by-slot funds-in owner-slots (accounts-of limit l))
+funds-by-slot limit l h = by-slot-fits owner-slots (accounts-of limit l) (entered-fits (replicate limit none) l h (none-fit limit))
+
+-- ---- the rest that begins
+
+no-sessions : (limit : ℕ) → SessionsOk limit (replicate session-slots none)
+no-sessions limit =
+    record { slots = length-replicate session-slots none
+    ; known = λ i. subst (Known limit) (sym (nobody session-slots i)) tt
+    ; single = λ a i j p q. absurd (let z : _≡_ {A = ℕ} 0 1 = cc (nobody session-slots i) in omega (arith, z)) }
+  where
+    nobody : (n i : ℕ) → at (replicate n none) i ≡ none
+    nobody zero i = refl
+    nobody (suc n) zero = refl
+    nobody (suc n) (suc i) = nobody n i
+
+begin-ok : (timing : Timing) (k : Ledger) (t : List (Option Account)) (d : Depth) (ns : List ℕ) → FeedOk d [] ns → RestOk (length t) (k .last) (begin timing k t d ns .rest)
+begin-ok timing k t d ns f =
+    record { sessions = no-sessions (length t); buckets = by-slot-length bucket-of owner-slots t; batch = omega arith; delivered = omega arith; feed = f }
+
+-- ---- set-up
+
+-- what the tests say of each live order
+listed-pass : (limit last : ℕ) (xs : List Listed) (os : List Order) → Pass (listed-tests limit last xs os) →
+  Each (λ o. (o .number ≤ last) × ((owners-of limit (o .number) xs ≡ true) × (listed-times (o .number) xs ≡ 1))) os
+listed-pass limit last xs [] h = tt
+listed-pass limit last xs (o ∷ os) h =
+    ((leb-true (o .number) last (h .0), (h .1 .0, eqb-true _ 1 (h .1 .1 .0))), listed-pass limit last xs os (h .1 .1 .1))
+
+live-owner : (x : Listed) → live x .account ≡ listed-owner x
+live-owner (L.Order i o s p v w) = refl
+live-owner (L.Stop i o s l q) = refl
+
+each-once : (xs all : List Listed) (limit last : ℕ) →
+  Each (λ x. (live x .number ≤ last) × ((owners-of limit (live x .number) all ≡ true) × (listed-times (live x .number) all ≡ 1))) xs →
+  Each (λ x. listed-times (listed-number x) all ≡ 1) xs
+each-once [] all limit last h = tt
+each-once (x ∷ xs) all limit last h = (subst (λ n. listed-times n all ≡ 1) (live-number x) (h .0 .1 .1), each-once xs all limit last (h .1))
+
+-- an entry's owner, of a list whose owners of its number are below the limit
+owner-in : (limit n : ℕ) (x : Listed) (xs : List Listed) → listed-number x ≡ n → owners-of limit n (x ∷ xs) ≡ true → listed-owner x < limit
+owner-in limit n x xs e h =
+    let t = and-eq-true-iff (cond (eqb (listed-number x) n) (ltb (listed-owner x) limit) true) (owners-of limit n xs) .0 h in
+    let u : ltb (listed-owner x) limit ≡ true = rw (eq-eqb (listed-number x) n e) at (t .0) in
+    ltb-true (listed-owner x) limit u
+
+owners-rest : (limit n : ℕ) (x : Listed) (xs : List Listed) → owners-of limit n (x ∷ xs) ≡ true → owners-of limit n xs ≡ true
+owners-rest limit n x xs h = and-eq-true-iff (cond (eqb (listed-number x) n) (ltb (listed-owner x) limit) true) (owners-of limit n xs) .0 h .1
+
+-- the entries, of a list that holds them
+live-inside : (limit last : ℕ) (all xs : List Listed) → ((n : ℕ) → owners-of limit n all ≡ true → owners-of limit n xs ≡ true) →
+  Each (λ x. (live x .number ≤ last) × ((owners-of limit (live x .number) all ≡ true) × (listed-times (live x .number) all ≡ 1))) xs →
+  Each (Keyed (In last limit)) (listed-orders xs)
+live-inside limit last all [] s h = tt
+live-inside limit last all (x ∷ xs) s h =
+    each-insert number-of (Keyed (In last limit)) (live x) (listed-orders xs)
+    (h .0 .0, subst (λ a. a < limit) (sym (live-owner x)) (owner-in limit (live x .number) x xs (sym (live-number x)) (s (live x .number) (h .0 .1 .0))))
+    (live-inside limit last all xs (λ n e. owners-rest limit n x xs (s n e)) (h .1))
+
+live-fits : (x : Listed) → ListedFits x → OrderFits (live x)
+live-fits (L.Order i o s p v w) h = record { ref-fits = omega arith; price-fits = h .0; leaves-fit = h .1 }
+live-fits (L.Stop i o s l q) h = record { ref-fits = omega arith; price-fits = h .0; leaves-fit = h .1 }
+
+listed-fit : (xs : List Listed) → ListingFits xs → Each OrderFits (listed-orders xs)
+listed-fit [] h = tt
+listed-fit (x ∷ xs) h = each-insert number-of OrderFits (live x) (listed-orders xs) (live-fits x (h .0)) (listed-fit xs (h .1))
+
+pub set-up-begins : (limit last : ℕ) (l : List Account) (xs : List Listed) (timing : Timing) → Unsigned last → AccountsFit l → ListingFits xs →
+  Begins limit l (set-up limit last l xs timing)
+unfolding set-up
+set-up-begins limit last l xs timing f a x =
+    start-begins limit l _ (set-up-tests limit last l xs) λ p.
+    let u = pass-append (entry-tests limit last l xs) (total-tests limit last l xs) p in
+    let t = u .0 in
+    let v = u .1 in
+    let size = accounts-length limit l in
+    let es = each-listed _ xs (listed-pass limit last xs (listed-orders xs) (t .1 .1 .1)) in
+    let ds = distinct xs (each-once xs xs limit last es) in
+    let m : limit ≤ owner-slots = leb-true limit owner-slots (t .0) in
+    let few : length xs ≤ most-orders = leb-true (length xs) most-orders (t .1 .0) in
+    (record { core-is =
+      record { slots = by-slot-length funds-in owner-slots (accounts-of limit l)
+      ; owned = by-slot-owned (accounts-of limit l) (omega arith)
+      ; rise = live-rises xs ds
+      ; inside = rw size (live-inside limit last xs xs (λ n e. e) es)
+      ; few = omega (arith, live-length xs)
+      ; runs = tt
+      ; flying = omega arith
+      ; holds = v .1 .0
+      ; limit = omega arith
+      ; fit = record { last-fits = f; money-fits = funds-by-slot limit l a; orders-fit = listed-fit xs x; mark-fits = tt } }
+    ; rest-is = begin-ok timing (listed-ledger limit last l xs) (accounts-of limit l) (listed-depth xs) []
+      (record { ascending = resting-rises xs ds; fit = v .1 .1 .0; few = listed-few xs (length xs) refl few (v .0); few-trades = omega arith; few-notices = omega arith }) },
+    record { table = refl; below = t .1 .1 .0; size = size })
