@@ -96,10 +96,13 @@ funds-by-slot limit l h = by-slot-fits owner-slots (accounts-of limit l) (entere
 
 no-sessions : (limit : ℕ) → SessionsOk limit (replicate session-slots none)
 no-sessions limit =
-    record { slots = length-replicate session-slots none
+    record { slots = length-replicate {A = Option Session} session-slots none
     ; known = λ i. subst (Known limit) (sym (nobody session-slots i)) tt
-    ; single = λ a i j p q. absurd (let z : _≡_ {A = ℕ} 0 1 = cc (nobody session-slots i) in omega (arith, z)) }
+    ; single = λ a i j p q. absurd (no-one (sym (nobody session-slots i) ∙ p)) }
   where
+    no-one : {a : ℕ} → none ≡ some a → ⊥
+    no-one e = let z : _≡_ {A = ℕ} 0 1 = cc in omega arith
+
     nobody : (n i : ℕ) → at (replicate n none) i ≡ none
     nobody zero i = refl
     nobody (suc n) zero = refl
