@@ -5,3 +5,5 @@ pub mod View
 pub mod Invariant
 pub mod Sessions
 pub mod Sorted
+pub mod Rows
+pub mod Bytes
