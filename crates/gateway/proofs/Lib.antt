@@ -1,10 +1,12 @@
 pub mod Base
 pub mod Money
+pub mod Sorted
+pub mod Rows
+pub mod Bytes
 pub mod Forget
 pub mod View
 pub mod Invariant
 pub mod Sessions
-pub mod Sorted
 pub mod Feed
 pub mod Listing
 pub mod Calls

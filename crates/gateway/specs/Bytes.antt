@@ -84,14 +84,18 @@ pub record Raw : Type 0 where
 abbrev pub write-raw : Raw → List ℕ
 write-raw r = row head-widths (r .head) ++ (section wallet-widths (r .wallets) ++ section order-widths (r .orders))
 
+abbrev pub read-parts : List ℕ → Read Raw
+read-parts xs =
+    then (read-row head-widths xs) (λ h more. then (read-section wallet-widths more) (λ ws rest. then (read-section order-widths rest) (λ os end. some (record { head = h; wallets = ws; orders = os }, end))))
+
 -- extra bytes are refused
+abbrev pub whole : {A : Type 0} → Read A → Option A
+whole none = none
+whole (some (a, [])) = some a
+whole (some (a, x ∷ end)) = none
+
 abbrev pub read-raw : List ℕ → Option Raw
-read-raw xs = go (then (read-row head-widths xs) (λ h more. then (read-section wallet-widths more) (λ ws rest. then (read-section order-widths rest) (λ os end. some (record { head = h; wallets = ws; orders = os }, end)))))
-  where
-    go : Read Raw → Option Raw
-    go none = none
-    go (some (r, [])) = some r
-    go (some (r, x ∷ end)) = none
+read-raw xs = whole (read-parts xs)
 
 -- ---- values as fields
 
@@ -181,10 +185,10 @@ well-formed r =
 unfoldable pub encode : Saved → List ℕ
 encode s = write-raw (raw s)
 
+abbrev pub checked : Option Raw → Option Saved
+checked none = none
+checked (some r) = cond (well-formed r) (some (saved r)) none
+
 -- refusal 11 is none here
 unfoldable pub decode : List ℕ → Option Saved
-decode xs = go (read-raw xs)
-  where
-    go : Option Raw → Option Saved
-    go none = none
-    go (some r) = cond (well-formed r) (some (saved r)) none
+decode xs = checked (read-raw xs)

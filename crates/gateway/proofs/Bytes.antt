@@ -1,0 +1,316 @@
+-- The checkpoint's bytes: contents that fit are read back from their bytes, bytes that are read are the only ones for their contents, and these fit.
+-- Assumes nothing.
+use Prim.Native.Nat.{ℕ, zero, suc, _+_, _*_, _^_, _/_, _%_, _<_, _≤_}
+use mathlib.Core.Bool.{Bool, true, false, cond, _&&_, _||_, and-eq-true-iff}
+use mathlib.Core.Path.{_≡_, refl, ap, ap₂, sym, _∙_, subst}
+use mathlib.Core.Option.{Option, none, some}
+use mathlib.Core.List.{List, [], _∷_, _++_, map, append-nil}
+use native.Mathlib.Omega.{arith}
+use borrow.Author.Tests.{leb-true, le-leb, eqb-true, eqb-false}
+use native.Mathlib.Nat.{mod-add-div}
+use lib.Dec.{eqb, leb}
+use lib.IntN.{ℤ, pos, negsuc}
+use lib.ListN.{length, getD, length-append, length-map}
+use mir.Syntax.{w64}
+use mir.Val.{ofZ, toZ, SFits}
+use mir.ValLaws.{toZ-fits, ofZ-toZ}
+use Rattle.orderbook.specs.declared.Side.{Side}
+use Rattle.orderbook.specs.declared.Side.the-variants.{Buy, Sell}
+use Rattle.orderbook.specs.declared.MaybePrice.{MaybePrice}
+use Rattle.orderbook.specs.declared.MaybePrice.the-variants.{None, Some}
+use Rattle.accounts.specs.declared.Funds.{Funds}
+use Rattle.words.specs.Words.{place-of, fit-in, inside, above}
+use Rattle.gateway.specs.Limits.{word, owner-slots, most-orders}
+use Rattle.gateway.specs.Basics.{is-some}
+use Rattle.gateway.specs.Ledger.{Order, fits, number-of}
+use Rattle.gateway.specs.Fits.{Unsigned, Signed, PriceFits, FundsFit, Bytes}
+use Rattle.gateway.specs.Saved.{Saved}
+use Rattle.gateway.specs.Bytes.{Read, row, section, head-widths, wallet-widths, order-widths, Raw, write-raw, read-parts, whole, read-section, read-raw, price-word, price-flag, buy-flag, price-from, side-from}
+use Rattle.gateway.specs.Bytes.{wallet-row, order-row, raw, row-wallet, row-order, saved, price-ok, flags-ok, keys-rise, all-rows, well-formed, encode, checked, decode}
+use Rattle.gateway.proofs.Base.{split}
+use Rattle.gateway.proofs.Money.{word-back}
+use Rattle.gateway.proofs.Invariant.{OrderFits}
+use Rattle.gateway.proofs.Sorted.{Each, Rises}
+use Rattle.gateway.proofs.Rows.{Fit, done, field, FitRows, row-back, section-back, Of, missing, got, of-then, of-map, Wrote, chain, row-only, section-only, bytes-append, row-bytes, section-bytes, section-length}
+
+-- ---- the three parts, as numbers
+
+record RawFits (r : Raw) : Type 0 where
+  head-fits : Fit head-widths (r .head)
+  wallets-fit : FitRows wallet-widths (r .wallets)
+  orders-fit : FitRows order-widths (r .orders)
+
+raw-back : (r : Raw) → RawFits r → read-raw (write-raw r) ≡ some r
+raw-back r f =
+    let os = section order-widths (r .orders) in
+    let ws = section wallet-widths (r .wallets) in
+    let e : read-section order-widths os ≡ some (r .orders, []) = ap (read-section order-widths) (sym (append-nil os)) ∙ section-back order-widths (r .orders) (f .orders-fit) [] in
+    rw (row-back (f .head-fits) (ws ++ os), section-back wallet-widths (r .wallets) (f .wallets-fit) os, e)
+
+parts-only : (xs : List ℕ) → Bytes xs → Of (Wrote RawFits write-raw xs) (read-parts xs)
+parts-only xs b =
+    of-then (row-only head-widths xs b)
+    (λ h more k. of-then (section-only wallet-widths more (k .more))
+    (λ ws rest l. of-then (section-only order-widths rest (l .more))
+    (λ os end m. got (record { head = h; wallets = ws; orders = os }) end (record {
+      good = record { head-fits = k .good; wallets-fit = l .good; orders-fit = m .good };
+      same = chain (row head-widths h) _ end (k .same) (chain (section wallet-widths ws) (section order-widths os) end (l .same) (m .same));
+      more = m .more;
+    }))))
+
+whole-only : {A : Type 0} {Good : A → Type 0} {write : A → List ℕ} {xs : List ℕ} {r : Read A} → Of (Wrote Good write xs) r → (a : A) → whole r ≡ some a → Good a × (write a ≡ xs)
+whole-only missing a e = let z : _≡_ {A = ℕ} 0 1 = cc in absurd (omega (arith, z))
+whole-only (got b [] h) a e = let p : b ≡ a = cc in rw (← p) (h .good, sym (append-nil _) ∙ h .same)
+whole-only (got b (y ∷ ys) h) a e = let z : _≡_ {A = ℕ} 0 1 = cc in absurd (omega (arith, z))
+
+-- ---- words and prices
+
+-- a number that fits has a word
+word-of : (z : ℤ) → Signed z → Unsigned (ofZ w64 z)
+unfolding fits place-of
+word-of (pos n) h =
+    split (λ b. (leb n 9223372036854775807 ≡ b) → is-some (fit-in (cond b (inside (pos n)) above)) ≡ true → n < word) (leb n 9223372036854775807)
+    (λ _ e h. omega (arith, leb-true n 9223372036854775807 e)) (λ _ e h. absurd (let z : _≡_ {A = ℕ} 0 1 = cc in omega (arith, z))) refl h
+word-of (negsuc n) h = omega arith
+
+-- a word's number fits
+word-fits : (w : ℕ) → Unsigned w → Signed (toZ w64 w)
+unfolding fits place-of
+word-fits w h = go (toZ w64 w) (toZ-fits w64 w (record { fits = h }))
+  where
+    go : (z : ℤ) → SFits w64 z → Signed z
+    go (pos n) h = rw (le-leb n 9223372036854775807 (omega (arith, h .sfits)))
+    go (negsuc n) h = rw (le-leb n 9223372036854775807 (omega (arith, h .sfits)))
+
+price-back : (p : MaybePrice) → PriceFits p → price-from (price-flag p) (price-word p) ≡ p
+price-back None h = refl
+price-back (Some p) h = ap Some (word-back p h)
+
+-- a price's fields fit and are well formed
+price-row : (p : MaybePrice) → PriceFits p → (price-flag p < 2) × Unsigned (price-word p) × (price-ok (price-flag p) (price-word p) ≡ true)
+price-row None h = (omega arith, omega arith, refl)
+price-row (Some p) h = (omega arith, word-of p h, refl)
+
+-- well-formed fields are those of their price, which fits
+price-only : (flag w : ℕ) → Unsigned w → price-ok flag w ≡ true → (price-flag (price-from flag w) ≡ flag) × (price-word (price-from flag w) ≡ w) × PriceFits (price-from flag w)
+price-only flag w h =
+    split (λ b. (eqb flag 1 ≡ b) → b || (eqb flag 0 && eqb w 0) ≡ true → let p = cond b (Some (toZ w64 w)) None in (price-flag p ≡ flag) × (price-word p ≡ w) × PriceFits p) (eqb flag 1)
+    (λ _ e k. (sym (eqb-true flag 1 e), ofZ-toZ w64 w (record { fits = h }), word-fits w h))
+    (λ _ e k. let t = and-eq-true-iff (eqb flag 0) (eqb w 0) .0 k in (sym (eqb-true flag 0 (t .0)), sym (eqb-true w 0 (t .1)), tt)) refl
+
+buy-small : (s : Side) → buy-flag s < 2
+buy-small Buy = omega arith
+buy-small Sell = omega arith
+
+side-back : (s : Side) → side-from (buy-flag s) ≡ s
+side-back Buy = refl
+side-back Sell = refl
+
+side-only : (n : ℕ) → n < 2 → buy-flag (side-from n) ≡ n
+side-only n h = split (λ b. (eqb n 1 ≡ b) → buy-flag (cond b Buy Sell) ≡ n) (eqb n 1) (λ _ e. sym (eqb-true n 1 e)) (λ _ e. let d = eqb-false n 1 e in omega arith) refl
+
+-- ---- rows of values
+
+pub record WalletFits (w : ℕ × Funds) : Type 0 where
+  pub account-fits : w .0 < 2 ^ 32
+  pub money-fits : FundsFit (w .1)
+
+pub record SavedOrder (o : Order) : Type 0 where
+  pub number-fits : Unsigned (o .number)
+  pub account-fits : o .account < 2 ^ 32
+  pub values-fit : OrderFits o
+
+-- good values have rows that fit and are fine, from which they are read back; such rows are those of their values, which are good
+record Codes {A : Type 0} (Good : A → Type 0) (ws : List ℕ) (fine : List ℕ → Bool) (to : A → List ℕ) (from : List ℕ → A) : Type 0 where
+  back : (a : A) → Good a → Fit ws (to a) × (fine (to a) ≡ true) × (from (to a) ≡ a)
+  only : (r : List ℕ) → Fit ws r → fine r ≡ true → Good (from r) × (to (from r) ≡ r)
+
+-- the contents' last number and reference price, as one value
+abbrev Head : Type 0
+Head = ℕ × MaybePrice
+
+abbrev HeadFits : Head → Type 0
+HeadFits h = Unsigned (h .0) × PriceFits (h .1)
+
+abbrev head-row : Head → List ℕ
+head-row h = h .0 ∷ price-flag (h .1) ∷ price-word (h .1) ∷ []
+
+abbrev row-head : List ℕ → Head
+row-head r = (getD r 0 0, price-from (getD r 1 0) (getD r 2 0))
+
+abbrev head-ok : List ℕ → Bool
+head-ok r = price-ok (getD r 1 0) (getD r 2 0)
+
+head-back : (h : Head) → HeadFits h → Fit head-widths (head-row h) × (head-ok (head-row h) ≡ true) × (row-head (head-row h) ≡ h)
+head-back h g =
+    let p = price-row (h .1) (g .1) in
+    let f : price-flag (h .1) < 256 = omega (arith, p .0) in
+    (field (g .0) (field f (field (p .1) done)), p .2, rw (price-back (h .1) (g .1)))
+
+head-only : (r : List ℕ) → Fit head-widths r → head-ok r ≡ true → HeadFits (row-head r) × (head-row (row-head r) ≡ r)
+head-only _ (field n (field {v = f} k (field {v = w} p done))) e = let q = price-only f w p e in ((n, q .2), rw (q .0, q .1))
+
+wallet-back : (w : ℕ × Funds) → WalletFits w → Fit wallet-widths (wallet-row w) × (true ≡ true) × (row-wallet (wallet-row w) ≡ w)
+wallet-back w h = (
+  field (h .account-fits) (field (word-of (w .1 .cash) (h .money-fits .0)) (field (word-of (w .1 .position) (h .money-fits .1)) done)),
+  refl,
+  rw (word-back (w .1 .cash) (h .money-fits .0), word-back (w .1 .position) (h .money-fits .1)),
+)
+
+wallet-only : (r : List ℕ) → Fit wallet-widths r → true ≡ true → WalletFits (row-wallet r) × (wallet-row (row-wallet r) ≡ r)
+wallet-only _ (field a (field {v = c} h (field {v = p} k done))) _ = (
+  record { account-fits = a; money-fits = (word-fits c h, word-fits p k) },
+  rw (ofZ-toZ w64 c (record { fits = h }), ofZ-toZ w64 p (record { fits = k })),
+)
+
+wallet-codes : Codes WalletFits wallet-widths (λ r. true) wallet-row row-wallet
+wallet-codes = record { back = wallet-back; only = wallet-only }
+
+order-back : (o : Order) → SavedOrder o → Fit order-widths (order-row o) × (flags-ok (order-row o) ≡ true) × (row-order (order-row o) ≡ o)
+order-back o h =
+    let v = h .values-fit in
+    let p = price-row (o .price) (v .price-fits) in
+    let b = buy-small (o .side) in
+    let q : (buy-flag (o .side) + 2 * price-flag (o .price)) / 2 ≡ price-flag (o .price) = omega arith in
+    let m : (buy-flag (o .side) + 2 * price-flag (o .price)) % 2 ≡ buy-flag (o .side) = omega arith in
+    let f : buy-flag (o .side) + 2 * price-flag (o .price) < 256 = omega (arith, p .0) in
+    (
+      field (h .number-fits) (field (h .account-fits) (field (v .ref-fits) (field f (field (p .1) (field (v .leaves-fit) done))))),
+      rw q (p .2),
+      rw (q, m, price-back (o .price) (v .price-fits), side-back (o .side)),
+    )
+
+order-only : (r : List ℕ) → Fit order-widths r → flags-ok r ≡ true → SavedOrder (row-order r) × (order-row (row-order r) ≡ r)
+order-only _ (field n (field a (field c (field {v = f} k (field {v = w} p (field l done)))))) e =
+    let q = price-only (f / 2) w p e in
+    (
+      record { number-fits = n; account-fits = a; values-fit = record { ref-fits = c; price-fits = q .2; leaves-fit = l } },
+      rw (q .0, q .1, side-only (f % 2) (omega arith), mod-add-div f 2),
+    )
+
+order-codes : Codes SavedOrder order-widths flags-ok order-row row-order
+order-codes = record { back = order-back; only = order-only }
+
+-- a table ascending by key and its rows
+module _ {A : Type 0} {Good : A → Type 0} {ws : List ℕ} {fine : List ℕ → Bool} {to : A → List ℕ} {from : List ℕ → A} (key : A → ℕ) (first : (a : A) → getD (to a) 0 0 ≡ key a)
+    (c : Codes Good ws fine to from) where
+  table-back : (k : ℕ) (l : List A) → Rises key k l → Each Good l → Each (Fit ws) (map to l) × (keys-rise k (map to l) ≡ true) × (all-rows fine (map to l) ≡ true) × (map from (map to l) ≡ l)
+  table-back k [] t u = (tt, refl, refl, refl)
+  table-back k (x ∷ l) t u =
+      let b = c .back x (u .0) in
+      let h = table-back (suc (key x)) l (t .1) (u .1) in
+      ((b .0, h .0), rw (first x, le-leb k (key x) (t .0), h .1), rw (b .1, h .2), ap₂ (λ a m. a ∷ m) (b .2) (h .3))
+
+  table-only : (k : ℕ) (rs : List (List ℕ)) → Each (Fit ws) rs → keys-rise k rs ≡ true → all-rows fine rs ≡ true → Rises key k (map from rs) × Each Good (map from rs) × (map to (map from rs) ≡ rs)
+  table-only k [] t u v = (tt, tt, refl)
+  table-only k (r ∷ rs) t u v =
+      let p = and-eq-true-iff (leb k (getD r 0 0)) _ .0 u in
+      let q = and-eq-true-iff (fine r) _ .0 v in
+      let b = c .only r (t .0) (q .0) in
+      let h = table-only (suc (getD r 0 0)) rs (t .1) (p .1) (q .1) in
+      let e : key (from r) ≡ getD r 0 0 = sym (first (from r)) ∙ ap (λ l. getD l 0 0) (b .1) in
+      ((omega (arith, leb-true k (getD r 0 0) (p .0)), rw e (h .0)), (b .0, h .1), ap₂ (λ a m. a ∷ m) (b .1) (h .2))
+
+-- ---- the contents
+
+-- every number fits its field, the counts their limits, and the keys rise
+pub record SavedFits (s : Saved) : Type 0 where
+  pub last-fits : Unsigned (s .last)
+  pub mark-fits : PriceFits (s .mark)
+  pub wallets-few : length (s .wallets) ≤ owner-slots
+  pub wallets-fit : Each WalletFits (s .wallets)
+  pub wallets-rise : Rises (λ w. w .0) 0 (s .wallets)
+  pub orders-few : length (s .orders) ≤ most-orders
+  pub orders-fit : Each SavedOrder (s .orders)
+  pub orders-rise : Rises number-of 0 (s .orders)
+
+-- wallets have no flags
+no-flags : (rs : List (List ℕ)) → all-rows (λ r. true) rs ≡ true
+no-flags [] = refl
+no-flags (r ∷ rs) = no-flags rs
+
+saved-back : (s : Saved) → SavedFits s → RawFits (raw s) × (well-formed (raw s) ≡ true) × (saved (raw s) ≡ s)
+unfolding well-formed
+saved-back s f =
+    let h = head-back (s .last, s .mark) (f .last-fits, f .mark-fits) in
+    let w = table-back (λ w. w .0) (λ w. refl) wallet-codes 0 (s .wallets) (f .wallets-rise) (f .wallets-fit) in
+    let o = table-back number-of (λ o. refl) order-codes 0 (s .orders) (f .orders-rise) (f .orders-fit) in
+    let m : length (map wallet-row (s .wallets)) ≤ owner-slots = rw length-map (f .wallets-few) in
+    let n : length (map order-row (s .orders)) ≤ most-orders = rw length-map (f .orders-few) in
+    (
+      record { head-fits = h .0; wallets-fit = record { count = omega arith; each = w .0 }; orders-fit = record { count = omega arith; each = o .0 } },
+      rw (h .1, le-leb _ owner-slots m, w .1, le-leb _ most-orders n, o .1, o .2),
+      rw (ap (λ p. p .1) (h .2), w .3, o .3),
+    )
+
+saved-only : (r : Raw) → RawFits r → well-formed r ≡ true → SavedFits (saved r) × (raw (saved r) ≡ r)
+unfolding well-formed
+saved-only r f e =
+    let p = and-eq-true-iff (head-ok (r .head)) _ .0 e in
+    let q = and-eq-true-iff (leb (length (r .wallets)) owner-slots) _ .0 (p .1) in
+    let t = and-eq-true-iff (keys-rise 0 (r .wallets)) _ .0 (q .1) in
+    let u = and-eq-true-iff (leb (length (r .orders)) most-orders) _ .0 (t .1) in
+    let v = and-eq-true-iff (keys-rise 0 (r .orders)) _ .0 (u .1) in
+    let h = head-only (r .head) (f .head-fits) (p .0) in
+    let w = table-only (λ w. w .0) (λ w. refl) wallet-codes 0 (r .wallets) (f .wallets-fit .each) (t .0) (no-flags (r .wallets)) in
+    let o = table-only number-of (λ o. refl) order-codes 0 (r .orders) (f .orders-fit .each) (v .0) (v .1) in
+    (
+      record {
+        last-fits = h .0 .0;
+        mark-fits = h .0 .1;
+        wallets-few = rw length-map (leb-true (length (r .wallets)) owner-slots (q .0));
+        wallets-fit = w .1;
+        wallets-rise = w .0;
+        orders-few = rw length-map (leb-true (length (r .orders)) most-orders (u .0));
+        orders-fit = o .1;
+        orders-rise = o .0;
+      },
+      rw (h .1, w .2, o .2),
+    )
+
+checked-only : (o : Option Raw) (s : Saved) → checked o ≡ some s → (r : Raw) × (o ≡ some r) × (well-formed r ≡ true) × (saved r ≡ s)
+checked-only none s e = let z : _≡_ {A = ℕ} 0 1 = cc in absurd (omega (arith, z))
+checked-only (some r) s e = go (well-formed r) refl e
+  where
+    go : (b : Bool) → well-formed r ≡ b → cond b (some (saved r)) none ≡ some s → (x : Raw) × (some r ≡ some x) × (well-formed x ≡ true) × (saved x ≡ s)
+    go true p q = (r, refl, p, cc)
+    go false p q = let z : _≡_ {A = ℕ} 0 1 = cc in absurd (omega (arith, z))
+
+-- contents that fit are read back from their bytes
+pub decode-encode : (s : Saved) → SavedFits s → decode (encode s) ≡ some s
+unfolding decode encode
+decode-encode s f = let t = saved-back s f in rw (raw-back (raw s) (t .0), t .1, t .2)
+
+-- bytes that are read hold contents that fit, and are those written for them
+decode-only : (xs : List ℕ) (s : Saved) → Bytes xs → decode xs ≡ some s → SavedFits s × (encode s ≡ xs)
+unfolding decode encode
+decode-only xs s b e =
+    let c = checked-only (read-raw xs) s e in
+    let t = whole-only (parts-only xs b) (c .0) (c .1) in
+    let u = saved-only (c .0) (t .0) (c .2) in
+    (rw (c .3) at (u .0), ap (λ x. write-raw (raw x)) (sym (c .3)) ∙ ap write-raw (u .1) ∙ t .1)
+
+pub encode-decode : (xs : List ℕ) (s : Saved) → Bytes xs → decode xs ≡ some s → encode s ≡ xs
+encode-decode xs s b e = decode-only xs s b e .1
+
+pub decode-fits : (xs : List ℕ) (s : Saved) → Bytes xs → decode xs ≡ some s → SavedFits s
+decode-fits xs s b e = decode-only xs s b e .0
+
+-- ---- bytes and lengths
+
+pub encode-bytes : (s : Saved) → Bytes (encode s)
+unfolding encode
+encode-bytes s =
+    let ws = section wallet-widths (raw s .wallets) in
+    let os = section order-widths (raw s .orders) in
+    bytes-append (row head-widths (raw s .head)) (ws ++ os) (row-bytes head-widths (raw s .head)) (bytes-append ws os (section-bytes wallet-widths (raw s .wallets)) (section-bytes order-widths (raw s .orders)))
+
+pub encode-length : (s : Saved) → length (encode s) ≡ 25 + (20 * length (s .wallets) + 37 * length (s .orders))
+unfolding encode
+encode-length s =
+    let w = section-length wallet-widths wallet-row 20 (λ w. refl) (s .wallets) in
+    let o = section-length order-widths order-row 37 (λ o. refl) (s .orders) in
+    omega (arith, w, o, length-append (section wallet-widths (raw s .wallets)) (section order-widths (raw s .orders)))
+
+pub encode-short : (s : Saved) → SavedFits s → length (encode s) ≤ 43033
+encode-short s f = omega (arith, encode-length s, f .wallets-few, f .orders-few)
