@@ -31,7 +31,7 @@ use Rattle.gateway.proofs.Base.{split}
 use Rattle.gateway.proofs.Money.{word-back}
 use Rattle.gateway.proofs.Invariant.{OrderFits}
 use Rattle.gateway.proofs.Sorted.{Each, Rises}
-use Rattle.gateway.proofs.Rows.{Fit, done, field, FitRows, row-back, section-back, Of, missing, got, of-then, of-map, Wrote, chain, row-only, section-only, bytes-append, row-bytes, section-bytes, section-length}
+use Rattle.gateway.proofs.Rows.{Fit, done, field, FitRows, row-back, section-back, Of, missing, got, of-then, of-map, Wrote, chain, row-only, section-only, bytes-append, row-bytes, section-bytes, rows-length}
 
 -- ---- the three parts, as numbers
 
@@ -82,14 +82,10 @@ word-fits w h = go (toZ w64 w) (toZ-fits w64 w (record { fits = h }))
     go (pos n) h = rw (le-leb n 9223372036854775807 (omega (arith, h .sfits)))
     go (negsuc n) h = rw (le-leb n 9223372036854775807 (omega (arith, h .sfits)))
 
-price-back : (p : MaybePrice) → PriceFits p → price-from (price-flag p) (price-word p) ≡ p
-price-back None h = refl
-price-back (Some p) h = ap Some (word-back p h)
-
--- a price's fields fit and are well formed
-price-row : (p : MaybePrice) → PriceFits p → (price-flag p < 2) × Unsigned (price-word p) × (price-ok (price-flag p) (price-word p) ≡ true)
-price-row None h = (omega arith, omega arith, refl)
-price-row (Some p) h = (omega arith, word-of p h, refl)
+-- a price that fits: its fields fit and are well formed, and give it back
+price-back : (p : MaybePrice) → PriceFits p → (price-flag p < 2) × Unsigned (price-word p) × (price-ok (price-flag p) (price-word p) ≡ true) × (price-from (price-flag p) (price-word p) ≡ p)
+price-back None h = (omega arith, omega arith, refl, refl)
+price-back (Some p) h = (omega arith, word-of p h, refl, ap Some (word-back p h))
 
 -- well-formed fields are those of their price, which fits
 price-only : (flag w : ℕ) → Unsigned w → price-ok flag w ≡ true → (price-flag (price-from flag w) ≡ flag) × (price-word (price-from flag w) ≡ w) × PriceFits (price-from flag w)
@@ -98,20 +94,16 @@ price-only flag w h =
     (λ _ e k. (sym (eqb-true flag 1 e), ofZ-toZ w64 w (record { fits = h }), word-fits w h))
     (λ _ e k. let t = and-eq-true-iff (eqb flag 0) (eqb w 0) .0 k in (sym (eqb-true flag 0 (t .0)), sym (eqb-true w 0 (t .1)), tt)) refl
 
-buy-small : (s : Side) → buy-flag s < 2
-buy-small Buy = omega arith
-buy-small Sell = omega arith
-
-side-back : (s : Side) → side-from (buy-flag s) ≡ s
-side-back Buy = refl
-side-back Sell = refl
+side-back : (s : Side) → (buy-flag s < 2) × (side-from (buy-flag s) ≡ s)
+side-back Buy = (omega arith, refl)
+side-back Sell = (omega arith, refl)
 
 side-only : (n : ℕ) → n < 2 → buy-flag (side-from n) ≡ n
 side-only n h = split (λ b. (eqb n 1 ≡ b) → buy-flag (cond b Buy Sell) ≡ n) (eqb n 1) (λ _ e. sym (eqb-true n 1 e)) (λ _ e. let d = eqb-false n 1 e in omega arith) refl
 
 -- ---- rows of values
 
-pub record WalletFits (w : ℕ × Funds) : Type 0 where
+pub record SavedWallet (w : ℕ × Funds) : Type 0 where
   pub account-fits : w .0 < 2 ^ 32
   pub money-fits : FundsFit (w .1)
 
@@ -125,65 +117,42 @@ record Codes {A : Type 0} (Good : A → Type 0) (ws : List ℕ) (fine : List ℕ
   back : (a : A) → Good a → Fit ws (to a) × (fine (to a) ≡ true) × (from (to a) ≡ a)
   only : (r : List ℕ) → Fit ws r → fine r ≡ true → Good (from r) × (to (from r) ≡ r)
 
--- the contents' last number and reference price, as one value
-abbrev Head : Type 0
-Head = ℕ × MaybePrice
+head-only : (r : List ℕ) → Fit head-widths r → price-ok (getD r 1 0) (getD r 2 0) ≡ true
+    → let p = price-from (getD r 1 0) (getD r 2 0) in Unsigned (getD r 0 0) × PriceFits p × (getD r 0 0 ∷ price-flag p ∷ price-word p ∷ [] ≡ r)
+head-only _ (field n (field {v = f} k (field {v = w} p done))) e = let q = price-only f w p e in (n, q .2, rw (q .0, q .1))
 
-abbrev HeadFits : Head → Type 0
-HeadFits h = Unsigned (h .0) × PriceFits (h .1)
-
-abbrev head-row : Head → List ℕ
-head-row h = h .0 ∷ price-flag (h .1) ∷ price-word (h .1) ∷ []
-
-abbrev row-head : List ℕ → Head
-row-head r = (getD r 0 0, price-from (getD r 1 0) (getD r 2 0))
-
-abbrev head-ok : List ℕ → Bool
-head-ok r = price-ok (getD r 1 0) (getD r 2 0)
-
-head-back : (h : Head) → HeadFits h → Fit head-widths (head-row h) × (head-ok (head-row h) ≡ true) × (row-head (head-row h) ≡ h)
-head-back h g =
-    let p = price-row (h .1) (g .1) in
-    let f : price-flag (h .1) < 256 = omega (arith, p .0) in
-    (field (g .0) (field f (field (p .1) done)), p .2, rw (price-back (h .1) (g .1)))
-
-head-only : (r : List ℕ) → Fit head-widths r → head-ok r ≡ true → HeadFits (row-head r) × (head-row (row-head r) ≡ r)
-head-only _ (field n (field {v = f} k (field {v = w} p done))) e = let q = price-only f w p e in ((n, q .2), rw (q .0, q .1))
-
-wallet-back : (w : ℕ × Funds) → WalletFits w → Fit wallet-widths (wallet-row w) × (true ≡ true) × (row-wallet (wallet-row w) ≡ w)
+wallet-back : (w : ℕ × Funds) → SavedWallet w → Fit wallet-widths (wallet-row w) × (true ≡ true) × (row-wallet (wallet-row w) ≡ w)
 wallet-back w h = (
   field (h .account-fits) (field (word-of (w .1 .cash) (h .money-fits .0)) (field (word-of (w .1 .position) (h .money-fits .1)) done)),
   refl,
   rw (word-back (w .1 .cash) (h .money-fits .0), word-back (w .1 .position) (h .money-fits .1)),
 )
 
-wallet-only : (r : List ℕ) → Fit wallet-widths r → true ≡ true → WalletFits (row-wallet r) × (wallet-row (row-wallet r) ≡ r)
+wallet-only : (r : List ℕ) → Fit wallet-widths r → true ≡ true → SavedWallet (row-wallet r) × (wallet-row (row-wallet r) ≡ r)
 wallet-only _ (field a (field {v = c} h (field {v = p} k done))) _ = (
   record { account-fits = a; money-fits = (word-fits c h, word-fits p k) },
   rw (ofZ-toZ w64 c (record { fits = h }), ofZ-toZ w64 p (record { fits = k })),
 )
 
-wallet-codes : Codes WalletFits wallet-widths (λ r. true) wallet-row row-wallet
+wallet-codes : Codes SavedWallet wallet-widths (λ r. true) wallet-row row-wallet
 wallet-codes = record { back = wallet-back; only = wallet-only }
 
 order-back : (o : Order) → SavedOrder o → Fit order-widths (order-row o) × (flags-ok (order-row o) ≡ true) × (row-order (order-row o) ≡ o)
 order-back o h =
     let v = h .values-fit in
-    let p = price-row (o .price) (v .price-fits) in
-    let b = buy-small (o .side) in
+    let p = price-back (o .price) (v .price-fits) in
+    let b = side-back (o .side) in
+    let f : buy-flag (o .side) + 2 * price-flag (o .price) < 256 = omega arith in
     let q : (buy-flag (o .side) + 2 * price-flag (o .price)) / 2 ≡ price-flag (o .price) = omega arith in
-    let m : (buy-flag (o .side) + 2 * price-flag (o .price)) % 2 ≡ buy-flag (o .side) = omega arith in
-    let f : buy-flag (o .side) + 2 * price-flag (o .price) < 256 = omega (arith, p .0) in
-    (
+    let m : (buy-flag (o .side) + 2 * price-flag (o .price)) % 2 ≡ buy-flag (o .side) = omega arith in (
       field (h .number-fits) (field (h .account-fits) (field (v .ref-fits) (field f (field (p .1) (field (v .leaves-fit) done))))),
       rw q (p .2),
-      rw (q, m, price-back (o .price) (v .price-fits), side-back (o .side)),
+      rw (q, m, p .3, b .1),
     )
 
 order-only : (r : List ℕ) → Fit order-widths r → flags-ok r ≡ true → SavedOrder (row-order r) × (order-row (row-order r) ≡ r)
 order-only _ (field n (field a (field c (field {v = f} k (field {v = w} p (field l done)))))) e =
-    let q = price-only (f / 2) w p e in
-    (
+    let q = price-only (f / 2) w p e in (
       record { number-fits = n; account-fits = a; values-fit = record { ref-fits = c; price-fits = q .2; leaves-fit = l } },
       rw (q .0, q .1, side-only (f % 2) (omega arith), mod-add-div f 2),
     )
@@ -218,7 +187,7 @@ pub record SavedFits (s : Saved) : Type 0 where
   pub last-fits : Unsigned (s .last)
   pub mark-fits : PriceFits (s .mark)
   pub wallets-few : length (s .wallets) ≤ owner-slots
-  pub wallets-fit : Each WalletFits (s .wallets)
+  pub wallets-fit : Each SavedWallet (s .wallets)
   pub wallets-rise : Rises (λ w. w .0) 0 (s .wallets)
   pub orders-few : length (s .orders) ≤ most-orders
   pub orders-fit : Each SavedOrder (s .orders)
@@ -232,32 +201,31 @@ no-flags (r ∷ rs) = no-flags rs
 saved-back : (s : Saved) → SavedFits s → RawFits (raw s) × (well-formed (raw s) ≡ true) × (saved (raw s) ≡ s)
 unfolding well-formed
 saved-back s f =
-    let h = head-back (s .last, s .mark) (f .last-fits, f .mark-fits) in
+    let p = price-back (s .mark) (f .mark-fits) in
+    let k : price-flag (s .mark) < 256 = omega arith in
     let w = table-back (λ w. w .0) (λ w. refl) wallet-codes 0 (s .wallets) (f .wallets-rise) (f .wallets-fit) in
     let o = table-back number-of (λ o. refl) order-codes 0 (s .orders) (f .orders-rise) (f .orders-fit) in
     let m : length (map wallet-row (s .wallets)) ≤ owner-slots = rw length-map (f .wallets-few) in
-    let n : length (map order-row (s .orders)) ≤ most-orders = rw length-map (f .orders-few) in
-    (
-      record { head-fits = h .0; wallets-fit = record { count = omega arith; each = w .0 }; orders-fit = record { count = omega arith; each = o .0 } },
-      rw (h .1, le-leb _ owner-slots m, w .1, le-leb _ most-orders n, o .1, o .2),
-      rw (ap (λ p. p .1) (h .2), w .3, o .3),
+    let n : length (map order-row (s .orders)) ≤ most-orders = rw length-map (f .orders-few) in (
+      record { head-fits = field (f .last-fits) (field k (field (p .1) done)); wallets-fit = record { count = omega arith; each = w .0 }; orders-fit = record { count = omega arith; each = o .0 } },
+      rw (p .2, le-leb _ owner-slots m, w .1, le-leb _ most-orders n, o .1, o .2),
+      rw (p .3, w .3, o .3),
     )
 
 saved-only : (r : Raw) → RawFits r → well-formed r ≡ true → SavedFits (saved r) × (raw (saved r) ≡ r)
 unfolding well-formed
 saved-only r f e =
-    let p = and-eq-true-iff (head-ok (r .head)) _ .0 e in
+    let p = and-eq-true-iff (price-ok (getD (r .head) 1 0) (getD (r .head) 2 0)) _ .0 e in
     let q = and-eq-true-iff (leb (length (r .wallets)) owner-slots) _ .0 (p .1) in
     let t = and-eq-true-iff (keys-rise 0 (r .wallets)) _ .0 (q .1) in
     let u = and-eq-true-iff (leb (length (r .orders)) most-orders) _ .0 (t .1) in
     let v = and-eq-true-iff (keys-rise 0 (r .orders)) _ .0 (u .1) in
     let h = head-only (r .head) (f .head-fits) (p .0) in
     let w = table-only (λ w. w .0) (λ w. refl) wallet-codes 0 (r .wallets) (f .wallets-fit .each) (t .0) (no-flags (r .wallets)) in
-    let o = table-only number-of (λ o. refl) order-codes 0 (r .orders) (f .orders-fit .each) (v .0) (v .1) in
-    (
+    let o = table-only number-of (λ o. refl) order-codes 0 (r .orders) (f .orders-fit .each) (v .0) (v .1) in (
       record {
-        last-fits = h .0 .0;
-        mark-fits = h .0 .1;
+        last-fits = h .0;
+        mark-fits = h .1;
         wallets-few = rw length-map (leb-true (length (r .wallets)) owner-slots (q .0));
         wallets-fit = w .1;
         wallets-rise = w .0;
@@ -265,7 +233,7 @@ saved-only r f e =
         orders-fit = o .1;
         orders-rise = o .0;
       },
-      rw (h .1, w .2, o .2),
+      rw (h .2, w .2, o .2),
     )
 
 checked-only : (o : Option Raw) (s : Saved) → checked o ≡ some s → (r : Raw) × (o ≡ some r) × (well-formed r ≡ true) × (saved r ≡ s)
@@ -308,8 +276,8 @@ encode-bytes s =
 pub encode-length : (s : Saved) → length (encode s) ≡ 25 + (20 * length (s .wallets) + 37 * length (s .orders))
 unfolding encode
 encode-length s =
-    let w = section-length wallet-widths wallet-row 20 (λ w. refl) (s .wallets) in
-    let o = section-length order-widths order-row 37 (λ o. refl) (s .orders) in
+    let w = rows-length wallet-widths wallet-row 20 (λ w. refl) (s .wallets) in
+    let o = rows-length order-widths order-row 37 (λ o. refl) (s .orders) in
     omega (arith, w, o, length-append (section wallet-widths (raw s .wallets)) (section order-widths (raw s .orders)))
 
 pub encode-short : (s : Saved) → SavedFits s → length (encode s) ≤ 43033

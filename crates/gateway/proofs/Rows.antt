@@ -118,10 +118,7 @@ rows-bytes ws (r ∷ rs) = bytes-append (row ws r) (rows ws rs) (row-bytes ws r)
 pub section-bytes : (ws : List ℕ) (rs : List (List ℕ)) → Bytes (section ws rs)
 section-bytes ws rs = bytes-append (number 4 (length rs)) (rows ws rs) (number-bytes 4 (length rs)) (rows-bytes ws rs)
 
-rows-length : {A : Type 0} (ws : List ℕ) (to : A → List ℕ) (n : ℕ) → ((a : A) → length (row ws (to a)) ≡ n) → (l : List A) → length (rows ws (map to l)) ≡ n * length l
+-- rows of n bytes each
+pub rows-length : {A : Type 0} (ws : List ℕ) (to : A → List ℕ) (n : ℕ) → ((a : A) → length (row ws (to a)) ≡ n) → (l : List A) → length (rows ws (map to l)) ≡ n * length l
 rows-length ws to n h [] = omega arith
 rows-length ws to n h (x ∷ l) = rw (length-append, h x, rows-length ws to n h l) (omega arith)
-
--- a section of rows of n bytes
-pub section-length : {A : Type 0} (ws : List ℕ) (to : A → List ℕ) (n : ℕ) → ((a : A) → length (row ws (to a)) ≡ n) → (l : List A) → length (section ws (map to l)) ≡ 4 + n * length l
-section-length ws to n h l = omega (arith, rows-length ws to n h l)
