@@ -6,7 +6,7 @@ use mathlib.Core.Option.{Option, none, some, Option·getD, Option·map}
 use mathlib.Core.List.{List, [], _∷_, _++_}
 use native.Mathlib.Omega.{arith}
 use borrow.Author.Tests.{ltb-true, leb-true, le-leb, eqb-true, eq-eqb}
-use lib.ListN.{length, getD, set, replicate, length-set, length-replicate, getD-replicate}
+use lib.ListN.{length, getD, set, replicate, length-set, length-append, length-replicate}
 use lib.Dec.{eqb, ltb, leb}
 use Rattle.orderbook.specs.declared.MaybePrice.the-variants.{None}
 use Rattle.orderbook.specs.declared.Listed.{Listed}
@@ -17,9 +17,11 @@ use Rattle.accounts.specs.declared.Funds.{Funds}
 use Rattle.accounts.specs.declared.MaybeFunds as F
 use Rattle.accounts.specs.declared.Timing.{Timing}
 use Rattle.gateway.specs.Basics.{option, each, is-some}
-use Rattle.gateway.specs.Limits.{word, owner-slots, session-slots, most-orders, most-notices}
-use Rattle.gateway.specs.Ledger.{Order, Ledger, number-of, funds-of, holds-fit}
-use Rattle.gateway.specs.Saved.{Saved, slots}
+use Rattle.gateway.specs.Limits.{word, owner-slots, session-slots, most-orders, most-notices, outside, malformed}
+use Rattle.gateway.specs.Ledger.{Order, Ledger, number-of, funds-of, wallet-of, order-hold, holds-fit}
+use Rattle.gateway.specs.Entry.{is-zero}
+use Rattle.gateway.specs.Saved.{Saved, saved-from, slots, contents}
+use Rattle.gateway.specs.Bytes.{decode}
 use Rattle.gateway.specs.Core.{Tests, Pass, Core}
 use Rattle.gateway.specs.Depth.{Depth, depth-few, levels-few, levels-fit}
 use Rattle.gateway.specs.Rest.{Session, Rest, account-of}
@@ -29,13 +31,14 @@ use Rattle.gateway.specs.Start.{Started, not-started, started, start-unl
 use Rattle.gateway.specs.Start.{restored-wallet, restored-wallets, restored-ledger, order-tests, saved-tests, restore-tests, hold-notice-of, empty-depth, restore-saved, restore}
 use Rattle.gateway.specs.Fits.{Unsigned, FundsFit, MaybeFundsFit, AccountFits, AccountsFit, ListedFits, ListingFits, Bytes}
 use Rattle.gateway.proofs.Base.{split}
-use Rattle.gateway.proofs.Sorted.{Each, Rises, each-insert}
+use Rattle.gateway.proofs.Sorted.{Each, Rises, rises-from, each-insert}
+use Rattle.gateway.proofs.Bytes.{SavedWallet, SavedOrder, SavedFits, decode-fits}
 use Rattle.gateway.proofs.Invariant.{CoreOk, Rise, All, Keyed, In, Owned, OrderFits, WalletFits, WalletsFit, LedgerFits}
 use Rattle.gateway.proofs.Sessions.{SessionsOk, at, Known}
 use Rattle.gateway.proofs.Feed.{FeedOk}
 use Rattle.gateway.proofs.Listing.{distinct, live-number, live-rises, resting-rises, live-length, each-listed}
 use Rattle.gateway.proofs.Calls.{RestOk, listed-few, pass-append}
-use Rattle.gateway.proofs.Restore.{Accounts, by-slot-at, by-slot-length, by-slot-owned}
+use Rattle.gateway.proofs.Restore.{Accounts, nothing-saved, by-slot-at, by-slot-length, by-slot-owned}
 
 -- the whole gateway's invariant
 pub record Ok (g : Gateway) : Type 0 where
@@ -96,9 +99,11 @@ funds-by-slot limit l h = by-slot-fits owner-slots (accounts-of limit l) (entere
 
 no-sessions : (limit : ℕ) → SessionsOk limit (replicate session-slots none)
 no-sessions limit =
-    record { slots = length-replicate {A = Option Session} session-slots none
-    ; known = λ i. subst (Known limit) (sym (nobody session-slots i)) tt
-    ; single = λ a i j p q. absurd (no-one (sym (nobody session-slots i) ∙ p)) }
+    record {
+      slots = length-replicate {A = Option Session} session-slots none;
+      known = λ i. subst (Known limit) (sym (nobody session-slots i)) tt;
+      single = λ a i j p q. absurd (no-one (sym (nobody session-slots i) ∙ p));
+    }
   where
     no-one : {a : ℕ} → none ≡ some a → ⊥
     no-one e = let z : _≡_ {A = ℕ} 0 1 = cc in omega arith
@@ -116,7 +121,7 @@ begin-ok timing k t d ns f =
 
 -- what the tests say of each live order
 listed-pass : (limit last : ℕ) (xs : List Listed) (os : List Order) → Pass (listed-tests limit last xs os) →
-  Each (λ o. (o .number ≤ last) × ((owners-of limit (o .number) xs ≡ true) × (listed-times (o .number) xs ≡ 1))) os
+    Each (λ o. (o .number ≤ last) × ((owners-of limit (o .number) xs ≡ true) × (listed-times (o .number) xs ≡ 1))) os
 listed-pass limit last xs [] h = tt
 listed-pass limit last xs (o ∷ os) h =
     ((leb-true (o .number) last (h .0), (h .1 .0, eqb-true _ 1 (h .1 .1 .0))), listed-pass limit last xs os (h .1 .1 .1))
@@ -126,8 +131,8 @@ live-owner (L.Order i o s p v w) = refl
 live-owner (L.Stop i o s l q) = refl
 
 each-once : (xs all : List Listed) (limit last : ℕ) →
-  Each (λ x. (live x .number ≤ last) × ((owners-of limit (live x .number) all ≡ true) × (listed-times (live x .number) all ≡ 1))) xs →
-  Each (λ x. listed-times (listed-number x) all ≡ 1) xs
+    Each (λ x. (live x .number ≤ last) × ((owners-of limit (live x .number) all ≡ true) × (listed-times (live x .number) all ≡ 1))) xs →
+    Each (λ x. listed-times (listed-number x) all ≡ 1) xs
 each-once [] all limit last h = tt
 each-once (x ∷ xs) all limit last h = (subst (λ n. listed-times n all ≡ 1) (live-number x) (h .0 .1 .1), each-once xs all limit last (h .1))
 
@@ -143,8 +148,8 @@ owners-rest limit n x xs h = and-eq-true-iff (cond (eqb (listed-number x) n) (lt
 
 -- the entries, of a list that holds them
 live-inside : (limit last : ℕ) (all xs : List Listed) → ((n : ℕ) → owners-of limit n all ≡ true → owners-of limit n xs ≡ true) →
-  Each (λ x. (live x .number ≤ last) × ((owners-of limit (live x .number) all ≡ true) × (listed-times (live x .number) all ≡ 1))) xs →
-  Each (Keyed (In last limit)) (listed-orders xs)
+    Each (λ x. (live x .number ≤ last) × ((owners-of limit (live x .number) all ≡ true) × (listed-times (live x .number) all ≡ 1))) xs →
+    Each (Keyed (In last limit)) (listed-orders xs)
 live-inside limit last all [] s h = tt
 live-inside limit last all (x ∷ xs) s h =
     each-insert number-of (Keyed (In last limit)) (live x) (listed-orders xs)
@@ -160,7 +165,7 @@ listed-fit [] h = tt
 listed-fit (x ∷ xs) h = each-insert number-of OrderFits (live x) (listed-orders xs) (live-fits x (h .0)) (listed-fit xs (h .1))
 
 pub set-up-begins : (limit last : ℕ) (l : List Account) (xs : List Listed) (timing : Timing) → Unsigned last → AccountsFit l → ListingFits xs →
-  Begins limit l (set-up limit last l xs timing)
+    Begins limit l (set-up limit last l xs timing)
 unfolding set-up
 set-up-begins limit last l xs timing f a x =
     start-begins limit l _ (set-up-tests limit last l xs) λ p.
@@ -171,18 +176,155 @@ set-up-begins limit last l xs timing f a x =
     let es = each-listed _ xs (listed-pass limit last xs (listed-orders xs) (t .1 .1 .1)) in
     let ds = distinct xs (each-once xs xs limit last es) in
     let m : limit ≤ owner-slots = leb-true limit owner-slots (t .0) in
-    let few : length xs ≤ most-orders = leb-true (length xs) most-orders (t .1 .0) in
-    (record { core-is =
-      record { slots = by-slot-length funds-in owner-slots (accounts-of limit l)
-      ; owned = by-slot-owned (accounts-of limit l) (omega arith)
-      ; rise = live-rises xs ds
-      ; inside = rw size (live-inside limit last xs xs (λ n e. e) es)
-      ; few = omega (arith, live-length xs)
-      ; runs = tt
-      ; flying = omega arith
-      ; holds = v .1 .0
-      ; limit = omega arith
-      ; fit = record { last-fits = f; money-fits = funds-by-slot limit l a; orders-fit = listed-fit xs x; mark-fits = tt } }
-    ; rest-is = begin-ok timing (listed-ledger limit last l xs) (accounts-of limit l) (listed-depth xs) []
-      (record { ascending = resting-rises xs ds; fit = v .1 .1 .0; few = listed-few xs (length xs) refl few (v .0); few-trades = omega arith; few-notices = omega arith }) },
-    record { table = refl; below = t .1 .1 .0; size = size })
+    let few : length xs ≤ most-orders = leb-true (length xs) most-orders (t .1 .0) in (
+      record {
+        core-is =
+            record {
+              slots = by-slot-length funds-in owner-slots (accounts-of limit l);
+              owned = by-slot-owned (accounts-of limit l) (omega arith);
+              rise = live-rises xs ds;
+              inside = rw size (live-inside limit last xs xs (λ n e. e) es);
+              few = omega (arith, live-length xs);
+              runs = tt;
+              flying = omega arith;
+              holds = v .1 .0;
+              limit = omega arith;
+              fit = record { last-fits = f; money-fits = funds-by-slot limit l a; orders-fit = listed-fit xs x; mark-fits = tt };
+            };
+        rest-is = begin-ok timing (listed-ledger limit last l xs) (accounts-of limit l) (listed-depth xs) []
+            (record { ascending = resting-rises xs ds; fit = v .1 .1 .0; few = listed-few xs (length xs) refl few (v .0); few-trades = omega arith; few-notices = omega arith });
+      },
+      record { table = refl; below = t .1 .1 .0; size = size },
+    )
+
+-- ---- restore
+
+restored-fits : (fs ws : List (Option Funds)) → WalletsFit fs → WalletsFit ws → WalletsFit (restored-wallets fs ws)
+restored-fits [] ws h k = tt
+restored-fits (f ∷ fs) [] h k = (h .0, restored-fits fs [] (h .1) tt)
+restored-fits (f ∷ fs) (w ∷ ws) h k = (one f w (h .0) (k .0), restored-fits fs ws (h .1) (k .1))
+  where
+    one : (f w : Option Funds) → WalletFits f → WalletFits w → WalletFits (restored-wallet f w)
+    one none w h k = tt
+    one (some f) none h k = h
+    one (some f) (some w) h k = k
+
+slots-fit : (n a : ℕ) (ws : List (ℕ × Funds)) → Each SavedWallet ws → WalletsFit (slots n a ws)
+slots-fit zero a ws h = tt
+slots-fit (suc n) a [] h = (tt, slots-fit n (suc a) [] tt)
+slots-fit (suc n) a (w ∷ ws) h =
+    let t = slots-fit n (suc a) ws (h .1) in
+    let u = slots-fit n (suc a) (w ∷ ws) h in
+    split (λ b. WalletsFit (cond b (some (w .1) ∷ slots n (suc a) ws) (none ∷ slots n (suc a) (w ∷ ws)))) (eqb (w .0) a) (λ e. (h .0 .money-fits, t)) (λ e. (tt, u))
+
+some-restored : (fs ws : List (Option Funds)) (i : ℕ) → is-some (getD (restored-wallets fs ws) i none) ≡ is-some (getD fs i none)
+some-restored [] ws i = refl
+some-restored (f ∷ fs) [] zero = refl
+some-restored (f ∷ fs) [] (suc i) = some-restored fs [] i
+some-restored (none ∷ fs) (w ∷ ws) zero = refl
+some-restored (some f ∷ fs) (w ∷ ws) zero = refl
+some-restored (f ∷ fs) (w ∷ ws) (suc i) = some-restored fs ws i
+
+restored-length : (fs ws : List (Option Funds)) → length (restored-wallets fs ws) ≡ length fs
+restored-length [] ws = refl
+restored-length (f ∷ fs) [] = ap suc (restored-length fs [])
+restored-length (f ∷ fs) (w ∷ ws) = ap suc (restored-length fs ws)
+
+order-inside : (limit last : ℕ) (os : List Order) → Pass (order-tests limit last os) → All (Keyed (In last limit)) os
+order-inside limit last [] h = tt
+order-inside limit last (o ∷ os) h = ((leb-true (o .number) last (h .0), ltb-true (o .account) limit (h .1 .0)), order-inside limit last os (h .1 .1))
+
+values : (os : List Order) → Each SavedOrder os → All OrderFits os
+values [] h = tt
+values (o ∷ os) h = (h .0 .values-fit, values os (h .1))
+
+notices-few : (ws : List (Option Funds)) (os : List Order) → length (each (hold-notice-of ws) os) ≤ length os
+notices-few ws [] = omega arith
+notices-few ws (o ∷ os) =
+    let h = notices-few ws os in
+    let one : length (hold-notice-of ws o) ≤ 1 =
+    split (λ b. length (cond b (o .account ∷ []) []) ≤ 1) (is-some (wallet-of ws o) && not (is-zero (order-hold o))) (λ e. omega arith) (λ e. omega arith) in
+    omega (arith, length-append (hold-notice-of ws o) (each (hold-notice-of ws) os))
+
+empty-feed : (ws : List (Option Funds)) (os : List Order) → length os ≤ most-orders → FeedOk empty-depth [] (each (hold-notice-of ws) os)
+unfolding levels-fit depth-few levels-few
+empty-feed ws os h = record { ascending = tt; fit = refl; few = refl; few-trades = omega arith; few-notices = omega (arith, notices-few ws os) }
+
+restore-saved-begins : (limit : ℕ) (l : List Account) (timing : Timing) (s : Saved) → AccountsFit l → SavedFits s → Begins limit l (restore-saved limit l timing s)
+unfolding restore-saved
+restore-saved-begins limit l timing s a f =
+    start-begins limit l _ (restore-tests limit l s) λ p.
+    let t = pass-append (saved-tests limit l s) ((outside, holds-fit (restored-ledger (accounts-of limit l) s)) ∷ []) p in
+    let size = accounts-length limit l in
+    let k = restored-ledger (accounts-of limit l) s in
+    let fs = by-slot funds-in owner-slots (accounts-of limit l) in
+    let ss = slots owner-slots 0 (s .wallets) in
+    let m : limit ≤ owner-slots = leb-true limit owner-slots (t .0 .0) in (
+      record {
+        core-is =
+            record {
+              slots = restored-length fs ss ∙ by-slot-length funds-in owner-slots (accounts-of limit l);
+              owned = λ i. some-restored fs ss i ∙ by-slot-owned (accounts-of limit l) (omega arith) i;
+              rise = f .orders-rise;
+              inside = rw size (order-inside limit (s .last) (s .orders) (t .0 .1 .1 .1));
+              few = f .orders-few;
+              runs = tt;
+              flying = omega arith;
+              holds = t .1 .0;
+              limit = omega arith;
+              fit = record {
+                last-fits = f .last-fits;
+                money-fits = restored-fits fs ss (funds-by-slot limit l a) (slots-fit owner-slots 0 (s .wallets) (f .wallets-fit));
+                orders-fit = values (s .orders) (f .orders-fit);
+                mark-fits = f .mark-fits;
+              };
+            };
+        rest-is = begin-ok timing k (accounts-of limit l) empty-depth (each (hold-notice-of (k .wallets)) (k .orders)) (empty-feed (k .wallets) (k .orders) (f .orders-few));
+      },
+      record { table = refl; below = t .0 .1 .0; size = size },
+    )
+
+pub restore-begins : (limit : ℕ) (l : List Account) (timing : Timing) (xs : List ℕ) → AccountsFit l → Bytes xs → Begins limit l (restore limit l timing xs)
+unfolding restore
+restore-begins limit l timing xs a b = go (decode xs) (λ s e. decode-fits xs s b e)
+  where
+    go : (o : Option Saved) → ((s : Saved) → o ≡ some s → SavedFits s) → Begins limit l (option (not-started malformed) (restore-saved limit l timing) o)
+    go none h = tt
+    go (some s) h = restore-saved-begins limit l timing s a (h s refl)
+
+-- ---- the contents of a core that keeps the invariant fit
+
+saved-wallets : (k : ℕ) (t : List (Option Account)) (ws : List (Option Funds)) → Owned t ws → k + length t ≤ owner-slots → WalletsFit ws →
+    Each SavedWallet (saved-from k ws) × (Rises (λ w. w .0) k (saved-from k ws) × (length (saved-from k ws) ≤ length ws))
+saved-wallets k t [] o l h = (tt, (tt, omega arith))
+saved-wallets k [] (none ∷ ws) o l h = absurd-or (nothing-saved (suc k) ws (λ i. o (suc i)))
+  where
+    absurd-or : saved-from (suc k) ws ≡ [] → Each SavedWallet (saved-from (suc k) ws) × (Rises (λ w. w .0) k (saved-from (suc k) ws) × (length (saved-from (suc k) ws) ≤ suc (length ws)))
+    absurd-or e = rw e (tt, (tt, omega arith))
+saved-wallets k [] (some w ∷ ws) o l h = absurd (let e = o 0 in let z : _≡_ {A = ℕ} 0 1 = cc in omega (arith, z))
+saved-wallets k (a ∷ t) (none ∷ ws) o l h =
+    let u = saved-wallets (suc k) t ws (λ i. o (suc i)) (omega arith) (h .1) in
+    (u .0, (rises-from (λ w. w .0) k (suc k) (omega arith) (saved-from (suc k) ws) (u .1 .0), omega (arith, u .1 .1)))
+saved-wallets k (a ∷ t) (some w ∷ ws) o l h =
+    let u = saved-wallets (suc k) t ws (λ i. o (suc i)) (omega arith) (h .1) in
+    ((record { account-fits = omega (arith, l); money-fits = h .0 }, u .0), ((omega arith, u .1 .0), omega (arith, u .1 .1)))
+
+saved-orders : (last limit : ℕ) (os : List Order) → Unsigned last → limit ≤ owner-slots → All (Keyed (In last limit)) os → All OrderFits os → Each SavedOrder os
+saved-orders last limit [] u m h k = tt
+saved-orders last limit (o ∷ os) u m h k =
+    (record { number-fits = omega (arith, h .0 .0, u); account-fits = omega (arith, h .0 .1); values-fit = k .0 }, saved-orders last limit os u m (h .1) (k .1))
+
+pub contents-fit : (c : Core) → CoreOk c → SavedFits (contents (c .ledger))
+unfolding contents
+contents-fit c ok =
+    let w = saved-wallets 0 (c .accounts) (c .ledger .wallets) (ok .owned) (omega (arith, ok .limit)) (ok .fit .money-fits) in
+    record {
+      last-fits = ok .fit .last-fits;
+      mark-fits = ok .fit .mark-fits;
+      wallets-few = omega (arith, w .1 .1, ok .slots);
+      wallets-fit = w .0;
+      wallets-rise = w .1 .0;
+      orders-few = ok .few;
+      orders-fit = saved-orders (c .ledger .last) (length (c .accounts)) (c .ledger .orders) (ok .fit .last-fits) (ok .limit) (ok .inside) (ok .fit .orders-fit);
+      orders-rise = ok .rise;
+    }

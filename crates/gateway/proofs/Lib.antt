@@ -12,3 +12,4 @@ pub mod Listing
 pub mod Calls
 pub mod Restore
 pub mod Begin
+pub mod Restart

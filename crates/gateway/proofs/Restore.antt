@@ -40,7 +40,7 @@ pub refilled : (ws : List (Option Funds)) → length ws ≡ owner-slots → slot
 refilled ws e = subst (λ n. slots n 0 (saved-from 0 ws) ≡ ws) e (slots-saved 0 ws)
 
 -- wallets are saved for accounts that have funds, below the limit
-nothing-saved : (k : ℕ) (ws : List (Option Funds)) → Owned [] ws → saved-from k ws ≡ []
+pub nothing-saved : (k : ℕ) (ws : List (Option Funds)) → Owned [] ws → saved-from k ws ≡ []
 nothing-saved k [] h = refl
 nothing-saved k (none ∷ ws) h = nothing-saved (suc k) ws (λ i. h (suc i))
 nothing-saved k (some w ∷ ws) h = absurd (let e = h 0 in let z : _≡_ {A = ℕ} 0 1 = cc in omega (arith, z))
@@ -70,8 +70,8 @@ by-slot-owned t l i =
     split (λ b. (ltb i owner-slots ≡ b) → is-some (getD (by-slot funds-in owner-slots t) i none) ≡ is-some (funds-in (getD t i none))) (ltb i owner-slots)
     (λ _ e. ap is-some (by-slot-at funds-in none owner-slots t i (ltb-true i owner-slots e)))
     (λ _ e.
-      ap is-some (List·getD-eq-default (by-slot funds-in owner-slots t) none {n = i} (let q : owner-slots ≤ i = ltb-false i owner-slots e in omega (arith, by-slot-length funds-in owner-slots t)))
-      ∙ ap (λ a. is-some (funds-in a)) (sym (List·getD-eq-default t none {n = i} (let q : owner-slots ≤ i = ltb-false i owner-slots e in omega arith))))
+    ap is-some (List·getD-eq-default (by-slot funds-in owner-slots t) none {n = i} (let q : owner-slots ≤ i = ltb-false i owner-slots e in omega (arith, by-slot-length funds-in owner-slots t)))
+    ∙ ap (λ a. is-some (funds-in a)) (sym (List·getD-eq-default t none {n = i} (let q : owner-slots ≤ i = ltb-false i owner-slots e in omega arith))))
     refl
 
 same-wallet : (f w : Option Funds) → is-some w ≡ is-some f → restored-wallet f w ≡ w
@@ -92,7 +92,7 @@ restored-contents c ok =
     ap (λ ws. record { last = c .ledger .last; wallets = ws; orders = c .ledger .orders; mark = c .ledger .mark })
     (ap (restored-wallets (by-slot funds-in owner-slots (c .accounts))) (refilled (c .ledger .wallets) (ok .slots))
     ∙ same-wallets (by-slot funds-in owner-slots (c .accounts)) (c .ledger .wallets) (by-slot-length funds-in owner-slots (c .accounts) ∙ sym (ok .slots))
-      (λ i. ok .owned i ∙ sym (by-slot-owned (c .accounts) (ok .limit) i)))
+    (λ i. ok .owned i ∙ sym (by-slot-owned (c .accounts) (ok .limit) i)))
 
 pub opening-contents : (c : Core) → CoreOk c → opening (contents (c .ledger)) ≡ c .ledger
 unfolding opening contents
@@ -136,10 +136,16 @@ pass-both (x ∷ xs) ys p q = (p .0, pass-both xs ys (p .1) q)
 restore-pass : (limit : ℕ) (l : List Account) (c : Core) → CoreOk c → Accounts limit l c → Pass (restore-tests limit l (contents (c .ledger)))
 unfolding contents
 restore-pass limit l c ok t =
-    pass-both (saved-tests limit l (contents (c .ledger))) ((outside, holds-fit (restored-ledger (accounts-of limit l) (contents (c .ledger)))) ∷ [])
-    (le-leb limit owner-slots (omega (arith, ok .limit, t .size)), (t .below,
-    (saved-below 0 limit (c .accounts) (c .ledger .wallets) (omega (arith, t .size)) (ok .owned),
-    order-pass limit (c .ledger .last) (c .ledger .orders) (subst (λ m. All (Keyed (In (c .ledger .last) m)) (c .ledger .orders)) (t .size) (ok .inside)))))
+    pass-both (saved-tests limit l (contents (c .ledger))) ((outside, holds-fit (restored-ledger (accounts-of limit l) (contents (c .ledger)))) ∷ []) (
+      le-leb limit owner-slots (omega (arith, ok .limit, t .size)),
+      (
+        t .below,
+        (
+          saved-below 0 limit (c .accounts) (c .ledger .wallets) (omega (arith, t .size)) (ok .owned),
+          order-pass limit (c .ledger .last) (c .ledger .orders) (subst (λ m. All (Keyed (In (c .ledger .last) m)) (c .ledger .orders)) (t .size) (ok .inside)),
+        ),
+      ),
+    )
     (ap holds-fit (ap (λ k. restored-ledger k (contents (c .ledger))) (sym (t .table)) ∙ restored-contents c ok) ∙ ok .holds, tt)
 
 -- the gateway that comes of restoring the core's contents
@@ -147,7 +153,7 @@ abbrev pub begun-from : Timing → Core → Gateway
 begun-from timing c = begin timing (c .ledger) (c .accounts) empty-depth (each (hold-notice-of (c .ledger .wallets)) (c .ledger .orders))
 
 pub restores : (limit : ℕ) (l : List Account) (timing : Timing) (c : Core) → CoreOk c → Accounts limit l c →
-  restore-saved limit l timing (contents (c .ledger)) ≡ started (begun-from timing c)
+    restore-saved limit l timing (contents (c .ledger)) ≡ started (begun-from timing c)
 unfolding restore-saved
 restores limit l timing c ok t =
     start-pass _ (restore-tests limit l (contents (c .ledger))) (restore-pass limit l c ok t)
