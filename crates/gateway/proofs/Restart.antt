@@ -12,33 +12,36 @@ use Prim.Native.Nat.{ℕ, zero, suc, _+_, _<_, _≤_}
 use mathlib.Core.Bool.{Bool, true, false, cond, not, _&&_, and-eq-true-iff}
 use mathlib.Core.Path.{_≡_, refl, ap, sym, _∙_, subst}
 use mathlib.Core.Option.{Option, none, some, Option·map}
-use mathlib.Core.List.{List, [], _∷_, _++_, append-nil, append-assoc}
+use mathlib.Core.List.{List, [], _∷_, _++_, map, append-nil, append-assoc}
 use native.Mathlib.Omega.{arith}
 use borrow.Author.Tests.{ltb-true, lt-ltb, eqb-true}
-use lib.ListN.{length, set, replicate, length-set}
+use lib.ListN.{length, getD, set, replicate, length-set}
 use lib.Dec.{eqb, ltb}
+use Rattle.orderbook.specs.declared.Side.the-variants.{Buy, Sell}
+use Rattle.orderbook.specs.declared.Listed.{Listed}
 use Rattle.accounts.specs.declared.Account.{Account}
+use Rattle.accounts.specs.declared.Funds.{Funds}
 use Rattle.accounts.specs.declared.Timing.{Timing}
 use Rattle.gateway.specs.Basics.{option}
 use Rattle.gateway.specs.Limits.{malformed}
-use Rattle.gateway.specs.Ledger.{Ledger, Item, account, command, event, step, replayed}
+use Rattle.gateway.specs.Ledger.{Order, Ledger, Item, account, command, event, order-hold, open-of, step, replayed}
 use Rattle.gateway.specs.Saved.{contents, opening}
 use Rattle.gateway.specs.Bytes.{encode, decode}
 use Rattle.gateway.specs.Core.{Tests, Pass, Origin, system, Core, tests, core-step, accounts-after}
 use Rattle.gateway.specs.Rest.{Session, Rest, no-session, stamped}
-use Rattle.gateway.specs.Entry.{Answer, bytes, Plan, refuse, quiet, records, unless}
+use Rattle.gateway.specs.Entry.{Answer, bytes, Plan, refuse, quiet, records, unless, balance-with}
 use Rattle.gateway.specs.Calls.{Gateway, Call, checkpoint, replay-tests, plan, Outcome, refused, done, carry-out, call}
-use Rattle.gateway.specs.Start.{Started, not-started, started, entered, accounts-of, all-below, restore, restore-saved}
-use Rattle.gateway.specs.Fits.{CallFits, CallsFit}
-use Rattle.gateway.specs.Restart.{next-of, items-of, final, record-of, added, as-call, on-done, replay, later, all-later, forgetting, ledger-of, Restarts}
+use Rattle.gateway.specs.Start.{Started, not-started, started, entered, accounts-of, all-below, set-up, restore, restore-saved}
+use Rattle.gateway.specs.Fits.{Unsigned, AccountsFit, ListingFits, Bytes, CallFits, CallsFit}
+use Rattle.gateway.specs.Restart.{next-of, items-of, final, record-of, added, as-call, on-done, replay, later, all-later, forget, forgetting, ledger-of, SameBooks, Restarts}
 use Rattle.gateway.proofs.Base.{split}
-use Rattle.gateway.proofs.Forget.{above, step-forget}
+use Rattle.gateway.proofs.Forget.{above, step-forget, open-forget, held-forget}
 use Rattle.gateway.proofs.View.{view, step-view, tests-view}
 use Rattle.gateway.proofs.Invariant.{CoreOk, core-ok, last-stays}
 use Rattle.gateway.proofs.Calls.{RestOk, Good, plan-good, unless-pass, stamped-rest}
 use Rattle.gateway.proofs.Restore.{Accounts, begun-from, restores, opening-contents, view-now}
 use Rattle.gateway.proofs.Bytes.{decode-encode}
-use Rattle.gateway.proofs.Begin.{Ok, contents-fit}
+use Rattle.gateway.proofs.Begin.{Ok, Begins, set-up-begins, restore-begins, contents-fit}
 
 -- ---- one call, and a list of calls, keep the invariant
 
@@ -185,10 +188,29 @@ final-append : (g : Gateway) (xs ys : List Call) → final g (xs ++ ys) ≡ fina
 final-append g [] ys = refl
 final-append g (x ∷ xs) ys = final-append (next-of g (call g x)) xs ys
 
+-- ---- what is read from a ledger
+
+held-same : (n : ℕ) (os : List Order) → map order-hold (map (forget n) os) ≡ map order-hold os
+held-same n [] = refl
+held-same n (o ∷ os) = ap (λ t. order-hold o ∷ t) (held-same n os)
+
+balance-same : (n a : ℕ) (w : Option Funds) (os : List Order) → Option·map (balance-with a (map (forget n) os)) w ≡ Option·map (balance-with a os) w
+balance-same n a none os = refl
+balance-same n a (some w) os = simp (held-forget n a Buy os, held-forget n a Sell os)
+
+same-books : (n : ℕ) (c d : Core) → d .ledger ≡ forgetting n (c .ledger) → SameBooks n c d
+same-books n c d e =
+    record { last = ap (λ l. l .last) e
+    ; mark = ap (λ l. l .mark) e
+    ; orders = ap (λ l. l .orders) e
+    ; holds = ap (λ l. map order-hold (l .orders)) e ∙ held-same n (c .ledger .orders)
+    ; wallet = λ a. ap (λ l. Option·map (balance-with a (l .orders)) (getD (l .wallets) a none)) e ∙ balance-same n a (getD (c .ledger .wallets) a none) (c .ledger .orders)
+    ; open = λ a. ap (λ l. open-of a (l .orders)) e ∙ open-forget n a (c .ledger .orders) }
+
 -- ---- demand 3
 
 -- from a start g with the accounts l, any calls xs, an accepted checkpoint of the bytes bs there, and any calls ys after it
-pub restart : (limit : ℕ) (l : List Account) (timing : Timing) (g : Gateway) → Ok g → Accounts limit l (g .core) →
+restart : (limit : ℕ) (l : List Account) (timing : Timing) (g : Gateway) → Ok g → Accounts limit l (g .core) →
     (xs ys : List Call) (room : ℕ) (bs : List ℕ) (h : Gateway) → CallsFit xs → CallsFit ys →
     call (final g xs) (checkpoint room) ≡ done (bytes bs) [] [] h →
     all-later (final g xs .core .ledger .last) (record-of (final g xs) ys) →
@@ -217,3 +239,24 @@ restart limit l timing g ok t xs ys room bs h f f′ e later =
           ∙ ap (λ c. some (replayed (record-of m ys) c)) (opening-contents (m .core) (mok .core-is) ∙ sym (ap (λ c. c .ledger) (view-now (m .core) (mok .core-is))))
           ∙ ap some (u .2);
     }
+
+-- the claim of a list that begins with g: every accepted checkpoint in it, and all that follows it up to any moment
+pub record Demand3 (limit : ℕ) (l : List Account) (g : Gateway) : Type 0 where
+  pub restarts : (timing : Timing) (xs ys : List Call) (room : ℕ) (bs : List ℕ) (h : Gateway) → CallsFit xs → CallsFit ys →
+    call (final g xs) (checkpoint room) ≡ done (bytes bs) [] [] h →
+    all-later (final g xs .core .ledger .last) (record-of (final g xs) ys) →
+    Restarts limit (l ++ added (record-of g xs)) timing (final g xs .core .ledger .last) bs (record-of (final g xs) ys) (final g (xs ++ (checkpoint room ∷ ys)))
+
+demand-3 : (limit : ℕ) (l : List Account) (s : Started) (g : Gateway) → Begins limit l s → s ≡ started g → Demand3 limit l g
+demand-3 limit l s g b e =
+    let t : Begins limit l (started g) = subst (Begins limit l) e b in
+    record { restarts = λ timing. restart limit l timing g (t .0) (t .1) }
+
+-- a list may start with set-up, and with restore
+pub after-set-up : (limit last : ℕ) (l : List Account) (listing : List Listed) (timing : Timing) (g : Gateway) → Unsigned last → AccountsFit l → ListingFits listing →
+  set-up limit last l listing timing ≡ started g → Demand3 limit l g
+after-set-up limit last l listing timing g f a x e = demand-3 limit l _ g (set-up-begins limit last l listing timing f a x) e
+
+pub after-restore : (limit : ℕ) (l : List Account) (timing : Timing) (bs : List ℕ) (g : Gateway) → AccountsFit l → Bytes bs →
+  restore limit l timing bs ≡ started g → Demand3 limit l g
+after-restore limit l timing bs g a b e = demand-3 limit l _ g (restore-begins limit l timing bs a b) e

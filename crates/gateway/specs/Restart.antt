@@ -7,7 +7,9 @@ use mathlib.Core.List.{List, [], _∷_, _++_, map}
 use lib.Dec.{leb}
 use Rattle.accounts.specs.declared.Account.{Account}
 use Rattle.accounts.specs.declared.Timing.{Timing}
-use Rattle.gateway.specs.Ledger.{Order, Ledger, Item, account, command, event, replayed}
+use Rattle.gateway.specs.Ledger.{Order, Ledger, Item, account, command, event, order-hold, open-of, replayed}
+use Rattle.gateway.specs.Core.{Core}
+use Rattle.gateway.specs.Entry.{balance}
 use Rattle.gateway.specs.Saved.{Saved, opening}
 use Rattle.gateway.specs.Bytes.{decode}
 use Rattle.gateway.specs.Calls.{Gateway, Call, add-account, replay-command, replay-event, Outcome, refused, done, call}
@@ -73,13 +75,22 @@ forgetting n l = record { last = l .last; wallets = l .wallets; orders = map (fo
 unfoldable pub ledger-of : List ℕ → List Item → Option Ledger
 ledger-of bs is = Option·map (λ s. replayed is (opening s)) (decode bs)
 
--- what demand 3 claims of a checkpoint's bytes, taken at the number n with the accounts l, the record since, and the gateway g of now:
--- the bytes are restored, the record is replayed item by item, and the second gateway's ledger is the first's but for the lost client references,
--- and the independent ledger's. Wallets, live orders, holds, open counts, last number and reference price are all read from that ledger
+-- two gateways agree on the books: last number, reference price, live orders with their holds (but for lost client references), and for every account
+-- its wallet with cash held and seats held (01's sums over live buys and live sells) and its open count
+pub record SameBooks (n : ℕ) (c d : Core) : Type 0 where
+  pub last : d .ledger .last ≡ c .ledger .last
+  pub mark : d .ledger .mark ≡ c .ledger .mark
+  pub orders : d .ledger .orders ≡ map (forget n) (c .ledger .orders)
+  pub holds : map order-hold (d .ledger .orders) ≡ map order-hold (c .ledger .orders)
+  pub wallet : (a : ℕ) → balance a d ≡ balance a c
+  pub open : (a : ℕ) → open-of a (d .ledger .orders) ≡ open-of a (c .ledger .orders)
+
+-- what demand 3 claims of a checkpoint's bytes, taken at the number n with the accounts l, the record since, and the gateway g of now: the bytes are
+-- restored, the record is replayed item by item, the two gateways agree on the books, and the second's are the independent ledger's
 pub record Restarts (limit : ℕ) (l : List Account) (timing : Timing) (n : ℕ) (bs : List ℕ) (is : List Item) (g : Gateway) : Type 0 where
   pub begun : Gateway
   pub accepts : restore limit l timing bs ≡ started begun
   pub ended : Gateway
   pub replays : replay is begun ≡ some ended
-  pub agrees : ended .core .ledger ≡ forgetting n (g .core .ledger)
+  pub agrees : SameBooks n (g .core) (ended .core)
   pub counted : ledger-of bs is ≡ some (ended .core .ledger)
