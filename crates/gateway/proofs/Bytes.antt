@@ -1,7 +1,7 @@
--- The checkpoint's bytes: contents that fit are read back from their bytes, bytes that are read are the only ones for their contents, and these fit.
--- Assumes nothing.
-use Prim.Native.Nat.{ℕ, zero, suc, _+_, _*_, _^_, _/_, _%_, _<_, _≤_}
-use mathlib.Core.Bool.{Bool, true, false, cond, _&&_, _||_, and-eq-true-iff}
+-- The checkpoint's bytes. Contents that fit are read back from their bytes; bytes that are read are the only ones for their contents, which fit; the
+-- bytes are below 256, and their number is that of document 01, at most 43,033. Assumes nothing.
+use Prim.Native.Nat.{ℕ, suc, _+_, _*_, _^_, _/_, _%_, _<_, _≤_}
+use mathlib.Core.Bool.{Bool, true, cond, _&&_, _||_, and-eq-true-iff}
 use mathlib.Core.Path.{_≡_, refl, ap, ap₂, sym, _∙_, subst}
 use mathlib.Core.Option.{Option, none, some}
 use mathlib.Core.List.{List, [], _∷_, _++_, map, append-nil}
@@ -26,12 +26,12 @@ use Rattle.gateway.specs.Ledger.{Order, fits, number-of}
 use Rattle.gateway.specs.Fits.{Unsigned, Signed, PriceFits, FundsFit, Bytes}
 use Rattle.gateway.specs.Saved.{Saved}
 use Rattle.gateway.specs.Bytes.{Read, row, section, head-widths, wallet-widths, order-widths, Raw, write-raw, read-parts, whole, read-section, read-raw, price-word, price-flag, buy-flag, price-from, side-from}
-use Rattle.gateway.specs.Bytes.{wallet-row, order-row, raw, row-wallet, row-order, saved, price-ok, flags-ok, keys-rise, all-rows, well-formed, encode, checked, decode}
+use Rattle.gateway.specs.Bytes.{wallet-row, order-row, raw, row-wallet, row-order, saved, price-ok, flags-ok, keys-rise, all-rows, table-ok, well-formed, encode, checked, decode}
 use Rattle.gateway.proofs.Base.{split}
 use Rattle.gateway.proofs.Money.{word-back}
 use Rattle.gateway.proofs.Invariant.{OrderFits}
 use Rattle.gateway.proofs.Sorted.{Each, Rises}
-use Rattle.gateway.proofs.Rows.{Fit, done, field, FitRows, row-back, section-back, Of, missing, got, of-then, of-map, Wrote, chain, row-only, section-only, bytes-append, row-bytes, section-bytes, rows-length}
+use Rattle.gateway.proofs.Rows.{Fit, done, field, FitRows, row-back, section-back, Of, missing, got, of-then, Wrote, chain, row-only, section-only, bytes-append, row-bytes, section-bytes, rows-length}
 
 -- ---- the three parts, as numbers
 
@@ -58,10 +58,15 @@ parts-only xs b =
       more = m .more;
     }))))
 
-whole-only : {A : Type 0} {Good : A → Type 0} {write : A → List ℕ} {xs : List ℕ} {r : Read A} → Of (Wrote Good write xs) r → (a : A) → whole r ≡ some a → Good a × (write a ≡ xs)
-whole-only missing a e = let z : _≡_ {A = ℕ} 0 1 = cc in absurd (omega (arith, z))
-whole-only (got b [] h) a e = let p : b ≡ a = cc in rw (← p) (h .good, sym (append-nil _) ∙ h .same)
-whole-only (got b (y ∷ ys) h) a e = let z : _≡_ {A = ℕ} 0 1 = cc in absurd (omega (arith, z))
+-- P of what there is
+abbrev Holds : {A : Type 0} → (A → Type 0) → Option A → Type 0
+Holds P none = Unit {0}
+Holds P (some a) = P a
+
+whole-only : {A : Type 0} {Good : A → Type 0} {write : A → List ℕ} {xs : List ℕ} {r : Read A} → Of (Wrote Good write xs) r → Holds (λ a. Good a × (write a ≡ xs)) (whole r)
+whole-only missing = tt
+whole-only (got a [] h) = (h .good, sym (append-nil _) ∙ h .same)
+whole-only (got a (y ∷ ys) h) = tt
 
 -- ---- words and prices
 
@@ -94,6 +99,7 @@ price-only flag w h =
     (λ _ e k. (sym (eqb-true flag 1 e), ofZ-toZ w64 w (record { fits = h }), word-fits w h))
     (λ _ e k. let t = and-eq-true-iff (eqb flag 0) (eqb w 0) .0 k in (sym (eqb-true flag 0 (t .0)), sym (eqb-true w 0 (t .1)), tt)) refl
 
+-- bit 0 of an order's flags
 side-back : (s : Side) → (buy-flag s < 2) × (side-from (buy-flag s) ≡ s)
 side-back Buy = (omega arith, refl)
 side-back Sell = (omega arith, refl)
@@ -103,6 +109,7 @@ side-only n h = split (λ b. (eqb n 1 ≡ b) → buy-flag (cond b Buy Sell) ≡ 
 
 -- ---- rows of values
 
+-- the fields' ranges
 pub record SavedWallet (w : ℕ × Funds) : Type 0 where
   pub account-fits : w .0 < 2 ^ 32
   pub money-fits : FundsFit (w .1)
@@ -113,10 +120,12 @@ pub record SavedOrder (o : Order) : Type 0 where
   pub values-fit : OrderFits o
 
 -- good values have rows that fit and are fine, from which they are read back; such rows are those of their values, which are good
-record Codes {A : Type 0} (Good : A → Type 0) (ws : List ℕ) (fine : List ℕ → Bool) (to : A → List ℕ) (from : List ℕ → A) : Type 0 where
+record Codes {A : Type 0} (Good : A → Type 0) (key : A → ℕ) (ws : List ℕ) (fine : List ℕ → Bool) (to : A → List ℕ) (from : List ℕ → A) : Type 0 where
   back : (a : A) → Good a → Fit ws (to a) × (fine (to a) ≡ true) × (from (to a) ≡ a)
   only : (r : List ℕ) → Fit ws r → fine r ≡ true → Good (from r) × (to (from r) ≡ r)
+  first : (a : A) → getD (to a) 0 0 ≡ key a
 
+-- the first row, of the last number and the reference price
 head-only : (r : List ℕ) → Fit head-widths r → price-ok (getD r 1 0) (getD r 2 0) ≡ true
     → let p = price-from (getD r 1 0) (getD r 2 0) in Unsigned (getD r 0 0) × PriceFits p × (getD r 0 0 ∷ price-flag p ∷ price-word p ∷ [] ≡ r)
 head-only _ (field n (field {v = f} k (field {v = w} p done))) e = let q = price-only f w p e in (n, q .2, rw (q .0, q .1))
@@ -134,8 +143,8 @@ wallet-only _ (field a (field {v = c} h (field {v = p} k done))) _ = (
   rw (ofZ-toZ w64 c (record { fits = h }), ofZ-toZ w64 p (record { fits = k })),
 )
 
-wallet-codes : Codes SavedWallet wallet-widths (λ r. true) wallet-row row-wallet
-wallet-codes = record { back = wallet-back; only = wallet-only }
+wallet-codes : Codes SavedWallet (λ w. w .0) wallet-widths (λ r. true) wallet-row row-wallet
+wallet-codes = record { back = wallet-back; only = wallet-only; first = λ w. refl }
 
 order-back : (o : Order) → SavedOrder o → Fit order-widths (order-row o) × (flags-ok (order-row o) ≡ true) × (row-order (order-row o) ≡ o)
 order-back o h =
@@ -157,28 +166,47 @@ order-only _ (field n (field a (field c (field {v = f} k (field {v = w} p (field
       rw (q .0, q .1, side-only (f % 2) (omega arith), mod-add-div f 2),
     )
 
-order-codes : Codes SavedOrder order-widths flags-ok order-row row-order
-order-codes = record { back = order-back; only = order-only }
+order-codes : Codes SavedOrder number-of order-widths flags-ok order-row row-order
+order-codes = record { back = order-back; only = order-only; first = λ o. refl }
 
--- a table ascending by key and its rows
-module _ {A : Type 0} {Good : A → Type 0} {ws : List ℕ} {fine : List ℕ → Bool} {to : A → List ℕ} {from : List ℕ → A} (key : A → ℕ) (first : (a : A) → getD (to a) 0 0 ≡ key a)
-    (c : Codes Good ws fine to from) where
-  table-back : (k : ℕ) (l : List A) → Rises key k l → Each Good l → Each (Fit ws) (map to l) × (keys-rise k (map to l) ≡ true) × (all-rows fine (map to l) ≡ true) × (map from (map to l) ≡ l)
-  table-back k [] t u = (tt, refl, refl, refl)
-  table-back k (x ∷ l) t u =
+-- ---- tables
+
+-- at most so many values, each good, ascending by key
+pub record TableFits {A : Type 0} (Good : A → Type 0) (key : A → ℕ) (most : ℕ) (l : List A) : Type 0 where
+  pub few : length l ≤ most
+  pub good : Each Good l
+  pub rise : Rises key 0 l
+
+module _ {A : Type 0} {Good : A → Type 0} {key : A → ℕ} {ws : List ℕ} {fine : List ℕ → Bool} {to : A → List ℕ} {from : List ℕ → A} (c : Codes Good key ws fine to from) where
+  each-back : (k : ℕ) (l : List A) → Rises key k l → Each Good l → Each (Fit ws) (map to l) × (keys-rise k (map to l) && all-rows fine (map to l) ≡ true) × (map from (map to l) ≡ l)
+  each-back k [] t u = (tt, refl, refl)
+  each-back k (x ∷ l) t u =
       let b = c .back x (u .0) in
-      let h = table-back (suc (key x)) l (t .1) (u .1) in
-      ((b .0, h .0), rw (first x, le-leb k (key x) (t .0), h .1), rw (b .1, h .2), ap₂ (λ a m. a ∷ m) (b .2) (h .3))
+      let h = each-back (suc (key x)) l (t .1) (u .1) in
+      ((b .0, h .0), rw (c .first x, le-leb k (key x) (t .0), b .1) (h .1), ap₂ (λ a m. a ∷ m) (b .2) (h .2))
 
-  table-only : (k : ℕ) (rs : List (List ℕ)) → Each (Fit ws) rs → keys-rise k rs ≡ true → all-rows fine rs ≡ true → Rises key k (map from rs) × Each Good (map from rs) × (map to (map from rs) ≡ rs)
-  table-only k [] t u v = (tt, tt, refl)
-  table-only k (r ∷ rs) t u v =
+  table-back : (most : ℕ) (l : List A) → most < 256 ^ 4 → TableFits Good key most l → FitRows ws (map to l) × (table-ok most fine (map to l) ≡ true) × (map from (map to l) ≡ l)
+  table-back most l m t =
+      let h = each-back 0 l (t .rise) (t .good) in
+      let n : length (map to l) ≤ most = rw length-map (t .few) in
+      (record { count = omega arith; each = h .0 }, rw (le-leb _ most n) (h .1), h .2)
+
+  each-only : (k : ℕ) (rs : List (List ℕ)) → Each (Fit ws) rs → keys-rise k rs ≡ true → all-rows fine rs ≡ true → Rises key k (map from rs) × Each Good (map from rs) × (map to (map from rs) ≡ rs)
+  each-only k [] t u v = (tt, tt, refl)
+  each-only k (r ∷ rs) t u v =
       let p = and-eq-true-iff (leb k (getD r 0 0)) _ .0 u in
       let q = and-eq-true-iff (fine r) _ .0 v in
       let b = c .only r (t .0) (q .0) in
-      let h = table-only (suc (getD r 0 0)) rs (t .1) (p .1) (q .1) in
-      let e : key (from r) ≡ getD r 0 0 = sym (first (from r)) ∙ ap (λ l. getD l 0 0) (b .1) in
+      let h = each-only (suc (getD r 0 0)) rs (t .1) (p .1) (q .1) in
+      let e : key (from r) ≡ getD r 0 0 = sym (c .first (from r)) ∙ ap (λ l. getD l 0 0) (b .1) in
       ((omega (arith, leb-true k (getD r 0 0) (p .0)), rw e (h .0)), (b .0, h .1), ap₂ (λ a m. a ∷ m) (b .1) (h .2))
+
+  table-only : (most : ℕ) (rs : List (List ℕ)) → FitRows ws rs → table-ok most fine rs ≡ true → TableFits Good key most (map from rs) × (map to (map from rs) ≡ rs)
+  table-only most rs f e =
+      let p = and-eq-true-iff (leb (length rs) most) _ .0 e in
+      let q = and-eq-true-iff (keys-rise 0 rs) _ .0 (p .1) in
+      let h = each-only 0 rs (f .each) (q .0) (q .1) in
+      (record { few = rw length-map (leb-true (length rs) most (p .0)); good = h .1; rise = h .0 }, h .2)
 
 -- ---- the contents
 
@@ -186,77 +214,49 @@ module _ {A : Type 0} {Good : A → Type 0} {ws : List ℕ} {fine : List ℕ →
 pub record SavedFits (s : Saved) : Type 0 where
   pub last-fits : Unsigned (s .last)
   pub mark-fits : PriceFits (s .mark)
-  pub wallets-few : length (s .wallets) ≤ owner-slots
-  pub wallets-fit : Each SavedWallet (s .wallets)
-  pub wallets-rise : Rises (λ w. w .0) 0 (s .wallets)
-  pub orders-few : length (s .orders) ≤ most-orders
-  pub orders-fit : Each SavedOrder (s .orders)
-  pub orders-rise : Rises number-of 0 (s .orders)
+  pub wallets-fit : TableFits SavedWallet (λ w. w .0) owner-slots (s .wallets)
+  pub orders-fit : TableFits SavedOrder number-of most-orders (s .orders)
 
--- wallets have no flags
-no-flags : (rs : List (List ℕ)) → all-rows (λ r. true) rs ≡ true
-no-flags [] = refl
-no-flags (r ∷ rs) = no-flags rs
-
+-- contents that fit: their rows fit, are well formed, and give them back
 saved-back : (s : Saved) → SavedFits s → RawFits (raw s) × (well-formed (raw s) ≡ true) × (saved (raw s) ≡ s)
 unfolding well-formed
 saved-back s f =
     let p = price-back (s .mark) (f .mark-fits) in
     let k : price-flag (s .mark) < 256 = omega arith in
-    let w = table-back (λ w. w .0) (λ w. refl) wallet-codes 0 (s .wallets) (f .wallets-rise) (f .wallets-fit) in
-    let o = table-back number-of (λ o. refl) order-codes 0 (s .orders) (f .orders-rise) (f .orders-fit) in
-    let m : length (map wallet-row (s .wallets)) ≤ owner-slots = rw length-map (f .wallets-few) in
-    let n : length (map order-row (s .orders)) ≤ most-orders = rw length-map (f .orders-few) in (
-      record { head-fits = field (f .last-fits) (field k (field (p .1) done)); wallets-fit = record { count = omega arith; each = w .0 }; orders-fit = record { count = omega arith; each = o .0 } },
-      rw (p .2, le-leb _ owner-slots m, w .1, le-leb _ most-orders n, o .1, o .2),
-      rw (p .3, w .3, o .3),
+    let w = table-back wallet-codes owner-slots (s .wallets) (omega arith) (f .wallets-fit) in
+    let o = table-back order-codes most-orders (s .orders) (omega arith) (f .orders-fit) in (
+      record { head-fits = field (f .last-fits) (field k (field (p .1) done)); wallets-fit = w .0; orders-fit = o .0 },
+      rw (p .2, w .1, o .1),
+      rw (p .3, w .2, o .2),
     )
 
+-- rows that fit and are well formed are those of their contents, which fit
 saved-only : (r : Raw) → RawFits r → well-formed r ≡ true → SavedFits (saved r) × (raw (saved r) ≡ r)
 unfolding well-formed
 saved-only r f e =
     let p = and-eq-true-iff (price-ok (getD (r .head) 1 0) (getD (r .head) 2 0)) _ .0 e in
-    let q = and-eq-true-iff (leb (length (r .wallets)) owner-slots) _ .0 (p .1) in
-    let t = and-eq-true-iff (keys-rise 0 (r .wallets)) _ .0 (q .1) in
-    let u = and-eq-true-iff (leb (length (r .orders)) most-orders) _ .0 (t .1) in
-    let v = and-eq-true-iff (keys-rise 0 (r .orders)) _ .0 (u .1) in
+    let q = and-eq-true-iff (table-ok owner-slots (λ r. true) (r .wallets)) _ .0 (p .1) in
     let h = head-only (r .head) (f .head-fits) (p .0) in
-    let w = table-only (λ w. w .0) (λ w. refl) wallet-codes 0 (r .wallets) (f .wallets-fit .each) (t .0) (no-flags (r .wallets)) in
-    let o = table-only number-of (λ o. refl) order-codes 0 (r .orders) (f .orders-fit .each) (v .0) (v .1) in (
-      record {
-        last-fits = h .0;
-        mark-fits = h .1;
-        wallets-few = rw length-map (leb-true (length (r .wallets)) owner-slots (q .0));
-        wallets-fit = w .1;
-        wallets-rise = w .0;
-        orders-few = rw length-map (leb-true (length (r .orders)) most-orders (u .0));
-        orders-fit = o .1;
-        orders-rise = o .0;
-      },
-      rw (h .2, w .2, o .2),
-    )
-
-checked-only : (o : Option Raw) (s : Saved) → checked o ≡ some s → (r : Raw) × (o ≡ some r) × (well-formed r ≡ true) × (saved r ≡ s)
-checked-only none s e = let z : _≡_ {A = ℕ} 0 1 = cc in absurd (omega (arith, z))
-checked-only (some r) s e = go (well-formed r) refl e
-  where
-    go : (b : Bool) → well-formed r ≡ b → cond b (some (saved r)) none ≡ some s → (x : Raw) × (some r ≡ some x) × (well-formed x ≡ true) × (saved x ≡ s)
-    go true p q = (r, refl, p, cc)
-    go false p q = let z : _≡_ {A = ℕ} 0 1 = cc in absurd (omega (arith, z))
+    let w = table-only wallet-codes owner-slots (r .wallets) (f .wallets-fit) (q .0) in
+    let o = table-only order-codes most-orders (r .orders) (f .orders-fit) (q .1) in
+    (record { last-fits = h .0; mark-fits = h .1; wallets-fit = w .0; orders-fit = o .0 }, rw (h .2, w .1, o .1))
 
 -- contents that fit are read back from their bytes
 pub decode-encode : (s : Saved) → SavedFits s → decode (encode s) ≡ some s
 unfolding decode encode
 decode-encode s f = let t = saved-back s f in rw (raw-back (raw s) (t .0), t .1, t .2)
 
+checked-only : (xs : List ℕ) (o : Option Raw) → Holds (λ r. RawFits r × (write-raw r ≡ xs)) o → Holds (λ s. SavedFits s × (encode s ≡ xs)) (checked o)
+unfolding encode
+checked-only xs none h = tt
+checked-only xs (some r) h =
+    split (λ b. (well-formed r ≡ b) → Holds (λ s. SavedFits s × (encode s ≡ xs)) (cond b (some (saved r)) none)) (well-formed r)
+    (λ _ e. let u = saved-only r (h .0) e in (u .0, ap write-raw (u .1) ∙ h .1)) (λ _ e. tt) refl
+
 -- bytes that are read hold contents that fit, and are those written for them
 decode-only : (xs : List ℕ) (s : Saved) → Bytes xs → decode xs ≡ some s → SavedFits s × (encode s ≡ xs)
-unfolding decode encode
-decode-only xs s b e =
-    let c = checked-only (read-raw xs) s e in
-    let t = whole-only (parts-only xs b) (c .0) (c .1) in
-    let u = saved-only (c .0) (t .0) (c .2) in
-    (rw (c .3) at (u .0), ap (λ x. write-raw (raw x)) (sym (c .3)) ∙ ap write-raw (u .1) ∙ t .1)
+unfolding decode
+decode-only xs s b e = subst (Holds (λ s. SavedFits s × (encode s ≡ xs))) e (checked-only xs (read-raw xs) (whole-only (parts-only xs b)))
 
 pub encode-decode : (xs : List ℕ) (s : Saved) → Bytes xs → decode xs ≡ some s → encode s ≡ xs
 encode-decode xs s b e = decode-only xs s b e .1
@@ -281,4 +281,4 @@ encode-length s =
     omega (arith, w, o, length-append (section wallet-widths (raw s .wallets)) (section order-widths (raw s .orders)))
 
 pub encode-short : (s : Saved) → SavedFits s → length (encode s) ≤ 43033
-encode-short s f = omega (arith, encode-length s, f .wallets-few, f .orders-few)
+encode-short s f = omega (arith, encode-length s, f .wallets-fit .few, f .orders-fit .few)

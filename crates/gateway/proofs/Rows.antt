@@ -1,7 +1,8 @@
--- Numbers, rows and sections, over their widths: what was written is read back, and bytes that are read are those written. Assumes nothing.
-use Prim.Native.Nat.{ℕ, zero, suc, _+_, _*_, _^_, _/_, _%_, _<_, _≤_}
-use mathlib.Core.Path.{_≡_, refl, ap, ap₂, sym, _∙_}
-use mathlib.Core.Option.{Option, none, some}
+-- Numbers, rows and sections of bytes, over any field widths: what was written is read back, whatever bytes stand behind it; bytes that are read are
+-- those written for what was read; every byte is below 256. Assumes nothing.
+use Prim.Native.Nat.{ℕ, zero, suc, _+_, _*_, _^_, _/_, _<_}
+use mathlib.Core.Path.{_≡_, refl, ap, ap₂, _∙_}
+use mathlib.Core.Option.{none, some}
 use mathlib.Core.List.{List, [], _∷_, _++_, map, append-assoc}
 use native.Mathlib.Omega.{arith}
 use native.Mathlib.Nat.{pow-succ', mod-add-div}
@@ -44,6 +45,7 @@ pub data Of {A : Type 0} (P : A → List ℕ → Type 0) : Read A → Type 0 whe
   missing : Of P none
   got : (a : A) (ys : List ℕ) → P a ys → Of P (some (a, ys))
 
+-- reading one thing, then another
 pub of-then : {A B : Type 0} {P : A → List ℕ → Type 0} {Q : B → List ℕ → Type 0} {r : Read A} {f : A → List ℕ → Read B} → Of P r → ((a : A) (ys : List ℕ) → P a ys → Of Q (f a ys)) → Of Q (then r f)
 of-then missing q = missing
 of-then (got a ys p) q = q a ys p
@@ -58,6 +60,7 @@ pub record Wrote {A : Type 0} (Good : A → Type 0) (write : A → List ℕ) (xs
   pub same : write a ++ ys ≡ xs
   pub more : Bytes ys
 
+-- two things written one behind the other
 pub chain : (a b zs : List ℕ) {xs ys : List ℕ} → a ++ ys ≡ xs → b ++ zs ≡ ys → (a ++ b) ++ zs ≡ xs
 chain a b zs p q = append-assoc a b zs ∙ ap (λ l. a ++ l) q ∙ p
 

@@ -171,14 +171,13 @@ abbrev pub all-rows : (List ℕ → Bool) → List (List ℕ) → Bool
 all-rows f [] = true
 all-rows f (r ∷ rs) = f r && all-rows f rs
 
+-- at most so many rows, with rising keys, each fine
+abbrev pub table-ok : ℕ → (List ℕ → Bool) → List (List ℕ) → Bool
+table-ok most fine rs = leb (length rs) most && (keys-rise 0 rs && all-rows fine rs)
+
 unfoldable pub well-formed : Raw → Bool
 well-formed r =
-    price-ok (getD (r .head) 1 0) (getD (r .head) 2 0)
-    && (leb (length (r .wallets)) owner-slots
-    && (keys-rise 0 (r .wallets)
-    && (leb (length (r .orders)) most-orders
-    && (keys-rise 0 (r .orders)
-    && all-rows flags-ok (r .orders)))))
+    price-ok (getD (r .head) 1 0) (getD (r .head) 2 0) && (table-ok owner-slots (λ r. true) (r .wallets) && table-ok most-orders flags-ok (r .orders))
 
 -- ---- the checkpoint
 
