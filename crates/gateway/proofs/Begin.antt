@@ -265,21 +265,21 @@ restore-saved-begins limit l timing s a f =
             record {
               slots = restored-length fs ss ∙ by-slot-length funds-in owner-slots (accounts-of limit l);
               owned = λ i. some-restored fs ss i ∙ by-slot-owned (accounts-of limit l) (omega arith) i;
-              rise = f .orders-rise;
+              rise = f .orders-fit .rise;
               inside = rw size (order-inside limit (s .last) (s .orders) (t .0 .1 .1 .1));
-              few = f .orders-few;
+              few = f .orders-fit .few;
               runs = tt;
               flying = omega arith;
               holds = t .1 .0;
               limit = omega arith;
               fit = record {
                 last-fits = f .last-fits;
-                money-fits = restored-fits fs ss (funds-by-slot limit l a) (slots-fit owner-slots 0 (s .wallets) (f .wallets-fit));
-                orders-fit = values (s .orders) (f .orders-fit);
+                money-fits = restored-fits fs ss (funds-by-slot limit l a) (slots-fit owner-slots 0 (s .wallets) (f .wallets-fit .good));
+                orders-fit = values (s .orders) (f .orders-fit .good);
                 mark-fits = f .mark-fits;
               };
             };
-        rest-is = begin-ok timing k (accounts-of limit l) empty-depth (each (hold-notice-of (k .wallets)) (k .orders)) (empty-feed (k .wallets) (k .orders) (f .orders-few));
+        rest-is = begin-ok timing k (accounts-of limit l) empty-depth (each (hold-notice-of (k .wallets)) (k .orders)) (empty-feed (k .wallets) (k .orders) (f .orders-fit .few));
       },
       record { table = refl; below = t .0 .1 .0; size = size },
     )
@@ -321,10 +321,11 @@ contents-fit c ok =
     record {
       last-fits = ok .fit .last-fits;
       mark-fits = ok .fit .mark-fits;
-      wallets-few = omega (arith, w .1 .1, ok .slots);
-      wallets-fit = w .0;
-      wallets-rise = w .1 .0;
-      orders-few = ok .few;
-      orders-fit = saved-orders (c .ledger .last) (length (c .accounts)) (c .ledger .orders) (ok .fit .last-fits) (ok .limit) (ok .inside) (ok .fit .orders-fit);
-      orders-rise = ok .rise;
+      wallets-fit = record { few = omega (arith, w .1 .1, ok .slots); good = w .0; rise = w .1 .0 };
+      orders-fit =
+          record {
+            few = ok .few;
+            good = saved-orders (c .ledger .last) (length (c .accounts)) (c .ledger .orders) (ok .fit .last-fits) (ok .limit) (ok .inside) (ok .fit .orders-fit);
+            rise = ok .rise;
+          };
     }

@@ -33,19 +33,17 @@ use Rattle.gateway.specs.Core.{Tests, Pass, Origin, Flight, Core, flight
 use Rattle.gateway.specs.Start.{funds-in}
 use Rattle.gateway.specs.Fits.{Unsigned, Signed, PriceFits, FundsFit, MaybeFundsFit, AccountFits, CommandFits, EventFits}
 use Rattle.gateway.proofs.Base.{split, same?}
+use Rattle.gateway.proofs.Sorted.{Each, Rises, rises-from}
 use Rattle.gateway.proofs.Forget.{step-forget, holds-forget}
 use Rattle.gateway.proofs.Money.{settle-fits, zero-fits}
 
 -- ---- orders
 
--- numbers rise from n on; P holds of each order
 abbrev pub Rise : ℕ → List Order → Type 0
-Rise n [] = Unit {0}
-Rise n (o ∷ os) = (n ≤ o .number) × Rise (suc (o .number)) os
+Rise n os = Rises number-of n os
 
 abbrev pub All : (Order → Type 0) → List Order → Type 0
-All P [] = Unit {0}
-All P (o ∷ os) = P o × All P os
+All P os = Each P os
 
 -- P sees an order's number and account alone
 abbrev pub Keyed : (ℕ → ℕ → Type 0) → Order → Type 0
@@ -107,13 +105,9 @@ pub shrunk : (xs : List Change) (l : Ledger) → Shrinks (l .orders) (changed xs
 shrunk [] l = same _
 shrunk (x ∷ xs) l = then (change-shrinks x l) (shrunk xs (change x l))
 
-rise-from : (m n : ℕ) → m ≤ n → (os : List Order) → Rise n os → Rise m os
-rise-from m n h [] t = tt
-rise-from m n h (o ∷ os) t = (omega (arith, t .0), t .1)
-
 rise-shrinks : (n : ℕ) {os ps : List Order} → Shrinks os ps → Rise n os → Rise n ps
 rise-shrinks n empty t = tt
-rise-shrinks n (ended {o = o} {ps = ps} s) t = rise-from n (suc (o .number)) (omega (arith, t .0)) ps (rise-shrinks (suc (o .number)) s (t .1))
+rise-shrinks n (ended {o = o} {ps = ps} s) t = rises-from number-of n (suc (o .number)) (omega (arith, t .0)) ps (rise-shrinks (suc (o .number)) s (t .1))
 rise-shrinks n (kept e q s) t = rw e (t .0, rise-shrinks _ s (t .1))
 
 pub all-shrinks : (P : ℕ → ℕ → Type 0) {os ps : List Order} → Shrinks os ps → All (Keyed P) os → All (Keyed P) ps

@@ -200,12 +200,14 @@ balance-same n a (some w) os = simp (held-forget n a Buy os, held-forget n a Sel
 
 same-books : (n : ℕ) (c d : Core) → d .ledger ≡ forgetting n (c .ledger) → SameBooks n c d
 same-books n c d e =
-    record { last = ap (λ l. l .last) e
-    ; mark = ap (λ l. l .mark) e
-    ; orders = ap (λ l. l .orders) e
-    ; holds = ap (λ l. map order-hold (l .orders)) e ∙ held-same n (c .ledger .orders)
-    ; wallet = λ a. ap (λ l. Option·map (balance-with a (l .orders)) (getD (l .wallets) a none)) e ∙ balance-same n a (getD (c .ledger .wallets) a none) (c .ledger .orders)
-    ; open = λ a. ap (λ l. open-of a (l .orders)) e ∙ open-forget n a (c .ledger .orders) }
+    record {
+      last = ap (λ l. l .last) e;
+      mark = ap (λ l. l .mark) e;
+      orders = ap (λ l. l .orders) e;
+      holds = ap (λ l. map order-hold (l .orders)) e ∙ held-same n (c .ledger .orders);
+      wallet = λ a. ap (λ l. Option·map (balance-with a (l .orders)) (getD (l .wallets) a none)) e ∙ balance-same n a (getD (c .ledger .wallets) a none) (c .ledger .orders);
+      open-count = λ a. ap (λ l. open-of a (l .orders)) e ∙ open-forget n a (c .ledger .orders);
+    }
 
 -- ---- demand 3
 
@@ -216,13 +218,13 @@ restart : (limit : ℕ) (l : List Account) (timing : Timing) (g : Gateway) → O
     all-later (final g xs .core .ledger .last) (record-of (final g xs) ys) →
     Restarts limit (l ++ added (record-of g xs)) timing (final g xs .core .ledger .last) bs (record-of (final g xs) ys) (final g (xs ++ (checkpoint room ∷ ys)))
 unfolding plan at-view restore ledger-of
-restart limit l timing g ok t xs ys room bs h f f′ e later =
+restart limit l timing g ok t xs ys room bs h f f′ e late =
     let m = final g xs in
     let N = m .core .ledger .last in
     let mok = final-ok g xs f ok in
     let k = checkpointed m _ (encode (contents (m .core .ledger))) bs h e in
     let d : decode bs ≡ some (contents (m .core .ledger)) = ap decode (k .0) ∙ decode-encode (contents (m .core .ledger)) (contents-fit (m .core) (mok .core-is)) in
-    let u = leads N m ys f′ mok (omega arith) later (begun-from timing (m .core) .rest) refl in
+    let u = leads N m ys f′ mok (omega arith) late (begun-from timing (m .core) .rest) refl in
     let same : final g (xs ++ (checkpoint room ∷ ys)) ≡ final m ys =
     final-append g xs (checkpoint room ∷ ys) ∙ ap (λ o. final (next-of m o) ys) e ∙ ap (λ n. final n ys) (k .1) in
     record {
@@ -233,7 +235,8 @@ restart limit l timing g ok t xs ys room bs h f f′ e later =
           ∙ ap (λ c. started (record { core = c; rest = begun-from timing (m .core) .rest })) (sym (view-now (m .core) (mok .core-is)));
       ended = at-view N (final m ys .core) (u .0);
       replays = u .1;
-      agrees = ap (λ n. forgetting N (n .core .ledger)) (sym same);
+      agrees =
+          same-books N (final g (xs ++ (checkpoint room ∷ ys)) .core) (view N (final m ys .core)) (ap (λ n. forgetting N (n .core .ledger)) (sym same));
       counted =
           ap (Option·map (λ s. replayed (record-of m ys) (opening s))) d
           ∙ ap (λ c. some (replayed (record-of m ys) c)) (opening-contents (m .core) (mok .core-is) ∙ sym (ap (λ c. c .ledger) (view-now (m .core) (mok .core-is))))
@@ -243,9 +246,9 @@ restart limit l timing g ok t xs ys room bs h f f′ e later =
 -- the claim of a list that begins with g: every accepted checkpoint in it, and all that follows it up to any moment
 pub record Demand3 (limit : ℕ) (l : List Account) (g : Gateway) : Type 0 where
   pub restarts : (timing : Timing) (xs ys : List Call) (room : ℕ) (bs : List ℕ) (h : Gateway) → CallsFit xs → CallsFit ys →
-    call (final g xs) (checkpoint room) ≡ done (bytes bs) [] [] h →
-    all-later (final g xs .core .ledger .last) (record-of (final g xs) ys) →
-    Restarts limit (l ++ added (record-of g xs)) timing (final g xs .core .ledger .last) bs (record-of (final g xs) ys) (final g (xs ++ (checkpoint room ∷ ys)))
+      call (final g xs) (checkpoint room) ≡ done (bytes bs) [] [] h →
+      all-later (final g xs .core .ledger .last) (record-of (final g xs) ys) →
+      Restarts limit (l ++ added (record-of g xs)) timing (final g xs .core .ledger .last) bs (record-of (final g xs) ys) (final g (xs ++ (checkpoint room ∷ ys)))
 
 demand-3 : (limit : ℕ) (l : List Account) (s : Started) (g : Gateway) → Begins limit l s → s ≡ started g → Demand3 limit l g
 demand-3 limit l s g b e =
@@ -254,9 +257,9 @@ demand-3 limit l s g b e =
 
 -- a list may start with set-up, and with restore
 pub after-set-up : (limit last : ℕ) (l : List Account) (listing : List Listed) (timing : Timing) (g : Gateway) → Unsigned last → AccountsFit l → ListingFits listing →
-  set-up limit last l listing timing ≡ started g → Demand3 limit l g
+    set-up limit last l listing timing ≡ started g → Demand3 limit l g
 after-set-up limit last l listing timing g f a x e = demand-3 limit l _ g (set-up-begins limit last l listing timing f a x) e
 
 pub after-restore : (limit : ℕ) (l : List Account) (timing : Timing) (bs : List ℕ) (g : Gateway) → AccountsFit l → Bytes bs →
-  restore limit l timing bs ≡ started g → Demand3 limit l g
+    restore limit l timing bs ≡ started g → Demand3 limit l g
 after-restore limit l timing bs g a b e = demand-3 limit l _ g (restore-begins limit l timing bs a b) e

@@ -83,7 +83,7 @@ pub record SameBooks (n : ℕ) (c d : Core) : Type 0 where
   pub orders : d .ledger .orders ≡ map (forget n) (c .ledger .orders)
   pub holds : map order-hold (d .ledger .orders) ≡ map order-hold (c .ledger .orders)
   pub wallet : (a : ℕ) → balance a d ≡ balance a c
-  pub open : (a : ℕ) → open-of a (d .ledger .orders) ≡ open-of a (c .ledger .orders)
+  pub open-count : (a : ℕ) → open-of a (d .ledger .orders) ≡ open-of a (c .ledger .orders)
 
 -- what demand 3 claims of a checkpoint's bytes, taken at the number n with the accounts l, the record since, and the gateway g of now: the bytes are
 -- restored, the record is replayed item by item, the two gateways agree on the books, and the second's are the independent ledger's
