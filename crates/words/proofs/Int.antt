@@ -31,7 +31,7 @@ pub int-zero : int 0 ≡ pos 0
 unfolding int
 int-zero = refl
 
-pub int-most : int 9223372036854775807 ≡ most
+pub int-most : int (half - 1) ≡ most
 unfolding int
 int-most = refl
 
@@ -42,9 +42,6 @@ int-least = refl
 -- an i64 that is returned or passed on is read back from its bits
 pub read : {x : ℤ} → mag x < half → toZ w64 (ofZ w64 x) ≡ x
 read {x} h = toZ-ofZ w64 x (record { sfits = h })
-
-pub back : {x : ℤ} → SFits w64 x → toZ w64 (ofZ w64 x) ≡ x
-back {x} f = toZ-ofZ w64 x f
 
 pub int-of : (x : ℤ) → SFits w64 x → int (ofZ w64 x) ≡ x
 unfolding int
