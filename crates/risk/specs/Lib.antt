@@ -1,0 +1,3 @@
+pub mod Collar
+pub mod Meter
+pub mod Throttle

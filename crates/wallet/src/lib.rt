@@ -1,0 +1,179 @@
+// Paper money (crates/gateway/src/wallet.rs): what a paper-trading account owns, and what its open orders hold of it.
+// Numbers are words, `int w`.
+use accounts::Funds;
+use orderbook::Side;
+use protocol::Balance;
+use words::Amount;
+ghost use mathlib.Core.Path.{_≡_};
+ghost use mathlib.Core.Option.{Option·getD};
+ghost use Rattle.words.specs.Words.{int, amount};
+ghost use Rattle.wallet.specs.Wallet as W;
+
+// What qty lots at price cost, if it fits.
+fn cost(price: u64, qty: u64) -> Amount
+    ensures { λ r. ⌜ amount r ≡ W.cost (int price) qty ⌝ }
+{
+    words::narrow(words::signed_mul(price, qty))
+}
+
+fn unwrap_or(a: Amount, other: u64) -> u64
+    ensures { λ r. ⌜ int r ≡ Option·getD (amount a) (int other) ⌝ }
+{
+    match a {
+        Amount::Fits(w) => w,
+        Amount::TooBig => other,
+    }
+}
+
+// What a live order holds: nothing without a price, or where the amount does not fit.
+pub fn held(side: Side, priced: bool, price: u64, leaves: u64) -> u64
+    ensures { λ r. ⌜ int r ≡ W.held side (W.price-of priced (int price)) leaves ⌝ }
+{
+    if priced {
+        unwrap_or(Wallet::hold_of(side, price, leaves), 0)
+    } else {
+        0
+    }
+}
+
+// What a paper-trading account owns and holds.
+pub struct Wallet {
+    // Cash, in price ticks times lots.
+    pub cash: u64,
+    // Lots.
+    pub position: u64,
+    // Cash held for open buy orders.
+    pub cash_held: u64,
+    // Lots held for open sell orders.
+    pub position_held: u64,
+}
+
+// A wallet after a hold changed, if the total fits.
+pub enum Changed {
+    Fits(Wallet),
+    TooBig,
+}
+
+impl Wallet {
+    // A wallet with what funds gives, holding nothing.
+    pub fn new(funds: Funds) -> Wallet
+        ensures { λ r. ⌜ W.balance-of r ≡ W.new funds ⌝ }
+    {
+        Wallet {
+            cash: words::of_i64(funds.cash),
+            position: words::of_i64(funds.position),
+            cash_held: 0,
+            position_held: 0,
+        }
+    }
+
+    // What an order of side with leaves open at price holds: cash for a buy, lots for a sell.
+    pub fn hold_of(side: Side, price: u64, leaves: u64) -> Amount
+        ensures { λ r. ⌜ amount r ≡ W.hold-of side (int price) leaves ⌝ }
+    {
+        match side {
+            Side::Buy => cost(price, leaves),
+            Side::Sell => words::positive(leaves),
+        }
+    }
+
+    fn owned_on(self, side: Side) -> u64
+        ensures { λ r. ⌜ int r ≡ W.owned-on side (W.balance-of self) ⌝ }
+    {
+        match side {
+            Side::Buy => self.cash,
+            Side::Sell => self.position,
+        }
+    }
+
+    fn held_on(self, side: Side) -> u64
+        ensures { λ r. ⌜ int r ≡ W.held-on side (W.balance-of self) ⌝ }
+    {
+        match side {
+            Side::Buy => self.cash_held,
+            Side::Sell => self.position_held,
+        }
+    }
+
+    fn with_held(self, side: Side, total: u64) -> Wallet
+        ensures { λ r. ⌜ W.balance-of r ≡ W.with-held side (int total) (W.balance-of self) ⌝ }
+    {
+        match side {
+            Side::Buy => Wallet {
+                cash: self.cash,
+                position: self.position,
+                cash_held: total,
+                position_held: self.position_held,
+            },
+            Side::Sell => Wallet {
+                cash: self.cash,
+                position: self.position,
+                cash_held: self.cash_held,
+                position_held: total,
+            },
+        }
+    }
+
+    // Whether the wallet can hold amount more on side.
+    pub fn covers(self, side: Side, amount: u64) -> bool
+        ensures { λ r. ⌜ r ≡ W.covers side (int amount) (W.balance-of self) ⌝ }
+    {
+        words::le_sub(amount, self.owned_on(side), self.held_on(side))
+    }
+
+    // An order's hold on side changes from old to new.
+    pub fn hold(self, side: Side, old: u64, new: u64) -> Changed
+        ensures { λ r. ⌜ W.changed r ≡ W.hold side (int old) (int new) (W.balance-of self) ⌝ }
+    {
+        match words::total(self.held_on(side), old, new) {
+            Amount::Fits(total) => Changed::Fits(self.with_held(side, total)),
+            Amount::TooBig => Changed::TooBig,
+        }
+    }
+
+    fn bought(self, amount: u64, lots: u64) -> Wallet
+        ensures { λ r. ⌜ W.balance-of r ≡ W.with-funds (W.bought (int amount) (int lots) (W.funds (W.balance-of self))) (W.balance-of self) ⌝ }
+    {
+        Wallet {
+            cash: words::saturating_sub(self.cash, amount),
+            position: words::saturating_add(self.position, lots),
+            cash_held: self.cash_held,
+            position_held: self.position_held,
+        }
+    }
+
+    fn sold(self, amount: u64, lots: u64) -> Wallet
+        ensures { λ r. ⌜ W.balance-of r ≡ W.with-funds (W.sold (int amount) (int lots) (W.funds (W.balance-of self))) (W.balance-of self) ⌝ }
+    {
+        Wallet {
+            cash: words::saturating_add(self.cash, amount),
+            position: words::saturating_sub(self.position, lots),
+            cash_held: self.cash_held,
+            position_held: self.position_held,
+        }
+    }
+
+    // Settles a trade of qty lots at price by an order of side.
+    pub fn settle(self, side: Side, price: u64, qty: u64) -> Wallet
+        ensures { λ r. ⌜ W.balance-of r ≡ W.settled side (int price) qty (W.balance-of self) ⌝ }
+    {
+        let amount = unwrap_or(cost(price, qty), words::MOST);
+        let lots = unwrap_or(words::positive(qty), words::MOST);
+        match side {
+            Side::Buy => self.bought(amount, lots),
+            Side::Sell => self.sold(amount, lots),
+        }
+    }
+
+    // The wallet, as a client is told it.
+    pub fn balance(self) -> Balance
+        ensures { λ r. ⌜ r ≡ W.balance-of self ⌝ }
+    {
+        Balance {
+            cash: words::to_i64(self.cash),
+            position: words::to_i64(self.position),
+            cash_held: words::to_i64(self.cash_held),
+            position_held: words::to_i64(self.position_held),
+        }
+    }
+}

@@ -1,0 +1,5 @@
+pub mod Diff
+pub mod Int
+pub mod Fit
+pub mod Product
+pub mod Laws
