@@ -55,7 +55,9 @@ impl OrderBook {
     }
 
     pub fn queue(&self, side: Side, price: Price) -> impl Iterator<Item = &Order> {
-        self.orders.iter().filter(move |o| (o.side, o.price) == (side, price))
+        self.orders
+            .iter()
+            .filter(move |o| (o.side, o.price) == (side, price))
     }
 
     pub fn stops(&self, side: Side) -> impl Iterator<Item = &Stop> {
