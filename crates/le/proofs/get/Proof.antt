@@ -3,56 +3,39 @@ use Rattle.le.proofs.Checked.{width-one}
 use native.Mathlib.Omega.{arith}
 use Rattle.le.proofs.get.Statement.{statement}
 use Rattle.le.proofs.get.Tie as tie
-use Rattle.le.proofs.get.Reads as reads
-use Rattle.le.proofs.get.Lts as lts
-use Rattle.le.proofs.get_u16.Reads as get-u16-reads
-use Rattle.le.proofs.get_u32.Reads as get-u32-reads
-use Rattle.le.proofs.get_u64.Reads as get-u64-reads
-use Rattle.le.proofs.get_u8.Reads as get-u8-reads
 
--- src/lib.rt:86:9
 get-u64-requires : tie.Need-get-u64-requires
 get-u64-requires c κs = search needs
 
--- src/lib.rt:86:9
 returns : tie.Need-returns
 returns c = rw (c .before .if1 .taken) (c .get-u64 .ensures)
 
--- src/lib.rt:89:16
 get-u32-requires : tie.Need-get-u32-requires
 get-u32-requires c κs = search needs
 
--- src/lib.rt:89:16
 cast-result : tie.Need-cast-result
 cast-result c = search needs
 
--- src/lib.rt:89:9
 returns-2 : tie.Need-returns-2
 returns-2 c = rw (c .before .if2 .taken) (c .get-u32 .ensures)
 
--- src/lib.rt:92:16
 get-u16-requires : tie.Need-get-u16-requires
 get-u16-requires c κs = search needs
 
--- src/lib.rt:92:16
 cast-result-2 : tie.Need-cast-result-2
 cast-result-2 c = search needs
 
--- src/lib.rt:92:9
 returns-3 : tie.Need-returns-3
 returns-3 c = rw (c .before .if3 .taken) (c .get-u16 .ensures)
 
--- src/lib.rt:94:5
 get-u8-requires : tie.Need-get-u8-requires
 get-u8-requires c κs = omega (arith, width-one (c .before .before .if1 .left) (c .before .if2 .left) (c .if3 .left) (c .before .before .before .before .pre .width))
 
--- src/lib.rt:94:5
 cast-result-3 : tie.Need-cast-result-3
 cast-result-3 c = search needs
 
--- src/lib.rt:81:1
 returns-4 : tie.Need-returns-4
-returns-4 c = 
+returns-4 c =
     let c0 = c .before .before .before in
     rw (width-one (c0 .if1 .left) (c .before .before .if2 .left) (c .before .if3 .left) (c0 .before .before .pre .width)) (c .get-u8 .ensures)
 

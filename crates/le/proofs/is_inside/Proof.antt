@@ -6,34 +6,27 @@ use Prim.Native.Nat.{_+_, _≤_, _<_}
 use mathlib.Core.Bool.{and-true, and-false}
 use Rattle.le.proofs.is_inside.Statement.{statement}
 use Rattle.le.proofs.is_inside.Tie as tie
-use Rattle.le.proofs.is_inside.Reads as reads
-use Rattle.le.proofs.is_inside.Lts as lts
-use Rattle.le.proofs.is_width.Reads as is-width-reads
 
--- src/lib.rt:132:9
 returns : tie.Need-returns
 unfolding inside
-returns c = 
+returns c =
     let a = c .before .args in
     let h : a .len < a .o + a .width = omega arith in
     rw (lt-leb _ _ h, and-false)
 
--- src/lib.rt:135:9
 returns-2 : tie.Need-returns-2
 unfolding inside
-returns-2 c = 
+returns-2 c =
     let a = c .before .before .args in
     let h : a .len < a .o + a .width = omega arith in
     rw (lt-leb _ _ h, and-false)
 
--- src/lib.rt:137:5
 is-width-requires : tie.Need-is-width-requires
 is-width-requires c κs = search needs
 
--- src/lib.rt:128:1
 returns-3 : tie.Need-returns-3
 unfolding inside
-returns-3 c = 
+returns-3 c =
     let a = c .before .before .before .args in
     let h : a .o + a .width ≤ a .len = omega arith in
     rw (le-leb _ _ h, and-true) (c .is-width .ensures)

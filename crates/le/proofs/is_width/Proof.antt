@@ -1,22 +1,16 @@
 use Rattle.le.proofs.is_width.Statement.{statement}
 use borrow.Author.Tests.{ne-eqb}
 use Rattle.le.proofs.is_width.Tie as tie
-use Rattle.le.proofs.is_width.Reads as reads
-use Rattle.le.proofs.is_width.Lts as lts
 
--- src/lib.rt:117:9
 returns : tie.Need-returns
 returns c = rw (c .if1 .taken)
 
--- src/lib.rt:120:9
 returns-2 : tie.Need-returns-2
 returns-2 c = rw (c .if2 .taken)
 
--- src/lib.rt:123:9
 returns-3 : tie.Need-returns-3
 returns-3 c = rw (c .if3 .taken)
 
--- src/lib.rt:113:1
 returns-4 : tie.Need-returns-4
 returns-4 c = rw (ne-eqb _ _ (c .before .before .if1 .left), ne-eqb _ _ (c .before .if2 .left), ne-eqb _ _ (c .if3 .left))
 

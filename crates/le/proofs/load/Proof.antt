@@ -3,24 +3,16 @@ use Rattle.le.proofs.Checked.{place}
 use mathlib.Core.Path.{sym, _∙_}
 use Rattle.le.proofs.load.Statement.{statement}
 use Rattle.le.proofs.load.Tie as tie
-use Rattle.le.proofs.load.Reads as reads
-use Rattle.le.proofs.load.Lts as lts
-use Rattle.le.proofs.get.Reads as get-reads
-use Rattle.le.proofs.is_inside.Reads as is-inside-reads
 
--- src/lib.rt:160:8
 is-inside-requires : tie.Need-is-inside-requires
 is-inside-requires c κs = search needs
 
--- src/lib.rt:161:30
 get-requires : tie.Need-get-requires
 get-requires c κs = place _ _ _ (sym (c .before .is-inside .ensures) ∙ c .if1 .taken)
 
--- src/lib.rt:161:9
 returns : tie.Need-returns
 returns c = rw (← c .before .before .is-inside .ensures, c .before .if1 .taken, c .get .ensures)
 
--- src/lib.rt:157:1
 returns-2 : tie.Need-returns-2
 returns-2 c = rw (← c .before .is-inside .ensures, c .if1 .left)
 

@@ -4,76 +4,57 @@ use Prim.Native.Nat.{_<_, _^_}
 use native.Mathlib.Omega.{arith}
 use Rattle.le.proofs.put.Statement.{statement}
 use Rattle.le.proofs.put.Tie as tie
-use Rattle.le.proofs.put.Reads as reads
-use Rattle.le.proofs.put.Lts as lts
-use Rattle.le.proofs.put_u16.Reads as put-u16-reads
-use Rattle.le.proofs.put_u32.Reads as put-u32-reads
-use Rattle.le.proofs.put_u64.Reads as put-u64-reads
-use Rattle.le.proofs.put_u8.Reads as put-u8-reads
 
--- src/lib.rt:102:9
 put-u64-requires : tie.Need-put-u64-requires
 put-u64-requires c κs = search needs
 
--- src/lib.rt:102:9
 same-length : tie.Need-same-length
 same-length c = search needs
 
--- src/lib.rt:102:9
 returns : tie.Need-returns
 returns c = rw (c .before .before .before .before .if1 .taken) (c .before .before .put-u64 .ensures)
 
--- src/lib.rt:105:30
 cast-put-u32 : tie.Need-cast-put-u32
-cast-put-u32 c = rw (c .before .if2 .taken) at (c .before .before .before .before .pre .1)
+cast-put-u32 c = record { fits = rw (c .before .if2 .taken) at (c .before .before .before .before .pre .1) }
 
--- src/lib.rt:105:9
 put-u32-requires : tie.Need-put-u32-requires
 put-u32-requires c κs = search needs
 
--- src/lib.rt:105:9
 same-length-2 : tie.Need-same-length-2
 same-length-2 c = search needs
 
--- src/lib.rt:105:9
 returns-2 : tie.Need-returns-2
 returns-2 c = rw (c .before .before .before .before .if2 .taken) (c .before .before .put-u32 .ensures)
 
--- src/lib.rt:108:30
 cast-put-u16 : tie.Need-cast-put-u16
-cast-put-u16 c = rw (c .before .if3 .taken) at (c .before .before .before .before .before .pre .1)
+cast-put-u16 c = record { fits = rw (c .before .if3 .taken) at (c .before .before .before .before .before .pre .1) }
 
--- src/lib.rt:108:9
 put-u16-requires : tie.Need-put-u16-requires
 put-u16-requires c κs = search needs
 
--- src/lib.rt:108:9
 same-length-3 : tie.Need-same-length-3
 same-length-3 c = search needs
 
--- src/lib.rt:108:9
 returns-3 : tie.Need-returns-3
 returns-3 c = rw (c .before .before .before .before .if3 .taken) (c .before .before .put-u16 .ensures)
 
--- src/lib.rt:110:18
 cast-put-u8 : tie.Need-cast-put-u8
-cast-put-u8 c = 
+cast-put-u8 c =
     let s = c .before .before .before .before .before in
-    rw (width-one (c .before .before .before .if1 .left) (c .before .before .if2 .left) (c .before .if3 .left) (s .pre .0 .width)) at (s .pre .1)
+    record {
+      fits = rw (width-one (c .before .before .before .if1 .left) (c .before .before .if2 .left) (c .before .if3 .left) (s .pre .0 .width)) at (s .pre .1);
+    }
 
--- src/lib.rt:110:5
 put-u8-requires : tie.Need-put-u8-requires
-put-u8-requires c κs = 
+put-u8-requires c κs =
     let s = c .before .before .before .before .before in
     omega (arith, width-one (c .before .before .before .if1 .left) (c .before .before .if2 .left) (c .before .if3 .left) (s .pre .0 .width))
 
--- src/lib.rt:97:1
 same-length-4 : tie.Need-same-length-4
 same-length-4 c = search needs
 
--- src/lib.rt:97:1
 returns-4 : tie.Need-returns-4
-returns-4 c = 
+returns-4 c =
     let c3 = c .before .before .before .before in
     let s = c3 .before .before .before .before in
     rw (width-one (c3 .before .before .if1 .left) (c3 .before .if2 .left) (c3 .if3 .left) (s .pre .0 .width)) (c .before .before .put-u8 .ensures)
