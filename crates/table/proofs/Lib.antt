@@ -1,2 +1,5 @@
 pub mod Moves
 pub mod Search
+pub mod Lists
+pub mod Live
+pub mod Packed

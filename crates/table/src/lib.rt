@@ -109,3 +109,30 @@ pub fn strike(m: &mut [u8], base: usize, stride: usize, mark: usize, i: usize)
 {
     le::put_u8(m, base + stride * i + mark, 0);
 }
+
+fn move_row(m: &mut [u8], base: usize, stride: usize, i: usize, w: usize)
+    requires { ⌜ Room base stride (i + 1) (now m) × (w ≤ i) ⌝ }
+    ensures { λ r. ⌜ Moved (now (m .entry)) (now (m .exit)) (base + stride * i) (base + stride * w) stride ⌝ }
+{
+    if w < i {
+        move_down(m, base + stride * i, base + stride * w, stride);
+    }
+}
+
+// The dead rows are squeezed out. The answer is how many are left.
+pub fn compact(m: &mut [u8], base: usize, stride: usize, mark: usize, n: usize) -> usize
+    requires { ⌜ Room base stride n (now m) × (mark < stride) ⌝ }
+    ensures { λ r. ⌜ Compacted base stride mark n r (now (m .entry)) (now (m .exit)) ⌝ }
+{
+    let mut w: usize = 0;
+    let mut i: usize = 0;
+    while i < n {
+        let at = i;
+        i += 1;
+        if mark_at(m, base, stride, mark, at) != 0 {
+            move_row(m, base, stride, at, w);
+            w += 1;
+        }
+    }
+    w
+}
