@@ -48,6 +48,9 @@ whole s k h =
 pub moved-none : (xs : List ℕ) (o p : ℕ) → Moved xs xs o p 0
 moved-none xs o p = record { same = record { at = λ k l. absurd (omega arith) }; frame = outside-refl p (p + 0) xs }
 
+pub moved-still : (xs : List ℕ) (o n : ℕ) → Moved xs xs o o n
+moved-still xs o n = record { same = record { at = λ k l. refl }; frame = outside-refl o (o + n) xs }
+
 pub moved-word : (ys : List ℕ) (o p : ℕ) → Bytes ys → p + 8 ≤ length ys → Moved ys (put 8 ys p (le 8 ys o)) o p 8
 moved-word ys o p b h =
     record { same = same-put 8 ys ys o p b h; frame = outside-put p (p + 8) 8 ys p (le 8 ys o) (omega arith) (omega arith) }
