@@ -3,3 +3,4 @@ pub mod Search
 pub mod Lists
 pub mod Live
 pub mod Packed
+pub mod Readers

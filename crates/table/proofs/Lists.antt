@@ -95,17 +95,17 @@ module _ {A : Type 0} (key : A → ℕ) where
   swap-without {k} {x} {p} {q} s e =
       s .to
       ∙ sym
-        (ap (without key k) (s .from)
-        ∙ without-other k (s .low) (x ++ s .high) (others-low s)
-        ∙ ap (λ (y : List A). s .low ++ y) (without-same k x (s .high) e ∙ without-high k (s .high) (others-high s)))
+      (ap (without key k) (s .from)
+      ∙ without-other k (s .low) (x ++ s .high) (others-low s)
+      ∙ ap (λ (y : List A). s .low ++ y) (without-same k x (s .high) e ∙ without-high k (s .high) (others-high s)))
 
   pub swap-insert : {p q : List A} (r : A) → Swap (key r) [] (r ∷ []) p q → q ≡ insert key r p
   swap-insert {p} {q} r s =
       s .to
       ∙ sym
-        (ap (insert key r) (s .from)
-        ∙ insert-low r (s .low) (s .high) (s .less)
-        ∙ ap (λ (y : List A). s .low ++ y) (insert-high r (s .high) (s .more)))
+      (ap (insert key r) (s .from)
+      ∙ insert-low r (s .low) (s .high) (s .less)
+      ∙ ap (λ (y : List A). s .low ++ y) (insert-high r (s .high) (s .more)))
 
   replace-high : (r : A) (m : List A) → Each (λ x. key x ≡ key r → ⊥) m → replace key r m ≡ m
   unfolding replace
@@ -116,6 +116,6 @@ module _ {A : Type 0} (key : A → ℕ) where
   swap-replace {p} {q} o r h s =
       s .to
       ∙ sym
-        (ap (replace key r) (s .from)
-        ∙ replace-other r (s .low) (o ∷ s .high) (others-low s)
-        ∙ ap (λ (y : List A). s .low ++ y) (rw (eq-eqb (key o) (key r) h) (ap (λ (y : List A). r ∷ y) (replace-high r (s .high) (others-high s)))))
+      (ap (replace key r) (s .from)
+      ∙ replace-other r (s .low) (o ∷ s .high) (others-low s)
+      ∙ ap (λ (y : List A). s .low ++ y) (rw (eq-eqb (key o) (key r) h) (ap (λ (y : List A). r ∷ y) (replace-high r (s .high) (others-high s)))))

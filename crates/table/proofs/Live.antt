@@ -82,16 +82,16 @@ module _ {A : Type 0} (mark key : A → ℕ) where
         high = live mark (λ j. f (i + j)) (n - i);
         from = ap (live mark f) e ∙ live-add mark f i (n - i);
         to =
-          split mark g i (n + 1) (omega arith)
-          ∙ ap₂ (λ (a b : List A). a ++ (pick (mark (g i)) (g i) ++ b))
+            split mark g i (n + 1) (omega arith)
+            ∙ ap₂ (λ (a b : List A). a ++ (pick (mark (g i)) (g i) ++ b))
             (live-ext mark f g i (p .before))
             (ap (live mark (λ j. g (i + 1 + j))) e′
             ∙ live-ext mark (λ j. f (i + j)) (λ j. g (i + 1 + j)) (n - i)
-              (λ j l. let q : i + 1 + j ≡ i + j + 1 = omega arith in ap g q ∙ p .behind (i + j) (omega arith) (omega arith)));
+            (λ j l. let q : i + 1 + j ≡ i + j + 1 = omega arith in ap g q ∙ p .behind (i + j) (omega arith) (omega arith)));
         less = each-live mark (λ r. key r < key (g i)) f i (λ j l m. rw (← p .before j l) (s j i l (omega arith)));
         more =
-          each-live mark (λ r. key (g i) < key r) (λ j. f (i + j)) (n - i)
-          (λ j l m. rw (← p .behind (i + j) (omega arith) (omega arith)) (s i (i + j + 1) (omega arith) (omega arith)))
+            each-live mark (λ r. key (g i) < key r) (λ j. f (i + j)) (n - i)
+            (λ j l m. rw (← p .behind (i + j) (omega arith) (omega arith)) (s i (i + j + 1) (omega arith) (omega arith)));
       }
 
   pub change-swap : {f g : ℕ → A} {n i : ℕ} → Changed f g n i → Ascends key f n
@@ -103,13 +103,13 @@ module _ {A : Type 0} (mark key : A → ℕ) where
         high = live mark (λ j. f (i + 1 + j)) (n - (i + 1));
         from = split mark f i n h;
         to =
-          split mark g i n h
-          ∙ ap₂ (λ (a b : List A). a ++ (pick (mark (g i)) (g i) ++ b))
+            split mark g i n h
+            ∙ ap₂ (λ (a b : List A). a ++ (pick (mark (g i)) (g i) ++ b))
             (live-ext mark f g i (λ j l. p .other j (omega arith) (λ e. omega arith)))
             (live-ext mark (λ j. f (i + 1 + j)) (λ j. g (i + 1 + j)) (n - (i + 1)) (λ j l. p .other (i + 1 + j) (omega arith) (λ e. omega arith)));
         less = each-live mark (λ r. key r < key (f i)) f i (λ j l m. s j i l h);
         more =
-          each-live mark (λ r. key (f i) < key r) (λ j. f (i + 1 + j)) (n - (i + 1)) (λ j l m. s i (i + 1 + j) (omega arith) (omega arith))
+            each-live mark (λ r. key (f i) < key r) (λ j. f (i + 1 + j)) (n - (i + 1)) (λ j l m. s i (i + 1 + j) (omega arith) (omega arith));
       }
 
   -- ---- a row put in, taken out, changed
@@ -144,8 +144,8 @@ module _ {A : Type 0} (mark key : A → ℕ) where
   look-some f k i n s h e m =
       ap (look key k) (split mark f i n h)
       ∙ rw (pick-live (mark (f i)) (f i) m)
-        (look-here key k (live mark f i) (f i) (live mark (λ j. f (i + 1 + j)) (n - (i + 1)))
-          (each-live mark (λ r. key r ≡ k → ⊥) f i (λ j l a q. omega (arith, s j i l h))) e)
+      (look-here key k (live mark f i) (f i) (live mark (λ j. f (i + 1 + j)) (n - (i + 1)))
+      (each-live mark (λ r. key r ≡ k → ⊥) f i (λ j l a q. omega (arith, s j i l h))) e)
 
   pub look-none : (f : ℕ → A) (k n : ℕ) → ((j : ℕ) → j < n → key (f j) ≡ k → mark (f j) ≡ 0) → look key k (live mark f n) ≡ none
   look-none f k n h = look-nowhere key k (live mark f n) (each-live mark (λ r. key r ≡ k → ⊥) f n (λ j l a q. omega (arith, h j l q)))
@@ -162,41 +162,41 @@ module _ {A : Type 0} (key : A → ℕ) where
 
   pub ascends-close : {f g : ℕ → A} {n i : ℕ} → Gap f g n i → Ascends key g (n + 1) → Ascends key f n
   ascends-close {f} {g} {n} {i} p s = λ a b h l.
-    ⊎-elim
-    (λ (q : b < i). rw (← p .before a (omega arith), ← p .before b q) (s a b h (omega arith)))
-    (λ (q : i ≤ b).
+      ⊎-elim
+      (λ (q : b < i). rw (← p .before a (omega arith), ← p .before b q) (s a b h (omega arith)))
+      (λ (q : i ≤ b).
       rw (← p .behind b q l)
       (⊎-elim
       (λ (r : a < i). rw (← p .before a r) (s a (b + 1) (omega arith) (omega arith)))
       (λ (r : i ≤ a). rw (← p .behind a r (omega arith)) (s (a + 1) (b + 1) (omega arith) (omega arith)))
       (lt-or-le a i)))
-    (lt-or-le b i)
+      (lt-or-le b i)
 
   pub ascends-open : {f g : ℕ → A} {n i : ℕ} → Gap f g n i → Ascends key f n → ((j : ℕ) → j < i → key (f j) < key (g i)) → ((j : ℕ) → i ≤ j → j < n → key (g i) < key (f j))
       → Ascends key g (n + 1)
   ascends-open {f} {g} {n} {i} p s lo hi = λ a b h l.
-    ⊎-elim
-    (λ (q : b < i). rw (p .before a (omega arith), p .before b q) (s a b h (omega arith)))
-    (λ (q : i ≤ b).
+      ⊎-elim
+      (λ (q : b < i). rw (p .before a (omega arith), p .before b q) (s a b h (omega arith)))
+      (λ (q : i ≤ b).
       ⊎-elim
       (λ (e : i ≡ b). rw (← e, p .before a (omega arith)) (lo a (omega arith)))
       (λ (r : i < b).
-        let c : ℕ = b - 1 in
-        let e : b ≡ c + 1 = omega arith in
-        rw (e, p .behind c (omega arith) (omega arith))
-        (⊎-elim
-        (λ (t : a < i). rw (p .before a t) (s a c (omega arith) (omega arith)))
-        (λ (t : i ≤ a).
-          ⊎-elim
-          (λ (e : i ≡ a). rw (← e) (hi c (omega arith) (omega arith)))
-          (λ (t : i < a).
-            let d : ℕ = a - 1 in
-            let e : a ≡ d + 1 = omega arith in
-            rw (e, p .behind d (omega arith) (omega arith)) (s d c (omega arith) (omega arith)))
-          (eq-or-lt-of-le t))
-        (lt-or-le a i)))
+      let c : ℕ = b - 1 in
+      let e : b ≡ c + 1 = omega arith in
+      rw (e, p .behind c (omega arith) (omega arith))
+      (⊎-elim
+      (λ (t : a < i). rw (p .before a t) (s a c (omega arith) (omega arith)))
+      (λ (t : i ≤ a).
+      ⊎-elim
+      (λ (e : i ≡ a). rw (← e) (hi c (omega arith) (omega arith)))
+      (λ (t : i < a).
+      let d : ℕ = a - 1 in
+      let e : a ≡ d + 1 = omega arith in
+      rw (e, p .behind d (omega arith) (omega arith)) (s d c (omega arith) (omega arith)))
+      (eq-or-lt-of-le t))
+      (lt-or-le a i)))
       (eq-or-lt-of-le q))
-    (lt-or-le b i)
+      (lt-or-le b i)
 
   pub gap-end : (f g : ℕ → A) (n : ℕ) → ((j : ℕ) → j < n → g j ≡ f j) → Gap f g n n
   gap-end f g n h = record { inside = omega arith; before = h; behind = λ j a b. absurd (omega arith) }

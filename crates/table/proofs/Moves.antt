@@ -60,13 +60,13 @@ pub moved-low : {xs ys zs : List ℕ} (o p a b : ℕ) → p ≤ o → Moved xs y
 moved-low o p a b h s t =
     record {
       same =
-        same-join
-        (same-trans (s .same) (same-outside a p (t .frame) (inl (omega arith))))
-        (same-trans (same-outside b (o + a) (s .frame) (inr (omega arith))) (t .same));
+          same-join
+          (same-trans (s .same) (same-outside a p (t .frame) (inl (omega arith))))
+          (same-trans (same-outside b (o + a) (s .frame) (inr (omega arith))) (t .same));
       frame =
-        outside-trans
-        (outside-wider p (p + (a + b)) (omega arith) (omega arith) (s .frame))
-        (outside-wider p (p + (a + b)) (omega arith) (omega arith) (t .frame))
+          outside-trans
+          (outside-wider p (p + (a + b)) (omega arith) (omega arith) (s .frame))
+          (outside-wider p (p + (a + b)) (omega arith) (omega arith) (t .frame));
     }
 
 -- the high part first, where they move up
@@ -74,13 +74,13 @@ pub moved-high : {xs ys zs : List ℕ} (o p a b : ℕ) → o ≤ p → Moved xs 
 moved-high o p a b h s t =
     record {
       same =
-        same-join
-        (same-trans (same-outside a o (s .frame) (inl (omega arith))) (t .same))
-        (same-trans (s .same) (same-outside b (p + a) (t .frame) (inr (omega arith))));
+          same-join
+          (same-trans (same-outside a o (s .frame) (inl (omega arith))) (t .same))
+          (same-trans (s .same) (same-outside b (p + a) (t .frame) (inr (omega arith))));
       frame =
-        outside-trans
-        (outside-wider p (p + (a + b)) (omega arith) (omega arith) (s .frame))
-        (outside-wider p (p + (a + b)) (omega arith) (omega arith) (t .frame))
+          outside-trans
+          (outside-wider p (p + (a + b)) (omega arith) (omega arith) (s .frame))
+          (outside-wider p (p + (a + b)) (omega arith) (omega arith) (t .frame));
     }
 
 pub moved-down : {xs ys : List ℕ} (o p n k : ℕ) → p ≤ o → k + 8 ≤ n → o + n ≤ length ys → Bytes ys → Moved xs ys o p k
@@ -105,12 +105,12 @@ opened {xs} {ys} base s n i h m =
       inside = h;
       before = λ j l. same-outside s (base + s * j) (m .frame) (inl (omega (arith, step s l)));
       behind = λ j l k.
-        let a : ℕ = s * (j - i) in
-        let e : base + s * i + a ≡ base + s * j = omega (arith, minus s l) in
-        let e′ : base + s * i + s + a ≡ base + s * (j + 1) = omega (arith, minus s l, next s j) in
-        let q : j - i < n - i = omega arith in
-        rw (e, e′) at (same-part a s (step s q) (m .same));
-      frame = outside-wider _ _ (omega (arith, next s i)) (omega (arith, minus s h, next s n)) (m .frame)
+          let a : ℕ = s * (j - i) in
+          let e : base + s * i + a ≡ base + s * j = omega (arith, minus s l) in
+          let e′ : base + s * i + s + a ≡ base + s * (j + 1) = omega (arith, minus s l, next s j) in
+          let q : j - i < n - i = omega arith in
+          rw (e, e′) at (same-part a s (step s q) (m .same));
+      frame = outside-wider _ _ (omega (arith, next s i)) (omega (arith, minus s h, next s n)) (m .frame);
     }
 
 pub closed : {xs ys : List ℕ} (base s n i : ℕ) → i < n → Moved xs ys (base + s * i + s) (base + s * i) (s * (n - 1 - i)) → Closed base s n i xs ys
@@ -119,10 +119,10 @@ closed {xs} {ys} base s n i h m =
       inside = h;
       before = λ j l. same-outside s (base + s * j) (m .frame) (inl (omega (arith, step s l)));
       behind = λ j l k.
-        let a : ℕ = s * (j - i) in
-        let e : base + s * i + s + a ≡ base + s * (j + 1) = omega (arith, minus s l, next s j) in
-        let e′ : base + s * i + a ≡ base + s * j = omega (arith, minus s l) in
-        let q : j - i < n - 1 - i = omega arith in
-        rw (e, e′) at (same-part a s (step s q) (m .same));
-      frame = outside-wider _ _ (omega arith) (omega (arith, rest s h)) (m .frame)
+          let a : ℕ = s * (j - i) in
+          let e : base + s * i + s + a ≡ base + s * (j + 1) = omega (arith, minus s l, next s j) in
+          let e′ : base + s * i + a ≡ base + s * j = omega (arith, minus s l) in
+          let q : j - i < n - 1 - i = omega arith in
+          rw (e, e′) at (same-part a s (step s q) (m .same));
+      frame = outside-wider _ _ (omega arith) (omega (arith, rest s h)) (m .frame);
     }

@@ -2,6 +2,7 @@
 -- Assumes nothing.
 use mathlib.Core.Path.{_≡_}
 use mathlib.Core.List.{List}
+use mathlib.Core.Option.{Option, none, some}
 use Prim.Native.Nat.{ℕ, _+_, _*_, _%_, _≤_, _<_}
 use lib.ListN.{length, getD}
 use Rattle.le.specs.Le.{le, Outside, Same}
@@ -14,6 +15,10 @@ keyAt base stride xs i = le 8 xs (base + stride * i)
 
 abbrev pub markAt : ℕ → ℕ → ℕ → List ℕ → ℕ → ℕ
 markAt base stride mark xs i = le 1 xs (base + stride * i + mark)
+
+-- the rows that f reads
+abbrev pub rows : {A : Type 0} → (List ℕ → ℕ → A) → ℕ → ℕ → List ℕ → ℕ → A
+rows f base stride xs i = f xs (base + stride * i)
 
 -- n rows of whole words stand in xs
 pub record Room (base stride n : ℕ) (xs : List ℕ) : Type 0 where
@@ -37,6 +42,10 @@ pub record Between (ks : ℕ → ℕ) (n k lo hi : ℕ) : Type 0 where
 abbrev pub Finds : (ℕ → ℕ) → (ℕ → ℕ) → ℕ → ℕ → Found → Type 0
 Finds ks ms n k (At i) = (i < n) × (ks i ≡ k) × (0 < ms i)
 Finds ks ms n k Nothing = (j : ℕ) → j < n → ks j ≡ k → ms j ≡ 0
+
+abbrev pub found : {A : Type 0} → (ℕ → A) → Found → Option A
+found f (At i) = some (f i)
+found f Nothing = none
 
 -- the n bytes of xs from o on stand in ys from p on, and nothing else has changed
 pub record Moved (xs ys : List ℕ) (o p n : ℕ) : Type 0 where

@@ -4,12 +4,8 @@ use Rattle.table.proofs.Moves.{next, step}
 use Rattle.table.specs.Table.{markAt, Compacted}
 use native.Mathlib.Omega.{arith}
 use Prim.Native.Nat.{_-_, _≤_, _<_}
-use mathlib.Core.Path.{_≡_, sym, _∙_}
+use mathlib.Core.Path.{_≡_}
 use Rattle.table.proofs.compact.Tie as tie
-use Rattle.table.proofs.compact.Reads as reads
-use Rattle.table.proofs.compact.Lts as lts
-use Rattle.table.proofs.mark_at.Reads as mark-at-reads
-use Rattle.table.proofs.move_row.Reads as move-row-reads
 
 abbrev Inv-loop : tie.InvT-loop
 Inv-loop m₀ base stride mark n w₀ i₀ m w i = (i ≤ n) × (w ≤ i) × Compacted base stride mark i w m₀ m
@@ -17,62 +13,51 @@ Inv-loop m₀ base stride mark n w₀ i₀ m w i = (i ≤ n) × (w ≤ i) × Com
 abbrev μ-loop : tie.MeasureT-loop
 μ-loop m₀ base stride mark n w₀ i₀ m w i = n - i
 
--- src/lib.rt:129:5
 loop-holds : tie.Need-loop-holds Inv-loop μ-loop
 loop-holds c = (omega arith, omega arith, compacted-none _ _ _ _)
 
--- src/lib.rt:131:9
 add-i : tie.Need-add-i Inv-loop μ-loop
 add-i c = omega arith
 
--- src/lib.rt:132:12
 mark-at-requires : tie.Need-mark-at-requires Inv-loop μ-loop
-mark-at-requires c κs = 
+mark-at-requires c κs =
     let s = c .before .before .before .before in
     omega (arith, step (s .args .stride) (c .before .loop-test .taken))
 
--- src/lib.rt:133:13
 move-row-requires : tie.Need-move-row-requires Inv-loop μ-loop
-move-row-requires c κs = 
+move-row-requires c κs =
     let t = c .before .before .before .before in
     let s = t .before .before .before in
     omega (arith, step (s .args .stride) (t .loop-test .taken), next (s .args .stride) (t .before .loop .i))
 
--- src/lib.rt:134:13
 add-w : tie.Need-add-w Inv-loop μ-loop
 add-w c = omega arith
 
--- src/lib.rt:129:5
 loop-less : tie.Need-loop-less Inv-loop μ-loop
 loop-less c = omega arith
 
--- src/lib.rt:129:5
 loop-again : tie.Need-loop-again Inv-loop μ-loop
-loop-again c = 
+loop-again c =
     let r = c .before .before in
     let k = r .before .before .before in
     let l = k .before .before .before in
     let h : 0 < k .mark-at .result = omega arith in
     (omega arith, omega arith, compacted-live (l .loop .inv .1) (l .loop .inv .2) (rw (k .mark-at .ensures) at h) (r .move-row .ensures))
 
--- src/lib.rt:129:5
 loop-less-2 : tie.Need-loop-less-2 Inv-loop μ-loop
 loop-less-2 c = omega arith
 
--- src/lib.rt:129:5
 loop-again-2 : tie.Need-loop-again-2 Inv-loop μ-loop
-loop-again-2 c = 
+loop-again-2 c =
     let k = c .before in
     let l = k .before .before .before in
-    (omega arith, omega arith, compacted-dead (l .loop .inv .1) (l .loop .inv .2) (sym (k .mark-at .ensures) ∙ c .if1 .left))
+    (omega arith, omega arith, compacted-dead (l .loop .inv .1) (l .loop .inv .2) (rw (k .mark-at .ensures) at (c .if1 .left)))
 
--- src/lib.rt:123:1
 same-length : tie.Need-same-length Inv-loop μ-loop
 same-length c = omega arith
 
--- src/lib.rt:123:1
 returns : tie.Need-returns Inv-loop μ-loop
-returns c = 
+returns c =
     let l = c .before in
     let e : l .loop .i ≡ l .before .before .args .n = omega arith in
     rw e at (l .loop .inv .2)

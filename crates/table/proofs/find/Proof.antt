@@ -1,53 +1,41 @@
 use borrow.Author.Needs.{needs}
 use Rattle.table.proofs.Search.{row-in, finds-none}
 use native.Mathlib.Omega.{arith}
-use mathlib.Core.Path.{sym, _∙_}
+use mathlib.Core.Path.{_∙_}
 use Rattle.table.proofs.find.Statement.{statement}
 use Rattle.table.proofs.find.Tie as tie
-use Rattle.table.proofs.find.Reads as reads
-use Rattle.table.proofs.find.Lts as lts
-use Rattle.table.proofs.key_at.Reads as key-at-reads
-use Rattle.table.proofs.lower_bound.Reads as lower-bound-reads
-use Rattle.table.proofs.mark_at.Reads as mark-at-reads
 
--- src/lib.rt:50:9
 lower-bound-requires : tie.Need-lower-bound-requires
 lower-bound-requires c κs = search needs
 
--- src/lib.rt:52:9
 returns : tie.Need-returns
-returns c = 
+returns c =
     let l = c .before in
     finds-none _ (l .before .before .pre .0 .asc) (l .lower-bound .ensures) (λ h e. absurd (omega arith))
 
--- src/lib.rt:54:8
 key-at-requires : tie.Need-key-at-requires
-key-at-requires c κs = 
+key-at-requires c κs =
     let l = c .before in
     let p = l .before .before .pre .0 .room in
     omega (arith, row-in p (l .lower-bound .result) (omega arith), p .wide)
 
--- src/lib.rt:55:9
 returns-2 : tie.Need-returns-2
-returns-2 c = 
+returns-2 c =
     let k = c .before in
     let l = k .before .before in
     finds-none _ (l .before .before .pre .0 .asc) (l .lower-bound .ensures) (λ h e. absurd (c .if2 .taken (k .key-at .ensures ∙ e)))
 
--- src/lib.rt:57:8
 mark-at-requires : tie.Need-mark-at-requires
-mark-at-requires c κs = 
+mark-at-requires c κs =
     let l = c .before .before .before in
     omega (arith, row-in (l .before .before .pre .0 .room) (l .lower-bound .result) (omega arith))
 
--- src/lib.rt:58:9
 returns-3 : tie.Need-returns-3
-returns-3 c = 
+returns-3 c =
     let k = c .before in
     let l = k .before .before .before .before in
-    finds-none _ (l .before .before .pre .0 .asc) (l .lower-bound .ensures) (λ h e. sym (k .mark-at .ensures) ∙ c .if3 .taken)
+    finds-none _ (l .before .before .pre .0 .asc) (l .lower-bound .ensures) (λ h e. rw (k .mark-at .ensures) at (c .if3 .taken))
 
--- src/lib.rt:46:1
 returns-4 : tie.Need-returns-4
 returns-4 c = search needs
 

@@ -4,9 +4,6 @@ use Rattle.table.specs.Table.{keyAt, Between}
 use native.Mathlib.Omega.{arith}
 use Prim.Native.Nat.{_+_, _-_, _/_}
 use Rattle.table.proofs.lower_bound.Tie as tie
-use Rattle.table.proofs.lower_bound.Reads as reads
-use Rattle.table.proofs.lower_bound.Lts as lts
-use Rattle.table.proofs.key_at.Reads as key-at-reads
 
 abbrev Inv-loop : tie.InvT-loop
 Inv-loop m base stride n key lo₀ hi₀ lo hi = Between (keyAt base stride m) n key lo hi
@@ -14,50 +11,40 @@ Inv-loop m base stride n key lo₀ hi₀ lo hi = Between (keyAt base stride m) n
 abbrev μ-loop : tie.MeasureT-loop
 μ-loop m base stride n key lo₀ hi₀ lo hi = hi - lo
 
--- src/lib.rt:35:5
 loop-holds : tie.Need-loop-holds Inv-loop μ-loop
 loop-holds c = between-all _
 
--- src/lib.rt:36:25
 sub-mid : tie.Need-sub-mid Inv-loop μ-loop
 sub-mid c = omega arith
 
--- src/lib.rt:36:19
 add-mid : tie.Need-add-mid Inv-loop μ-loop
 add-mid c = omega arith
 
--- src/lib.rt:37:12
 key-at-requires : tie.Need-key-at-requires Inv-loop μ-loop
-key-at-requires c κs = 
+key-at-requires c κs =
     let l = c .before .loop in
     let p = c .before .before .before .pre in
     omega (arith, row-in (p .room) (l .lo + (l .hi - l .lo) / 2) (omega arith), p .room .wide)
 
--- src/lib.rt:38:18
 add-lo : tie.Need-add-lo Inv-loop μ-loop
 add-lo c = omega arith
 
--- src/lib.rt:35:5
 loop-less : tie.Need-loop-less Inv-loop μ-loop
 loop-less c = omega arith
 
--- src/lib.rt:35:5
 loop-again : tie.Need-loop-again Inv-loop μ-loop
-loop-again c = 
+loop-again c =
     let l = c .before .before .before in
     between-up _ (l .before .before .pre .asc) (l .loop .inv) (omega arith) (rw (c .before .key-at .ensures) at (c .if1 .taken))
 
--- src/lib.rt:35:5
 loop-less-2 : tie.Need-loop-less-2 Inv-loop μ-loop
 loop-less-2 c = omega arith
 
--- src/lib.rt:35:5
 loop-again-2 : tie.Need-loop-again-2 Inv-loop μ-loop
-loop-again-2 c = 
+loop-again-2 c =
     let l = c .before .before .before in
     between-down _ (l .before .before .pre .asc) (l .loop .inv) (omega arith) (omega arith) (rw (c .before .key-at .ensures) at (c .if1 .left))
 
--- src/lib.rt:29:1
 returns : tie.Need-returns Inv-loop μ-loop
 returns c = between-end (c .loop-test .left) (c .before .loop .inv)
 

@@ -6,10 +6,6 @@ use native.Mathlib.Omega.{arith}
 use Prim.Native.Nat.{_+_, _-_, _%_, _≤_}
 use mathlib.Core.Path.{_≡_}
 use Rattle.table.proofs.move_down.Tie as tie
-use Rattle.table.proofs.move_down.Reads as reads
-use Rattle.table.proofs.move_down.Lts as lts
-use Rattle.le.proofs.get_u64.Reads as get-u64-reads
-use Rattle.le.proofs.put_u64.Reads as put-u64-reads
 
 abbrev Inv-loop : tie.InvT-loop
 Inv-loop m₀ from to len k₀ m k = Bytes m × (k ≤ len) × (k % 8 ≡ 0) × Moved m₀ m from to k
@@ -17,54 +13,45 @@ Inv-loop m₀ from to len k₀ m k = Bytes m × (k ≤ len) × (k % 8 ≡ 0) × 
 abbrev μ-loop : tie.MeasureT-loop
 μ-loop m₀ from to len k₀ m k = len - k
 
--- src/lib.rt:81:5
 loop-holds : tie.Need-loop-holds Inv-loop μ-loop
 loop-holds c = (λ i. c .slice-known .given i .fits, omega arith, omega arith, moved-none _ _ _)
 
--- src/lib.rt:82:32
 add-get-u64 : tie.Need-add-get-u64 Inv-loop μ-loop
 add-get-u64 c = omega arith
 
--- src/lib.rt:82:13
 get-u64-requires : tie.Need-get-u64-requires Inv-loop μ-loop
 get-u64-requires c κs = omega arith
 
--- src/lib.rt:83:24
 add-put-u64 : tie.Need-add-put-u64 Inv-loop μ-loop
 add-put-u64 c = omega arith
 
--- src/lib.rt:83:9
 put-u64-requires : tie.Need-put-u64-requires Inv-loop μ-loop
 put-u64-requires c κs = omega arith
 
--- src/lib.rt:84:9
 add-k : tie.Need-add-k Inv-loop μ-loop
 add-k c = omega arith
 
--- src/lib.rt:81:5
 loop-less : tie.Need-loop-less Inv-loop μ-loop
 loop-less c = omega arith
 
--- src/lib.rt:81:5
 loop-again : tie.Need-loop-again Inv-loop μ-loop
-loop-again c = 
+loop-again c =
     let w = c .before .before in
     let g = w .before .before in
     let l = g .before .before .before in
-    let a = l .before .before .args in
-    (λ i. c .slice-known2 .given i .fits,
-     omega arith,
-     omega arith,
-     rw (w .put-u64 .ensures, g .get-u64 .ensures)
-     (moved-down (a .from) (a .to) (a .len) (l .loop .k) (omega arith) (omega arith) (omega arith) (l .loop .inv .0) (l .loop .inv .3)))
+    let a = l .before .before .args in (
+      λ i. c .slice-known2 .given i .fits,
+      omega arith,
+      omega arith,
+      rw (w .put-u64 .ensures, g .get-u64 .ensures)
+          (moved-down (a .from) (a .to) (a .len) (l .loop .k) (omega arith) (omega arith) (omega arith) (l .loop .inv .0) (l .loop .inv .3)),
+    )
 
--- src/lib.rt:76:1
 same-length : tie.Need-same-length Inv-loop μ-loop
 same-length c = omega arith
 
--- src/lib.rt:76:1
 returns : tie.Need-returns Inv-loop μ-loop
-returns c = 
+returns c =
     let l = c .before in
     let e : l .loop .k ≡ l .before .before .args .len = omega arith in
     rw e at (l .loop .inv .3)

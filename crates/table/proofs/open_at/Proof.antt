@@ -3,53 +3,43 @@ use Rattle.table.proofs.Moves.{next, minus, whole, opened}
 use native.Mathlib.Omega.{arith}
 use Rattle.table.proofs.open_at.Statement.{statement}
 use Rattle.table.proofs.open_at.Tie as tie
-use Rattle.table.proofs.open_at.Reads as reads
-use Rattle.table.proofs.open_at.Lts as lts
-use Rattle.table.proofs.move_up.Reads as move-up-reads
 
--- src/lib.rt:93:23
 mul-from : tie.Need-mul-from
-mul-from c = 
+mul-from c =
     let s = c .before in
     omega (arith, minus (s .args .stride) (s .pre .1), next (s .args .stride) (s .args .n))
 
--- src/lib.rt:93:16
 add-from : tie.Need-add-from
-add-from c = 
+add-from c =
     let s = c .before in
     omega (arith, minus (s .args .stride) (s .pre .1), next (s .args .stride) (s .args .n))
 
--- src/lib.rt:94:22
 add-move-up : tie.Need-add-move-up
-add-move-up c = 
+add-move-up c =
     let s = c .before .before in
     omega (arith, minus (s .args .stride) (s .pre .1), next (s .args .stride) (s .args .n))
 
--- src/lib.rt:94:47
 sub-move-up : tie.Need-sub-move-up
 sub-move-up c = search needs
 
--- src/lib.rt:94:37
 mul-move-up : tie.Need-mul-move-up
-mul-move-up c = 
+mul-move-up c =
     let s = c .before .before in
     omega (arith, minus (s .args .stride) (s .pre .1), next (s .args .stride) (s .args .n))
 
--- src/lib.rt:94:5
 move-up-requires : tie.Need-move-up-requires
-move-up-requires c κs = 
-    let s = c .before .before in
-    (omega arith,
-     omega (arith, minus (s .args .stride) (s .pre .1), next (s .args .stride) (s .args .n)),
-     whole _ _ (s .pre .0 .words))
+move-up-requires c κs =
+    let s = c .before .before in (
+      omega arith,
+      omega (arith, minus (s .args .stride) (s .pre .1), next (s .args .stride) (s .args .n)),
+      whole _ _ (s .pre .0 .words),
+    )
 
--- src/lib.rt:89:1
 same-length : tie.Need-same-length
 same-length c = search needs
 
--- src/lib.rt:89:1
 returns : tie.Need-returns
-returns c = 
+returns c =
     let m = c .before .before in
     opened _ _ _ _ (m .before .before .before .pre .1) (m .move-up .ensures)
 
