@@ -52,17 +52,17 @@ kept-rises ms (suc n) = rises-pick (kept ms n) (ms n) n (kept-rises ms n) (kept-
 pub compacted-none : (base s mark : ℕ) (xs : List ℕ) → Compacted base s mark 0 0 xs xs
 unfolding live
 compacted-none base s mark xs =
-    record { count = refl; rows = λ j h. absurd (not-suc-le-zero h); frame = outside-refl base (base + s * 0) xs }
+    record { fewer = omega arith; count = refl; rows = λ j h. absurd (not-suc-le-zero h); frame = outside-refl base (base + s * 0) xs }
 
-module _ {base s mark i w : ℕ} {xs ys : List ℕ} (h : w ≤ i) (c : Compacted base s mark i w xs ys) where
+module _ {base s mark i w : ℕ} {xs ys : List ℕ} (c : Compacted base s mark i w xs ys) where
   -- what was not reached yet is as it was
   pub mark-kept : markAt base s mark ys i ≡ markAt base s mark xs i
-  mark-kept = le-outside 1 (base + s * i + mark) (c .frame) (inr (omega (arith, mono s h)))
+  mark-kept = le-outside 1 (base + s * i + mark) (c .frame) (inr (omega (arith, mono s (c .fewer))))
 
   pub compacted-dead : markAt base s mark ys i ≡ 0 → Compacted base s mark (i + 1) w xs ys
   compacted-dead d =
       let e : kept (markAt base s mark xs) (i + 1) ≡ kept (markAt base s mark xs) i = live-dead (markAt base s mark xs) (λ j. j) i (sym mark-kept ∙ d) in
-      record { count = rw e (c .count); rows = rw e (c .rows); frame = c .frame }
+      record { fewer = omega (arith, c .fewer); count = rw e (c .count); rows = rw e (c .rows); frame = c .frame }
 
   pub compacted-live : {zs : List ℕ} → 0 < markAt base s mark ys i → Moved ys zs (base + s * i) (base + s * w) s → Compacted base s mark (i + 1) (w + 1) xs zs
   compacted-live {zs} l m =
@@ -70,6 +70,7 @@ module _ {base s mark i w : ℕ} {xs ys : List ℕ} (h : w ≤ i) (c : Compacted
       let k : List ℕ = kept ms i in
       let e : kept ms (i + 1) ≡ k ++ (i ∷ []) = live-more ms (λ j. j) i (rw (← mark-kept) l) in
       record {
+        fewer = omega (arith, c .fewer);
         count = rw (e, length-append k (i ∷ [])) (omega (arith, c .count));
         rows = λ j q.
             ⊎-elim
@@ -79,7 +80,7 @@ module _ {base s mark i w : ℕ} {xs ys : List ℕ} (h : w ≤ i) (c : Compacted
             (λ (r : w ≤ j).
             let jw : j ≡ w = omega arith in
             rw (e, jw, getD-at k i [] 0 w (sym (c .count)))
-            (same-trans (same-outside s (base + s * i) (c .frame) (inr (omega (arith, mono s h)))) (m .same)))
+            (same-trans (same-outside s (base + s * i) (c .frame) (inr (omega (arith, mono s (c .fewer))))) (m .same)))
             (lt-or-le j w);
         frame =
             outside-trans

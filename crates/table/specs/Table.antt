@@ -68,6 +68,7 @@ pub record Closed (base stride n i : ℕ) (xs ys : List ℕ) : Type 0 where
 
 -- the first w rows are the live ones of the first n
 pub record Compacted (base stride mark n w : ℕ) (xs ys : List ℕ) : Type 0 where
+  pub fewer : w ≤ n
   pub count : w ≡ length (kept (markAt base stride mark xs) n)
   pub rows : (j : ℕ) → j < w → Same stride xs (base + stride * getD (kept (markAt base stride mark xs) n) j 0) ys (base + stride * j)
   pub frame : Outside base (base + stride * w) xs ys

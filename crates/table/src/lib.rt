@@ -110,7 +110,8 @@ pub fn strike(m: &mut [u8], base: usize, stride: usize, mark: usize, i: usize)
     le::put_u8(m, base + stride * i + mark, 0);
 }
 
-fn move_row(m: &mut [u8], base: usize, stride: usize, i: usize, w: usize)
+// The bytes of the row i, also at an earlier row w.
+pub fn move_row(m: &mut [u8], base: usize, stride: usize, i: usize, w: usize)
     requires { ⌜ Room base stride (i + 1) (now m) × (w ≤ i) ⌝ }
     ensures { λ r. ⌜ Moved (now (m .entry)) (now (m .exit)) (base + stride * i) (base + stride * w) stride ⌝ }
 {

@@ -8,13 +8,13 @@ use mathlib.Core.Path.{_≡_}
 use Rattle.table.proofs.compact.Tie as tie
 
 abbrev Inv-loop : tie.InvT-loop
-Inv-loop m₀ base stride mark n w₀ i₀ m w i = (i ≤ n) × (w ≤ i) × Compacted base stride mark i w m₀ m
+Inv-loop m₀ base stride mark n w₀ i₀ m w i = (i ≤ n) × Compacted base stride mark i w m₀ m
 
 abbrev μ-loop : tie.MeasureT-loop
 μ-loop m₀ base stride mark n w₀ i₀ m w i = n - i
 
 loop-holds : tie.Need-loop-holds Inv-loop μ-loop
-loop-holds c = (omega arith, omega arith, compacted-none _ _ _ _)
+loop-holds c = (omega arith, compacted-none _ _ _ _)
 
 add-i : tie.Need-add-i Inv-loop μ-loop
 add-i c = omega arith
@@ -42,7 +42,7 @@ loop-again c =
     let k = r .before .before .before in
     let l = k .before .before .before in
     let h : 0 < k .mark-at .result = omega arith in
-    (omega arith, omega arith, compacted-live (l .loop .inv .1) (l .loop .inv .2) (rw (k .mark-at .ensures) at h) (r .move-row .ensures))
+    (omega arith, compacted-live (l .loop .inv .1) (rw (k .mark-at .ensures) at h) (r .move-row .ensures))
 
 loop-less-2 : tie.Need-loop-less-2 Inv-loop μ-loop
 loop-less-2 c = omega arith
@@ -51,7 +51,7 @@ loop-again-2 : tie.Need-loop-again-2 Inv-loop μ-loop
 loop-again-2 c =
     let k = c .before in
     let l = k .before .before .before in
-    (omega arith, omega arith, compacted-dead (l .loop .inv .1) (l .loop .inv .2) (rw (k .mark-at .ensures) at (c .if1 .left)))
+    (omega arith, compacted-dead (l .loop .inv .1) (rw (k .mark-at .ensures) at (c .if1 .left)))
 
 same-length : tie.Need-same-length Inv-loop μ-loop
 same-length c = omega arith
@@ -60,7 +60,7 @@ returns : tie.Need-returns Inv-loop μ-loop
 returns c =
     let l = c .before in
     let e : l .loop .i ≡ l .before .before .args .n = omega arith in
-    rw e at (l .loop .inv .2)
+    rw e at (l .loop .inv .1)
 
 pub compact-spec : {M : Type 1} → statement M
 compact-spec =
