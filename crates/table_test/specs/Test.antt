@@ -49,10 +49,14 @@ pub record To (ys : List ℕ) (l : List Row) : Type 0 where
   pub table : Table ys
   pub list : entries ys ≡ l
 
--- it did where the answer is yes, and is the same list of bytes where it is no
+-- its rows are l where the answer is yes, and no byte has changed where it is no
 abbrev pub Done : List ℕ → List ℕ → List Row → Bool → Type 0
-Done xs ys l true = To ys l
+Done xs ys l true = entries ys ≡ l
 Done xs ys l false = ys ≡ xs
+
+pub record Did (xs ys : List ℕ) (l : List Row) (r : Bool) : Type 0 where
+  pub table : Table ys
+  pub done : Done xs ys l r
 
 abbrev pub live-row : ℕ → ℕ → Row
 live-row k v = record { key = k; value = v; mark = 1 }
