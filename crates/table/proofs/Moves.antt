@@ -1,18 +1,16 @@
 -- Bytes moved word by word, and rows moved by their bytes.
 -- Assumes nothing.
-use mathlib.Core.Path.{_≡_, refl, sym, ap, _∙_}
-use mathlib.Core.Logic.{_⊎_, inl, inr, ⊎-elim}
+use mathlib.Core.Path.{_≡_, refl, ap}
+use mathlib.Core.Logic.{inl, inr}
 use mathlib.Core.List.{List}
-use Prim.Native.Nat.{ℕ, zero, suc, _+_, _*_, _-_, _/_, _%_, _≤_, _<_}
-use native.Mathlib.Nat.{mul-suc, mul-assoc, mul-sub, mul-mod-right, mul-le-mul-left, mod-add-div, add-zero, mul-zero}
+use Prim.Native.Nat.{ℕ, _+_, _*_, _-_, _/_, _%_, _≤_, _<_}
+use native.Mathlib.Nat.{mul-suc, mul-assoc, mul-sub, mul-mod-right, mul-le-mul-left, mod-add-div}
 use native.Mathlib.Numerals.{add-one}
 use native.Mathlib.Omega.{arith}
-use lib.ListN.{length, getD}
-use lib.Dec.{ltb}
-use borrow.Author.Tests.{ltb-true, ltb-false}
-use Rattle.le.specs.Le.{le, put, Outside, Same, Bytes}
+use lib.ListN.{length}
+use Rattle.le.specs.Le.{le, put, Bytes}
 use Rattle.le.proofs.Laws.{outside-refl, outside-trans, outside-wider, outside-put, same-trans, same-outside, same-join, same-part, same-put}
-use Rattle.table.specs.Table.{Room, Moved, Opened, Closed}
+use Rattle.table.specs.Table.{Moved, Opened, Closed}
 
 -- ---- products, which omega takes for unknowns
 

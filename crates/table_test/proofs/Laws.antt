@@ -1,20 +1,20 @@
 -- What each operation makes of the test's table, from the laws of `table`.
 -- Assumes nothing.
-use mathlib.Core.Path.{_≡_, refl, sym, ap, ap₂, _∙_}
+use mathlib.Core.Path.{_≡_, refl, ap, _∙_}
 use mathlib.Core.Logic.{inl, inr}
-use mathlib.Core.List.{List, [], _∷_}
+use mathlib.Core.List.{List}
 use mathlib.Core.Bool.{true}
 use mathlib.Core.Option.{some}
 use Prim.Native.Nat.{ℕ, _+_, _*_, _-_, _^_, _≤_, _<_}
 use native.Mathlib.Omega.{arith}
 use lib.ListN.{length, set}
 use Rattle.le.specs.Le.{le, put, Outside, Local}
-use Rattle.le.specs.Row.{gets, puts, Fit}
+use Rattle.le.specs.Row.{puts, Fit}
 use Rattle.le.proofs.Laws.{outside-put, local-wider, local-map, le-put, le-outside}
 use Rattle.le.proofs.Rows.{outside-puts, gets-local, gets-puts, gets-field}
-use Rattle.table.specs.Live.{live, without, look, insert, replace, Ascends, Gap, Changed}
-use Rattle.table.specs.Table.{keyAt, markAt, rows, Room, Sorted, Between, Finds, Opened, Closed, Compacted}
-use Rattle.table.specs.declared.Found.the-variants.{At, Nothing}
+use Rattle.table.specs.Live.{live, without, look, insert, replace, Ascends, Gap}
+use Rattle.table.specs.Table.{keyAt, markAt, rows, Sorted, Between, Finds, Opened, Closed, Compacted}
+use Rattle.table.specs.declared.Found.the-variants.{At}
 use Rattle.table.proofs.Live.{live-ext, live-insert, live-close, live-strike, live-replace, look-some, ascends-ext, ascends-change, ascends-open, ascends-close}
 use Rattle.table.proofs.Search.{between-above}
 use Rattle.table.proofs.Packed.{Packed, packed-live, packed-count, packed-ascends}

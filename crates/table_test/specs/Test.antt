@@ -4,11 +4,11 @@ use mathlib.Core.Path.{_≡_}
 use mathlib.Core.Bool.{Bool, true, false}
 use mathlib.Core.List.{List, [], _∷_}
 use mathlib.Core.Option.{Option, none, some}
-use Prim.Native.Nat.{ℕ, _+_, _*_, _≤_, _<_}
+use Prim.Native.Nat.{ℕ, _≤_, _<_}
 use lib.ListN.{length, getD}
 use Rattle.le.specs.Le.{le}
 use Rattle.le.specs.Row.{gets}
-use Rattle.table.specs.Live.{live, without, insert, replace, Ascends}
+use Rattle.table.specs.Live.{live, replace, Ascends}
 use Rattle.table.specs.Table.{rows}
 use Rattle.table_test.specs.declared.Row.{Row}
 

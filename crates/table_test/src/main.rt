@@ -2,12 +2,10 @@
 use table::Found;
 ghost use mathlib.Core.Path.{_≡_};
 ghost use mathlib.Core.List.{[]};
-ghost use Prim.Native.Nat.{ℕ, _+_, _*_, _≤_, _<_};
+ghost use Prim.Native.Nat.{_+_, _*_, _≤_, _<_};
 ghost use lib.ListN.{length};
-ghost use Rattle.le.specs.Le.{put};
 ghost use Rattle.le.specs.Row.{puts};
 ghost use Rattle.table.specs.Live.{without, look, insert};
-ghost use Rattle.table.specs.Table.{keyAt, Between};
 ghost use Rattle.table_test.specs.Test.{widths, values, key, live-row, revalued, rowAt, count, entries, Table, To, Did, IsAt, Place};
 
 pub struct Row {
