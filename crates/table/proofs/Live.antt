@@ -3,13 +3,13 @@
 use mathlib.Core.Path.{_≡_, refl, sym, ap, ap₂, _∙_}
 use mathlib.Core.Logic.{_⊎_, inl, inr, ⊎-elim}
 use mathlib.Core.List.{List, [], _∷_, _++_, append-nil, append-assoc}
-use mathlib.Core.Option.{Option, none, some}
+use mathlib.Core.Option.{none, some}
 use Prim.Native.Nat.{ℕ, zero, suc, _+_, _-_, _≤_, _<_}
 use native.Mathlib.Nat.{eq-or-lt-of-le, add-zero, add-suc, not-suc-le-zero}
 use native.Mathlib.Numerals.{add-one}
 use native.Mathlib.Omega.{arith}
 use Rattle.le.proofs.Laws.{lt-or-le}
-use Rattle.table.specs.Live.{pick, Each, Gap, Changed, live, alive, kept, without, look, insert, replace, Ascends}
+use Rattle.table.specs.Live.{pick, Each, Gap, Changed, live, without, look, insert, replace, Ascends}
 use Rattle.table.proofs.Lists.{each-append, each-pick, look-here, look-nowhere, Swap, swap-sym, swap-same, swap-without, swap-insert, swap-replace}
 
 pub same? : (i j : ℕ) → (i ≡ j) ⊎ (i ≡ j → ⊥)

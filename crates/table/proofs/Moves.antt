@@ -1,16 +1,14 @@
 -- Bytes moved word by word, and rows moved by their bytes.
 -- Assumes nothing.
-use mathlib.Core.Path.{_≡_, refl, sym, ap, _∙_}
-use mathlib.Core.Logic.{_⊎_, inl, inr, ⊎-elim}
+use mathlib.Core.Path.{_≡_, refl, ap}
+use mathlib.Core.Logic.{inl, inr}
 use mathlib.Core.List.{List}
-use Prim.Native.Nat.{ℕ, zero, suc, _+_, _*_, _-_, _/_, _%_, _≤_, _<_}
-use native.Mathlib.Nat.{mul-suc, mul-assoc, mul-sub, mul-mod-right, mul-le-mul-left, mod-add-div, add-zero, mul-zero}
+use Prim.Native.Nat.{ℕ, _+_, _*_, _-_, _/_, _%_, _≤_, _<_}
+use native.Mathlib.Nat.{mul-suc, mul-assoc, mul-sub, mul-mod-right, mul-le-mul-left, mod-add-div}
 use native.Mathlib.Numerals.{add-one}
 use native.Mathlib.Omega.{arith}
-use lib.ListN.{length, getD}
-use lib.Dec.{ltb}
-use borrow.Author.Tests.{ltb-true, ltb-false}
-use Rattle.le.specs.Le.{le, put, Outside, Same, Bytes}
+use lib.ListN.{length}
+use Rattle.le.specs.Le.{le, put, Bytes}
 use Rattle.le.proofs.Laws.{outside-refl, outside-trans, outside-wider, outside-put, same-trans, same-outside, same-join, same-part, same-put}
 use Rattle.table.specs.Table.{Room, Moved, Opened, Closed}
 
@@ -98,6 +96,13 @@ moved-up {xs} {ys} o p n k h l m f b s =
     rw w (moved-high (o + d) (p + d) 8 (n - k) (omega arith) t (moved-word ys (o + d) (p + d) b (omega arith)))
 
 -- ---- rows
+
+-- what moves stays in the slice
+pub open-in : {base s n i : ℕ} {xs : List ℕ} → Room base s (n + 1) xs → i ≤ n → base + s * i + s + s * (n - i) ≤ length xs
+open-in {s = s} {n = n} r h = omega (arith, r .fits, minus s h, next s n)
+
+pub close-in : {base s n i : ℕ} {xs : List ℕ} → Room base s n xs → i < n → base + s * i + s + s * (n - 1 - i) ≤ length xs
+close-in {s = s} r h = omega (arith, r .fits, rest s h)
 
 pub opened : {xs ys : List ℕ} (base s n i : ℕ) → i ≤ n → Moved xs ys (base + s * i) (base + s * i + s) (s * (n - i)) → Opened base s n i xs ys
 opened {xs} {ys} base s n i h m =

@@ -1,21 +1,18 @@
 -- The dead rows squeezed out: what is kept, by its places, by its bytes and by its rows.
 -- Assumes nothing.
 use mathlib.Core.Path.{_≡_, refl, sym, ap, ap₂, _∙_}
-use mathlib.Core.Logic.{_⊎_, inl, inr, ⊎-elim}
+use mathlib.Core.Logic.{inl, inr, ⊎-elim}
 use mathlib.Core.List.{List, [], _∷_, _++_, append-nil, append-assoc, map}
 use Prim.Native.Nat.{ℕ, zero, suc, _+_, _*_, _≤_, _<_}
-use native.Mathlib.Nat.{eq-or-lt-of-le, add-comm, zero-add, not-suc-le-zero, mul-zero}
-use native.Mathlib.Numerals.{add-one}
+use native.Mathlib.Nat.{not-suc-le-zero}
 use native.Mathlib.Omega.{arith}
 use lib.ListN.{length, getD, length-append, length-map, List·getD-append}
-use lib.Seq.{getD-append-seam, getD-at}
-use Rattle.le.specs.Le.{le, Outside, Same}
+use lib.Seq.{getD-at}
 use Rattle.le.proofs.Laws.{lt-or-le, outside-refl, outside-trans, outside-wider, same-trans, same-outside, le-outside}
 use Rattle.table.specs.Live.{pick, Each, live, alive, kept, Ascends}
 use Rattle.table.specs.Table.{markAt, Moved, Compacted}
 use Rattle.table.proofs.Moves.{next, mono, step}
-use Rattle.table.proofs.Lists.{each-append, each-pick}
-use Rattle.table.proofs.Live.{live-ext, live-more, live-dead, live-add, each-live}
+use Rattle.table.proofs.Live.{live-more, live-dead, each-live}
 
 -- ---- by places
 

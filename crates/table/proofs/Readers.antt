@@ -6,10 +6,10 @@ use mathlib.Core.List.{List}
 use Prim.Native.Nat.{ℕ, _+_, _*_, _≤_, _<_}
 use native.Mathlib.Omega.{arith}
 use lib.ListN.{length}
-use Rattle.le.specs.Le.{le, put, Outside, Local}
-use Rattle.le.proofs.Laws.{lt-or-le, outside-put, local-outside, same-outside, same-trans, le-put, le-outside}
+use Rattle.le.specs.Le.{put, Outside, Local}
+use Rattle.le.proofs.Laws.{lt-or-le, outside-put, local-outside, same-outside, same-trans, le-put}
 use Rattle.table.specs.Live.{Gap, Changed}
-use Rattle.table.specs.Table.{keyAt, markAt, rows, Room, Moved, Opened, Closed, Compacted}
+use Rattle.table.specs.Table.{markAt, rows, Moved, Opened, Closed, Compacted}
 use Rattle.table.proofs.Moves.{next, mono, step}
 use Rattle.table.proofs.Packed.{Packed}
 

@@ -1,7 +1,7 @@
 -- The search for a key among ascending ones.
 -- Assumes nothing.
-use mathlib.Core.Path.{_≡_, refl, sym, _∙_}
-use mathlib.Core.Logic.{_⊎_, inl, inr, ⊎-elim}
+use mathlib.Core.Path.{_≡_, sym, _∙_}
+use mathlib.Core.Logic.{⊎-elim}
 use mathlib.Core.List.{List}
 use Prim.Native.Nat.{ℕ, _+_, _*_, _≤_, _<_}
 use native.Mathlib.Nat.{eq-or-lt-of-le}
@@ -59,6 +59,14 @@ module _ {ks : ℕ → ℕ} {n : ℕ} where
       (λ (p : i ≡ j). rw (← p) (d (omega arith) (rw (← p) at e)))
       (λ p. absurd (omega (arith, b .above i (omega arith) (omega arith), s i j p l)))
       (eq-or-lt-of-le q))
+      (lt-or-le j i)
+
+  -- where the row that has the key is dead, there is none
+  pub finds-dead : (ms : ℕ → ℕ) {k : ℕ} (i : ℕ) → Ascends (λ k. k) ks n → i < n → ks i ≡ k → ms i ≡ 0 → Finds ks ms n k Nothing
+  finds-dead ms i s h e d = λ j l q.
+      ⊎-elim
+      (λ (p : j < i). absurd (omega (arith, s j i p h)))
+      (λ (p : i ≤ j). ⊎-elim (λ (w : i ≡ j). rw (← w) d) (λ w. absurd (omega (arith, s i j w l))) (eq-or-lt-of-le p))
       (lt-or-le j i)
 
   -- a key that is not there lies below those behind its place

@@ -1,7 +1,7 @@
 // Tables of keyed rows in a lent slice of bytes. A table is given by numbers: where row 0 starts (`base`), the bytes of a row (`stride`),
 // how many rows there are (`n`), and where in a row its mark stands (`mark`). With constants for them the calls are inlined.
 ghost use mathlib.Core.Path.{_≡_};
-ghost use Prim.Native.Nat.{ℕ, _+_, _*_, _%_, _≤_, _<_};
+ghost use Prim.Native.Nat.{_+_, _*_, _%_, _≤_, _<_};
 ghost use lib.ListN.{length};
 ghost use Rattle.le.specs.Le.{put};
 ghost use Rattle.table.specs.Table.{keyAt, markAt, Room, Sorted, Between, Finds, Moved, Opened, Closed, Compacted};
@@ -58,6 +58,31 @@ pub fn find(m: &[u8], base: usize, stride: usize, mark: usize, n: usize, key: u6
         return Found::Nothing;
     }
     Found::At(i)
+}
+
+// As `find`, but the row `hint` is tried first. Where it has the key, nothing is searched.
+pub fn find_hinted(
+    m: &[u8],
+    base: usize,
+    stride: usize,
+    mark: usize,
+    n: usize,
+    key: u64,
+    hint: usize,
+) -> Found
+    requires { ⌜ Sorted base stride n (now m) × (mark < stride) ⌝ }
+    ensures { λ r. ⌜ Finds (keyAt base stride (now (m .entry))) (markAt base stride mark (now (m .entry))) n key r ⌝ }
+{
+    if n <= hint {
+        return find(m, base, stride, mark, n, key);
+    }
+    if key_at(m, base, stride, hint) != key {
+        return find(m, base, stride, mark, n, key);
+    }
+    if mark_at(m, base, stride, mark, hint) == 0 {
+        return Found::Nothing;
+    }
+    Found::At(hint)
 }
 
 // Words are moved from the last to the first, or from the first to the last, so that none is overwritten before it has moved.

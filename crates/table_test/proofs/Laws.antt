@@ -1,25 +1,26 @@
 -- What each operation makes of the test's table, from the laws of `table`.
 -- Assumes nothing.
-use mathlib.Core.Path.{_≡_, refl, sym, ap, ap₂, _∙_}
+use mathlib.Core.Path.{_≡_, refl, ap, _∙_}
 use mathlib.Core.Logic.{inl, inr}
-use mathlib.Core.List.{List, [], _∷_}
+use mathlib.Core.List.{List}
+use mathlib.Core.Bool.{true}
 use mathlib.Core.Option.{some}
 use Prim.Native.Nat.{ℕ, _+_, _*_, _-_, _^_, _≤_, _<_}
 use native.Mathlib.Omega.{arith}
 use lib.ListN.{length, set}
 use Rattle.le.specs.Le.{le, put, Outside, Local}
-use Rattle.le.specs.Row.{gets, puts, Fit}
+use Rattle.le.specs.Row.{puts, Fit}
 use Rattle.le.proofs.Laws.{outside-put, local-wider, local-map, le-put, le-outside}
 use Rattle.le.proofs.Rows.{outside-puts, gets-local, gets-puts, gets-field}
-use Rattle.table.specs.Live.{live, without, look, insert, replace, Ascends, Gap, Changed}
-use Rattle.table.specs.Table.{keyAt, markAt, rows, Room, Sorted, Between, Finds, Opened, Closed, Compacted}
-use Rattle.table.specs.declared.Found.the-variants.{At, Nothing}
+use Rattle.table.specs.Live.{live, without, look, insert, replace, Ascends, Gap}
+use Rattle.table.specs.Table.{keyAt, markAt, rows, Sorted, Between, Finds, Opened, Closed, Compacted}
+use Rattle.table.specs.declared.Found.the-variants.{At}
 use Rattle.table.proofs.Live.{live-ext, live-insert, live-close, live-strike, live-replace, look-some, ascends-ext, ascends-change, ascends-open, ascends-close}
 use Rattle.table.proofs.Search.{between-above}
 use Rattle.table.proofs.Packed.{Packed, packed-live, packed-count, packed-ascends}
 use Rattle.table.proofs.Readers.{rows-outside, row-changed, opened-gap, closed-gap, compacted-packed, strike-outside}
 use Rattle.table_test.specs.declared.Row.{Row}
-use Rattle.table_test.specs.Test.{widths, values, row, read, key, mark, rowAt, count, entries, Table, To, Place, live-row, revalued}
+use Rattle.table_test.specs.Test.{widths, values, row, read, key, mark, rowAt, count, entries, Table, To, Did, Place, live-row, revalued}
 
 read-local : Local 24 read
 unfolding read
@@ -41,9 +42,9 @@ counted ys v l room few s e =
       table = record {
         room = rw (p .len) room;
         few = rw c few;
-        asc = rw c (ascends-ext key (rowAt ys) (rowAt (put 8 ys 0 v)) v (λ j h. ap key (re j h)) s)
+        asc = rw c (ascends-ext key (rowAt ys) (rowAt (put 8 ys 0 v)) v (λ j h. ap key (re j h)) s);
       };
-      list = rw c (live-ext mark (rowAt ys) (rowAt (put 8 ys 0 v)) v re ∙ e)
+      list = rw c (live-ext mark (rowAt ys) (rowAt (put 8 ys 0 v)) v re ∙ e);
     }
 
 -- one row is changed, and not its key
@@ -56,9 +57,9 @@ changed {xs} {ys} i l t h p k e =
       table = record {
         room = rw (p .len) (t .room);
         few = rw c (t .few);
-        asc = rw c (ascends-change key (row-changed read-local 8 h p) k (t .asc))
+        asc = rw c (ascends-change key (row-changed read-local 8 h p) k (t .asc));
       };
-      list = rw c e
+      list = rw c e;
     }
 
 row-put : (ys : List ℕ) (o : ℕ) (r : Row) → Fit widths (values r) → o + 17 ≤ length ys → read (puts widths ys o (values r)) o ≡ r
@@ -75,7 +76,7 @@ put-in-to {xs} {ys} n i r q f o =
     let g : Gap (rowAt xs) (rowAt zs) n i = opened-gap read-local 8 o p in
     let here : rowAt zs i ≡ r = row-put ys (8 + 24 * i) r f (omega (arith, q .room, q .inside)) in
     let s : Ascends key (rowAt zs) (n + 1) =
-        ascends-open key g (rw (q .size) (q .table .asc)) (rw here (q .low)) (rw here (q .high)) in
+    ascends-open key g (rw (q .size) (q .table .asc)) (rw here (q .low)) (rw here (q .high)) in
     counted zs (n + 1) (insert key r (entries xs)) (rw (p .len) room) (omega (arith, q .room)) s
     (live-insert mark key g s (rw here (q .live)) ∙ rw (here, q .size))
 
@@ -89,7 +90,7 @@ place n i k v t e f b d =
       inside = b .top;
       low = b .below;
       high = between-above (sorted t e .asc) b d;
-      live = omega arith
+      live = omega arith;
     }
 
 -- the mark and the key that `table` sees are those of the row
@@ -123,7 +124,7 @@ change-to {xs} n i k v t e f h =
     let here : rowAt ys i ≡ record { key = rowAt xs i .key; value = v; mark = rowAt xs i .mark } = set-value xs o v f (omega (arith, t .room, t .few)) in
     let m : 0 < mark (rowAt xs i) = rw (mark-at xs i) (h .2) in
     let some-row : look key k (live mark (rowAt xs) (count xs)) ≡ some (rowAt xs i) =
-        look-some mark key (rowAt xs) k i (count xs) (t .asc) l (key-at xs i ∙ h .1) m in
+    look-some mark key (rowAt xs) k i (count xs) (t .asc) l (key-at xs i ∙ h .1) m in
     rw some-row
     (changed i _ t l p (ap key here)
     (live-replace mark key (row-changed read-local 8 l p) (t .asc) (ap key here) m (rw here m)
@@ -161,3 +162,6 @@ tidy-to {xs} {ys} n w t e c =
     let few : w ≤ 8 = omega (arith, c .fewer, t .few) in
     let room : 200 ≤ length ys = omega (arith, c .frame .len, t .room) in
     (counted ys w (entries xs) room few (packed-ascends p key (rw e (t .asc))) (same ∙ rw e), le-put 8 ys 0 w (omega arith) (omega arith) ∙ size ∙ rw e)
+
+pub did : {xs ys : List ℕ} {l : List Row} → To ys l → Did xs ys l true
+did t = record { table = t .table; done = t .list }

@@ -4,11 +4,11 @@ use mathlib.Core.Path.{_≡_}
 use mathlib.Core.Bool.{Bool, true, false}
 use mathlib.Core.List.{List, [], _∷_}
 use mathlib.Core.Option.{Option, none, some}
-use Prim.Native.Nat.{ℕ, _+_, _*_, _≤_, _<_}
+use Prim.Native.Nat.{ℕ, _≤_, _<_}
 use lib.ListN.{length, getD}
 use Rattle.le.specs.Le.{le}
 use Rattle.le.specs.Row.{gets}
-use Rattle.table.specs.Live.{live, without, insert, replace, Ascends}
+use Rattle.table.specs.Live.{live, replace, Ascends}
 use Rattle.table.specs.Table.{rows}
 use Rattle.table_test.specs.declared.Row.{Row}
 
@@ -49,10 +49,14 @@ pub record To (ys : List ℕ) (l : List Row) : Type 0 where
   pub table : Table ys
   pub list : entries ys ≡ l
 
--- it did where the answer is yes, and is the same list of bytes where it is no
+-- its rows are l where the answer is yes, and no byte has changed where it is no
 abbrev pub Done : List ℕ → List ℕ → List Row → Bool → Type 0
-Done xs ys l true = To ys l
+Done xs ys l true = entries ys ≡ l
 Done xs ys l false = ys ≡ xs
+
+pub record Did (xs ys : List ℕ) (l : List Row) (r : Bool) : Type 0 where
+  pub table : Table ys
+  pub done : Done xs ys l r
 
 abbrev pub live-row : ℕ → ℕ → Row
 live-row k v = record { key = k; value = v; mark = 1 }

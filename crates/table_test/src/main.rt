@@ -2,13 +2,11 @@
 use table::Found;
 ghost use mathlib.Core.Path.{_≡_};
 ghost use mathlib.Core.List.{[]};
-ghost use Prim.Native.Nat.{ℕ, _+_, _*_, _≤_, _<_};
+ghost use Prim.Native.Nat.{_+_, _*_, _≤_, _<_};
 ghost use lib.ListN.{length};
-ghost use Rattle.le.specs.Le.{put};
 ghost use Rattle.le.specs.Row.{puts};
 ghost use Rattle.table.specs.Live.{without, look, insert};
-ghost use Rattle.table.specs.Table.{keyAt, Between};
-ghost use Rattle.table_test.specs.Test.{widths, values, key, live-row, revalued, rowAt, count, entries, Table, To, Done, IsAt, Place};
+ghost use Rattle.table_test.specs.Test.{widths, values, key, live-row, revalued, rowAt, count, entries, Table, To, Did, IsAt, Place};
 
 pub struct Row {
     pub key: u64,
@@ -81,7 +79,7 @@ fn put_in(m: &mut [u8], n: usize, i: usize, r: Row)
 
 fn add(m: &mut [u8], k: u64, v: u64) -> bool
     requires { ⌜ Table (now m) ⌝ }
-    ensures { λ r. ⌜ Done (now (m .entry)) (now (m .exit)) (insert key (live-row k v) (entries (now (m .entry)))) r ⌝ }
+    ensures { λ r. ⌜ Did (now (m .entry)) (now (m .exit)) (insert key (live-row k v) (entries (now (m .entry)))) r ⌝ }
 {
     let n = size(m);
     if n == 8 {
@@ -106,7 +104,7 @@ fn add(m: &mut [u8], k: u64, v: u64) -> bool
 
 fn change(m: &mut [u8], k: u64, v: u64) -> bool
     requires { ⌜ Table (now m) ⌝ }
-    ensures { λ r. ⌜ Done (now (m .entry)) (now (m .exit)) (revalued (look key k (entries (now (m .entry)))) v (entries (now (m .entry)))) r ⌝ }
+    ensures { λ r. ⌜ Did (now (m .entry)) (now (m .exit)) (revalued (look key k (entries (now (m .entry)))) v (entries (now (m .entry)))) r ⌝ }
 {
     let n = size(m);
     match table::find(m, 8, 24, 16, n, k) {
@@ -120,7 +118,7 @@ fn change(m: &mut [u8], k: u64, v: u64) -> bool
 
 fn remove(m: &mut [u8], k: u64) -> bool
     requires { ⌜ Table (now m) ⌝ }
-    ensures { λ r. ⌜ Done (now (m .entry)) (now (m .exit)) (without key k (entries (now (m .entry)))) r ⌝ }
+    ensures { λ r. ⌜ Did (now (m .entry)) (now (m .exit)) (without key k (entries (now (m .entry)))) r ⌝ }
 {
     let n = size(m);
     match table::find(m, 8, 24, 16, n, k) {
@@ -135,7 +133,7 @@ fn remove(m: &mut [u8], k: u64) -> bool
 // The row i goes at once.
 fn cut(m: &mut [u8], i: usize) -> bool
     requires { ⌜ Table (now m) ⌝ }
-    ensures { λ r. ⌜ Done (now (m .entry)) (now (m .exit)) (without key (rowAt (now (m .entry)) i .key) (entries (now (m .entry)))) r ⌝ }
+    ensures { λ r. ⌜ Did (now (m .entry)) (now (m .exit)) (without key (rowAt (now (m .entry)) i .key) (entries (now (m .entry)))) r ⌝ }
 {
     let n = size(m);
     if n <= i {
@@ -180,14 +178,47 @@ fn show(m: &[u8])
     io::write_all(1, b"\n");
 }
 
+fn grow(m: &mut [u8])
+    requires { ⌜ Table (now m) ⌝ }
+    ensures { λ r. ⌜ Table (now (m .exit)) ⌝ }
+{
+    add(m, 30, 3);
+    add(m, 10, 1);
+    add(m, 20, 2);
+    add(m, 40, 4);
+    show(m);
+    add(m, 20, 9);
+    change(m, 20, 7);
+    change(m, 25, 7);
+    show(m);
+}
+
+fn shrink(m: &mut [u8])
+    requires { ⌜ Table (now m) ⌝ }
+    ensures { λ r. ⌜ Table (now (m .exit)) ⌝ }
+{
+    remove(m, 10);
+    remove(m, 30);
+    remove(m, 30);
+    show(m);
+    change(m, 30, 8);
+    add(m, 25, 5);
+    show(m);
+    tidy(m);
+    show(m);
+}
+
 fn main() {
     let mut space = [0u8; 200];
     let m: &mut [u8] = &mut space;
     clear(m);
     show(m);
-    add(m, 30, 3);
-    add(m, 10, 1);
-    add(m, 20, 2);
-    add(m, 40, 4);
+    grow(m);
+    shrink(m);
+    add(m, 50, 6);
+    add(m, 5, 0);
+    show(m);
+    cut(m, 1);
+    cut(m, 9);
     show(m);
 }

@@ -1,6 +1,5 @@
 use borrow.Author.Needs.{needs}
 use Rattle.le.proofs.Checked.{width-one}
-use Prim.Native.Nat.{_<_, _^_}
 use native.Mathlib.Omega.{arith}
 use Rattle.le.proofs.put.Statement.{statement}
 use Rattle.le.proofs.put.Tie as tie

@@ -1,7 +1,7 @@
 use Rattle.table.proofs.compact.Statement.{statement}
 use Rattle.table.proofs.Packed.{compacted-none, compacted-dead, compacted-live}
 use Rattle.table.proofs.Moves.{next, step}
-use Rattle.table.specs.Table.{markAt, Compacted}
+use Rattle.table.specs.Table.{Compacted}
 use native.Mathlib.Omega.{arith}
 use Prim.Native.Nat.{_-_, _≤_, _<_}
 use mathlib.Core.Path.{_≡_}

@@ -3,7 +3,7 @@ use Rattle.table.proofs.Moves.{moved-none, moved-down}
 use Rattle.table.specs.Table.{Moved}
 use Rattle.le.specs.Le.{Bytes}
 use native.Mathlib.Omega.{arith}
-use Prim.Native.Nat.{_+_, _-_, _%_, _≤_}
+use Prim.Native.Nat.{_-_, _%_, _≤_}
 use mathlib.Core.Path.{_≡_}
 use Rattle.table.proofs.move_down.Tie as tie
 

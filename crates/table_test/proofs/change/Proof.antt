@@ -1,57 +1,53 @@
 use borrow.Author.Needs.{needs}
+use Rattle.table_test.proofs.Laws.{sorted, change-to, did}
+use Rattle.table.specs.declared.Found.the-variants.{At}
+use Rattle.table.specs.Table.{keyAt, markAt, Finds}
+use native.Mathlib.Omega.{arith}
 use Rattle.table_test.proofs.change.Statement.{statement}
 use Rattle.table_test.proofs.change.Tie as tie
-use Rattle.table_test.proofs.change.Reads as reads
-use Rattle.table_test.proofs.change.Lts as lts
-use Rattle.le.proofs.put_u64.Reads as put-u64-reads
-use Rattle.table.proofs.find.Reads as find-reads
-use Rattle.table_test.proofs.size.Reads as size-reads
 
--- src/main.rt:111:9
 size-requires : tie.Need-size-requires
 size-requires c κs = search needs
 
--- src/main.rt:112:11
 find-requires : tie.Need-find-requires
-find-requires c κs = ?
+find-requires c κs = (sorted (c .before .before .before .before .pre) (c .before .size .ensures), omega arith)
 
--- src/main.rt:113:19
+-- in the arm of `At i`: what `find` says of i
+at-i : (c : tie.After-i) → Finds (keyAt 8 24 (c .before .before .before .before .before .before .before .args .m .now)) (markAt 8 24 16 (c .before .before .before .before .before .before .before .args .m .now)) (c .before .before .before .before .size .result) (c .before .before .before .before .before .before .before .args .k) (At (c .i .given .0 .0))
+at-i c = rw (c .i .given .1) at (c .before .before .find .ensures)
+
 enum-known-i : tie.Need-enum-known-i
 enum-known-i c = search needs
 
--- src/main.rt:114:32
 mul-put-u64 : tie.Need-mul-put-u64
-mul-put-u64 c = ?
+mul-put-u64 c = omega (arith, at-i (c .before .before) .0)
 
--- src/main.rt:114:28
 add-put-u64 : tie.Need-add-put-u64
-add-put-u64 c = ?
+add-put-u64 c = omega (arith, at-i (c .before .before) .0)
 
--- src/main.rt:114:28
 add-put-u64-2 : tie.Need-add-put-u64-2
-add-put-u64-2 c = ?
+add-put-u64-2 c = omega (arith, at-i (c .before .before) .0)
 
--- src/main.rt:114:13
 put-u64-requires : tie.Need-put-u64-requires
-put-u64-requires c κs = ?
+put-u64-requires c κs = omega (arith, at-i (c .before .before) .0)
 
--- src/main.rt:117:27
 enum-told : tie.Need-enum-told
 enum-told c = search needs
 
--- src/main.rt:107:1
 same-length : tie.Need-same-length
 same-length c = search needs
 
--- src/main.rt:107:1
 returns : tie.Need-returns
-returns c = ?
+returns c =
+    let p = c .before .before in
+    let i = p .before .before .before in
+    let z = i .before .before .before .before in
+    let s = z .before .before .before in
+    rw (p .put-u64 .ensures) (did (change-to _ _ _ (s .args .v) (s .pre) (z .size .ensures) (s .fits .v .fits) (at-i i)))
 
--- src/main.rt:107:1
 same-length-2 : tie.Need-same-length-2
 same-length-2 c = search needs
 
--- src/main.rt:107:1
 returns-2 : tie.Need-returns-2
 returns-2 c = search needs
 

@@ -1,25 +1,22 @@
 use borrow.Author.Needs.{needs}
+use Rattle.table_test.specs.Test.{read}
+use mathlib.Core.Path.{sym, _∙_}
 use Rattle.table_test.proofs.is_at.Statement.{statement}
 use Rattle.table_test.proofs.is_at.Tie as tie
-use Rattle.table_test.proofs.is_at.Reads as reads
-use Rattle.table_test.proofs.is_at.Lts as lts
-use Rattle.table.proofs.key_at.Reads as key-at-reads
 
--- src/main.rt:65:9
 returns : tie.Need-returns
 returns c = search needs
 
--- src/main.rt:67:8
 key-at-requires : tie.Need-key-at-requires
 key-at-requires c κs = search needs
 
--- src/main.rt:68:9
 returns-2 : tie.Need-returns-2
-returns-2 c = ?
+unfolding read
+returns-2 c = sym (c .before .key-at .ensures) ∙ c .if2 .taken
 
--- src/main.rt:60:1
 returns-3 : tie.Need-returns-3
-returns-3 c = ?
+unfolding read
+returns-3 c = λ h e. c .if2 .left (c .before .key-at .ensures ∙ e)
 
 pub is-at-spec : {M : Type 1} → statement M
 is-at-spec = tie.close (tie.spec returns key-at-requires returns-2 returns-3)

@@ -1,35 +1,31 @@
 use borrow.Author.Needs.{needs}
+use Rattle.table_test.proofs.Laws.{put-in-to}
+use native.Mathlib.Omega.{arith}
 use Rattle.table_test.proofs.put_in.Statement.{statement}
 use Rattle.table_test.proofs.put_in.Tie as tie
-use Rattle.table_test.proofs.put_in.Reads as reads
-use Rattle.table_test.proofs.put_in.Lts as lts
-use Rattle.le.proofs.put_u64.Reads as put-u64-reads
-use Rattle.table.proofs.open_at.Reads as open-at-reads
-use Rattle.table_test.proofs.write_row.Reads as write-row-reads
 
--- src/main.rt:77:5
 open-at-requires : tie.Need-open-at-requires
 open-at-requires c κs = search needs
 
--- src/main.rt:78:5
 write-row-requires : tie.Need-write-row-requires
 write-row-requires c κs = search needs
 
--- src/main.rt:79:23
 add-put-u64 : tie.Need-add-put-u64
 add-put-u64 c = search needs
 
--- src/main.rt:79:5
 put-u64-requires : tie.Need-put-u64-requires
 put-u64-requires c κs = search needs
 
--- src/main.rt:73:1
 same-length : tie.Need-same-length
 same-length c = search needs
 
--- src/main.rt:73:1
 returns : tie.Need-returns
-returns c = ?
+returns c =
+    let p = c .before .before in
+    let w = p .before .before .before .before in
+    let o = w .before .before .before .before in
+    let s = o .before .before .before in
+    rw (p .put-u64 .ensures, w .write-row .ensures) (put-in-to (s .args .n) (s .args .i) (s .args .r) (s .pre) (omega (arith, s .good)) (o .open-at .ensures))
 
 pub put-in-spec : {M : Type 1} → statement M
 put-in-spec =

@@ -1,93 +1,70 @@
+use borrow.Author.Needs.{needs}
+use Prim.Native.Nat.{_≤_, _-_}
 use Rattle.table_test.proofs.show.Statement.{statement}
 use Rattle.table_test.proofs.show.Tie as tie
-use Rattle.table_test.proofs.show.Reads as reads
-use Rattle.table_test.proofs.show.Lts as lts
-use Rattle.io.proofs.write_all.Reads as write-all-reads
-use Rattle.table_test.proofs.print.Reads as print-reads
-use Rattle.table_test.proofs.read_row.Reads as read-row-reads
-use Rattle.table_test.proofs.size.Reads as size-reads
 
 abbrev Inv-loop : tie.InvT-loop
-Inv-loop m n i₀ t6 t7 t8 t9 t10 i = ?
+Inv-loop m n i₀ t6 t7 t8 t9 t10 i = i ≤ n
 
 abbrev μ-loop : tie.MeasureT-loop
-μ-loop m n i₀ t6 t7 t8 t9 t10 i = ?
+μ-loop m n i₀ t6 t7 t8 t9 t10 i = n - i
 
--- src/main.rt:167:9
 size-requires : tie.Need-size-requires Inv-loop μ-loop
-size-requires c κs = ?
+size-requires c κs = search needs
 
--- src/main.rt:168:21
 slice-aggregate-print : tie.Need-slice-aggregate-print Inv-loop μ-loop
-slice-aggregate-print c = ?
+slice-aggregate-print c = search needs
 
--- src/main.rt:168:5
 print-requires : tie.Need-print-requires Inv-loop μ-loop
-print-requires c κs = ?
+print-requires c κs = search needs
 
--- src/main.rt:170:5
 loop-holds : tie.Need-loop-holds Inv-loop μ-loop
-loop-holds c = ?
+loop-holds c = search needs
 
--- src/main.rt:171:13
 read-row-requires : tie.Need-read-row-requires Inv-loop μ-loop
-read-row-requires c κs = ?
+read-row-requires c κs = search needs
 
--- src/main.rt:172:26
 slice-aggregate-write-all : tie.Need-slice-aggregate-write-all Inv-loop μ-loop
-slice-aggregate-write-all c = ?
+slice-aggregate-write-all c = search needs
 
--- src/main.rt:172:9
 write-all-requires : tie.Need-write-all-requires Inv-loop μ-loop
-write-all-requires c κs = ?
+write-all-requires c κs = search needs
 
--- src/main.rt:174:30
 slice-aggregate-write-all-2 : tie.Need-slice-aggregate-write-all-2 Inv-loop μ-loop
-slice-aggregate-write-all-2 c = ?
+slice-aggregate-write-all-2 c = search needs
 
--- src/main.rt:174:13
 write-all-requires-2 : tie.Need-write-all-requires-2 Inv-loop μ-loop
-write-all-requires-2 c κs = ?
+write-all-requires-2 c κs = search needs
 
--- src/main.rt:176:22
 slice-aggregate-print-2 : tie.Need-slice-aggregate-print-2 Inv-loop μ-loop
-slice-aggregate-print-2 c = ?
+slice-aggregate-print-2 c = search needs
 
--- src/main.rt:176:9
 print-requires-2 : tie.Need-print-requires-2 Inv-loop μ-loop
-print-requires-2 c κs = ?
+print-requires-2 c κs = search needs
 
--- src/main.rt:177:24
 slice-aggregate-print-3 : tie.Need-slice-aggregate-print-3 Inv-loop μ-loop
-slice-aggregate-print-3 c = ?
+slice-aggregate-print-3 c = search needs
 
--- src/main.rt:177:9
 print-requires-3 : tie.Need-print-requires-3 Inv-loop μ-loop
-print-requires-3 c κs = ?
+print-requires-3 c κs = search needs
 
--- src/main.rt:178:9
 add-i : tie.Need-add-i Inv-loop μ-loop
-add-i c = ?
+add-i c = search needs
 
--- src/main.rt:170:5
 loop-less : tie.Need-loop-less Inv-loop μ-loop
-loop-less c = ?
+loop-less c = search needs
 
--- src/main.rt:170:5
 loop-again : tie.Need-loop-again Inv-loop μ-loop
-loop-again c = ?
+loop-again c = search needs
 
--- src/main.rt:180:22
 slice-aggregate-write-all-3 : tie.Need-slice-aggregate-write-all-3 Inv-loop μ-loop
-slice-aggregate-write-all-3 c = ?
+slice-aggregate-write-all-3 c = search needs
 
--- src/main.rt:180:5
 write-all-requires-3 : tie.Need-write-all-requires-3 Inv-loop μ-loop
-write-all-requires-3 c κs = ?
+write-all-requires-3 c κs = search needs
 
--- src/main.rt:164:1
 returns : tie.Need-returns Inv-loop μ-loop
-returns c = ?
+returns c = search needs
 
 pub show-spec : {M : Type 1} → statement M
 show-spec =
