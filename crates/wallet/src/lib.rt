@@ -16,16 +16,6 @@ fn cost(price: u64, qty: u64) -> Amount
     words::narrow(words::signed_mul(price, qty))
 }
 
-// What an order of side with leaves open at price holds: cash for a buy, lots for a sell.
-pub fn hold_of(side: Side, price: u64, leaves: u64) -> Amount
-    ensures { λ r. ⌜ amount r ≡ W.hold-of side (int price) leaves ⌝ }
-{
-    match side {
-        Side::Buy => cost(price, leaves),
-        Side::Sell => words::positive(leaves),
-    }
-}
-
 fn unwrap_or(a: Amount, other: u64) -> u64
     ensures { λ r. ⌜ int r ≡ Option·getD (amount a) (int other) ⌝ }
 {
@@ -40,7 +30,7 @@ pub fn held(side: Side, priced: bool, price: u64, leaves: u64) -> u64
     ensures { λ r. ⌜ int r ≡ W.held side (W.price-of priced (int price)) leaves ⌝ }
 {
     if priced {
-        unwrap_or(hold_of(side, price, leaves), 0)
+        unwrap_or(Wallet::hold_of(side, price, leaves), 0)
     } else {
         0
     }
@@ -74,6 +64,16 @@ impl Wallet {
             position: words::of_i64(funds.position),
             cash_held: 0,
             position_held: 0,
+        }
+    }
+
+    // What an order of side with leaves open at price holds: cash for a buy, lots for a sell.
+    pub fn hold_of(side: Side, price: u64, leaves: u64) -> Amount
+        ensures { λ r. ⌜ amount r ≡ W.hold-of side (int price) leaves ⌝ }
+    {
+        match side {
+            Side::Buy => cost(price, leaves),
+            Side::Sell => words::positive(leaves),
         }
     }
 

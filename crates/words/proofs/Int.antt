@@ -1,5 +1,5 @@
 -- A word's number: low words are themselves, high ones 2^64 less; and an i64's word. Assumes nothing.
-use mathlib.Core.Path.{_≡_, refl, sym, _∙_, subst}
+use mathlib.Core.Path.{_≡_, refl, sym, _∙_, ap, subst}
 use mathlib.Core.Bool.{true, false}
 use Prim.Native.Nat.{ℕ, suc, _+_, _-_, _≤_, _<_, _^_}
 use native.Mathlib.Omega.{arith}
@@ -8,7 +8,7 @@ use lib.IntN.{ℤ, pos, negsuc, _+ℤ_, _-ℤ_}
 use lib.Signed.{ltZ, mag}
 use mir.Syntax.{w64}
 use mir.Val.{ofZ, toZ, SFits}
-use mir.ValLaws.{toZ-ofZ}
+use mir.ValLaws.{toZ-ofZ, ofZ-toZ}
 use borrow.Author.Tests.{lt-ltb, le-ltb, ltb-true}
 use Rattle.words.specs.Words.{half, least, most, int, _⊖_}
 use Rattle.words.proofs.Diff.{⊖-ind, pos-is, negsuc-is, ⊖-same}
@@ -31,7 +31,7 @@ pub int-zero : int 0 ≡ pos 0
 unfolding int
 int-zero = refl
 
-pub int-most : int 9223372036854775807 ≡ most
+pub int-most : int (half - 1) ≡ most
 unfolding int
 int-most = refl
 
@@ -43,12 +43,17 @@ int-least = refl
 pub read : {x : ℤ} → mag x < half → toZ w64 (ofZ w64 x) ≡ x
 read {x} h = toZ-ofZ w64 x (record { sfits = h })
 
-pub back : {x : ℤ} → SFits w64 x → toZ w64 (ofZ w64 x) ≡ x
-back {x} f = toZ-ofZ w64 x f
-
 pub int-of : (x : ℤ) → SFits w64 x → int (ofZ w64 x) ≡ x
 unfolding int
 int-of x f = toZ-ofZ w64 x f
+
+-- a word is the two's complement of its number, so that two words with one number are the same
+pub of-int : (w : ℕ) → w < 2 ^ 64 → ofZ w64 (int w) ≡ w
+unfolding int
+of-int w h = ofZ-toZ w64 w (record { fits = h })
+
+pub int-injective : (v w : ℕ) → v < 2 ^ 64 → w < 2 ^ 64 → int v ≡ int w → v ≡ w
+int-injective v w h k e = sym (of-int v h) ∙ ap (ofZ w64) e ∙ of-int w k
 
 pub ⊖-fits : (p q : ℕ) → p < q + half → q ≤ p + half → mag (p ⊖ q) < half
 ⊖-fits p q h k = ⊖-ind (λ z. mag z < half) p q (λ n e. omega arith) (λ n e. omega arith)

@@ -22,8 +22,14 @@ high-neg w n f h e = high-is w 0 n f h e ∙ sym (neg-is n)
 abs-is : (p q : ℕ) → natAbs (p ⊖ q) ≡ p - q + (q - p)
 abs-is p q = ⊖-ind (λ z. natAbs z ≡ p - q + (q - p)) p q (λ n e. omega arith) (λ n e. omega arith)
 
-pub apart : (a b u v d : ℕ) → int a ≡ u ⊖ half → int b ≡ v ⊖ half → d ≡ u - v + (v - u) → d ≡ natAbs (int a -ℤ int b)
+apart : (a b u v d : ℕ) → int a ≡ u ⊖ half → int b ≡ v ⊖ half → d ≡ u - v + (v - u) → d ≡ natAbs (int a -ℤ int b)
 apart a b u v d p q e = e ∙ sym (ap natAbs (diff2 half u v p q) ∙ abs-is u v)
+
+pub apart-less : (a b u v : ℕ) → int a ≡ u ⊖ half → int b ≡ v ⊖ half → u < v → v - u ≡ natAbs (int a -ℤ int b)
+apart-less a b u v p q h = apart a b u v (v - u) p q (omega arith)
+
+pub apart-more : (a b u v : ℕ) → int a ≡ u ⊖ half → int b ≡ v ⊖ half → v ≤ u → u - v ≡ natAbs (int a -ℤ int b)
+apart-more a b u v p q h = apart a b u v (u - v) p q (omega arith)
 
 pub hi-less : (ah al bh bl : ℕ) → al < 2 ^ 64 → ah < bh → true ≡ leb (ah * 2 ^ 64 + al) (bh * 2 ^ 64 + bl)
 hi-less ah al bh bl f h = sym (le-leb (ah * 2 ^ 64 + al) (bh * 2 ^ 64 + bl) (le-of-lt (high-lt (2 ^ 64) ah al bh bl f h)))
@@ -77,8 +83,14 @@ both m n f r e t p = p ∙ leb-same n 0 (m + n) 0 (omega (arith, leb-true m 0 (s
 pub not-both : (m n : ℕ) (f : Bool) → f ≡ leb m 0 → f ≡ false → f ≡ leb (m + n) 0
 not-both m n f e t = t ∙ sym (lt-leb (m + n) 0 (omega (arith, leb-false m 0 (sym e ∙ t))))
 
-pub moved : (total old new t o n p q : ℕ) (r : Place) → int total ≡ t ⊖ half → int old ≡ o ⊖ half → int new ≡ n ⊖ half → r ≡ place-of (p ⊖ q) → p + (o + half) ≡ t + n + q → r ≡ place-of (int total -ℤ int old +ℤ int new)
+moved : (total old new t o n p q : ℕ) (r : Place) → int total ≡ t ⊖ half → int old ≡ o ⊖ half → int new ≡ n ⊖ half → r ≡ place-of (p ⊖ q) → p + (o + half) ≡ t + n + q → r ≡ place-of (int total -ℤ int old +ℤ int new)
 moved total old new t o n p q r et eo en e h = e ∙ ap place-of (⊖-same p q (t + n) (o + half) (omega arith) ∙ sym (sum3 half t o n et eo en))
+
+pub moved-up : (total old new t o n : ℕ) (r : Place) → int total ≡ t ⊖ half → int old ≡ o ⊖ half → int new ≡ n ⊖ half → o ≤ n → r ≡ place-of ((t + (n - o)) ⊖ half) → r ≡ place-of (int total -ℤ int old +ℤ int new)
+moved-up total old new t o n r et eo en h e = moved total old new t o n (t + (n - o)) half r et eo en e (omega arith)
+
+pub moved-down : (total old new t o n : ℕ) (r : Place) → int total ≡ t ⊖ half → int old ≡ o ⊖ half → int new ≡ n ⊖ half → n < o → r ≡ place-of (t ⊖ (half + (o - n))) → r ≡ place-of (int total -ℤ int old +ℤ int new)
+moved-down total old new t o n r et eo en h e = moved total old new t o n t (half + (o - n)) r et eo en e (omega arith)
 
 pub less-zero : (a b : ℕ) → int a -ℤ int 0 +ℤ int b ≡ int a +ℤ int b
 less-zero a b = rw int-zero (ap (λ (z : ℤ). z +ℤ int b) (+ℤ-idr (int a)))
@@ -86,4 +98,4 @@ less-zero a b = rw int-zero (ap (λ (z : ℤ). z +ℤ int b) (+ℤ-idr (int a)))
 pub plus-zero : (a b : ℕ) → int a -ℤ int b +ℤ int 0 ≡ int a -ℤ int b
 plus-zero a b = rw int-zero (+ℤ-idr (int a -ℤ int b))
 
-pub ruleset laws = (needs, low, fits-pos, not-pos, fits-neg, not-neg, not-wide, one-word, hi-less, hi-more, hi-same, sums-le, product, both-neg, neg-pos, pos-neg, both-pos, both, not-both)
+pub ruleset laws = (needs, low, apart-less, apart-more, moved-up, moved-down, fits-pos, not-pos, fits-neg, not-neg, not-wide, one-word, hi-less, hi-more, hi-same, sums-le, product, both-neg, neg-pos, pos-neg, both-pos, both, not-both)

@@ -1,7 +1,7 @@
 -- What the words stand for, and what their arithmetic gives, over the integers.
 use mathlib.Core.Bool.{Bool, true, false, cond}
 use mathlib.Core.Option.{Option, none, some}
-use Prim.Native.Nat.{ℕ, _+_, _*_, _^_}
+use Prim.Native.Nat.{ℕ, _+_, _-_, _*_, _^_}
 use lib.IntN.{ℤ, pos, negsuc, negℤ, subℕ}
 use lib.Signed.{leZ}
 use mir.Syntax.{w64}
@@ -20,10 +20,10 @@ half = 9223372036854775808
 
 -- the ends of 64 bits signed
 abbrev pub least : ℤ
-least = negsuc 9223372036854775807
+least = negsuc (half - 1)
 
 abbrev pub most : ℤ
-most = pos 9223372036854775807
+most = pos (half - 1)
 
 -- a word's number, in two's complement; shut, so that a goal names it and does not compute it
 unfoldable pub int : ℕ → ℤ

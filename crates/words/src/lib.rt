@@ -69,7 +69,7 @@ pub struct Wide {
     pub lo: u64,
 }
 
-pub fn wide_add(a: u64, b: u64) -> Wide
+fn wide_add(a: u64, b: u64) -> Wide
     ensures { λ r. ⌜ wide r ≡ a + b ⌝ }
 {
     let room = MAX - a;
@@ -107,7 +107,7 @@ pub fn wide_mul(a: u64, b: u64) -> Wide
     }
 }
 
-pub fn wide_le(a: Wide, b: Wide) -> bool
+fn wide_le(a: Wide, b: Wide) -> bool
     ensures { λ r. ⌜ r ≡ leb (wide a) (wide b) ⌝ }
 {
     if a.hi < b.hi {

@@ -1,9 +1,13 @@
+use Prim.Native.Nat.{_*_, _≤_}
 use native.Mathlib.Nat.{mul-le-mul-left}
 use native.Mathlib.Omega.{arith}
 use borrow.Author.Needs.{needs}
-use Rattle.risk.specs.Throttle.{filled}
+use Rattle.risk.specs.Throttle.{burst, filled}
 use Rattle.risk.proofs.filled.Statement.{statement}
 use Rattle.risk.proofs.filled.Tie as tie
+
+gain : (c : tie.Else2) → c .before .before .args .rate * c .before .before .args .elapsed ≤ burst (c .before .before .args .rate)
+gain c = mul-le-mul-left (c .before .before .args .rate) (omega arith)
 
 mul-burst : tie.Need-mul-burst
 mul-burst c = search needs
@@ -17,10 +21,10 @@ unfolding filled
 returns-2 c = omega arith
 
 mul-sum : tie.Need-mul-sum
-mul-sum c = omega (arith, mul-le-mul-left {m = c .before .before .args .elapsed} {n = 1000000000} (c .before .before .args .rate) (omega arith))
+mul-sum c = omega (arith, gain c)
 
 add-sum : tie.Need-add-sum
-add-sum c = omega (arith, mul-le-mul-left {m = c .before .before .args .elapsed} {n = 1000000000} (c .before .before .args .rate) (omega arith))
+add-sum c = omega (arith, gain c)
 
 returns-3 : tie.Need-returns-3
 unfolding filled

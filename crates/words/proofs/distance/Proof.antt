@@ -1,6 +1,5 @@
-use native.Mathlib.Omega.{arith}
 use borrow.Author.Needs.{needs}
-use Rattle.words.proofs.Laws.{apart}
+use Rattle.words.proofs.Laws.{laws}
 use Rattle.words.proofs.distance.Statement.{statement}
 use Rattle.words.proofs.distance.Tie as tie
 
@@ -14,10 +13,10 @@ sub-result : tie.Need-sub-result
 sub-result c = search needs
 
 returns : tie.Need-returns
-returns c = let u = c .before .before .raised in let v = c .before .raised2 in apart _ _ (u .result) (v .result) _ (u .ensures) (v .ensures) (omega arith)
+returns c = search laws
 
 returns-2 : tie.Need-returns-2
-returns-2 c = let u = c .before .before .raised in let v = c .before .raised2 in apart _ _ (u .result) (v .result) _ (u .ensures) (v .ensures) (omega arith)
+returns-2 c = search laws
 
 pub distance-spec : {M : Type 1} → statement M
 distance-spec = tie.close (tie.spec raised-requires raised-requires-2 sub-result returns returns-2)

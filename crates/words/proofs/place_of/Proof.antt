@@ -1,6 +1,5 @@
-use native.Mathlib.Omega.{arith}
 use borrow.Author.Needs.{needs}
-use Rattle.words.proofs.Laws.{moved}
+use Rattle.words.proofs.Laws.{laws}
 use Rattle.words.proofs.place_of.Statement.{statement}
 use Rattle.words.proofs.place_of.Tie as tie
 
@@ -23,10 +22,10 @@ shrunk-requires : tie.Need-shrunk-requires
 shrunk-requires c κs = search needs
 
 returns : tie.Need-returns
-returns c = let t = c .before .before .before .before .raised in let o = c .before .before .before .raised2 in let n = c .before .before .raised3 in moved _ _ _ (t .result) (o .result) (n .result) _ _ _ (t .ensures) (o .ensures) (n .ensures) (c .grown .ensures) (omega arith)
+returns c = search laws
 
 returns-2 : tie.Need-returns-2
-returns-2 c = let t = c .before .before .before .before .raised in let o = c .before .before .before .raised2 in let n = c .before .before .raised3 in moved _ _ _ (t .result) (o .result) (n .result) _ _ _ (t .ensures) (o .ensures) (n .ensures) (c .shrunk .ensures) (omega arith)
+returns-2 c = search laws
 
 pub place-of-spec : {M : Type 1} → statement M
 place-of-spec =

@@ -1,6 +1,6 @@
 use borrow.Author.Needs.{needs}
-use Rattle.wallet.proofs.hold_of.Statement.{statement}
-use Rattle.wallet.proofs.hold_of.Tie as tie
+use Rattle.wallet.proofs.Wallet.hold_of.Statement.{statement}
+use Rattle.wallet.proofs.Wallet.hold_of.Tie as tie
 
 enum-told : tie.Need-enum-told
 enum-told c = search needs

@@ -1,0 +1,368 @@
+//! Amounts and wallets: `cost`, `hold_of`, `covers`, `hold` and `settle`, with the Rust's `Wallet`.
+
+use gateway::wallet::Wallet;
+use orderbook::Side;
+
+use crate::exchange;
+use crate::function::{
+    Arg, FILL, Function, Inputs, Rust, Words, call, side, signed, to_bytes, unless_overflow,
+    unsigned,
+};
+use crate::inputs::{LIMITS, NO_SIDES, Random, SIDES, all, boxed, listed, random};
+use crate::rattle;
+use crate::rule::{self, MALFORMED, OUTSIDE};
+
+fn wallet(words: &[u64]) -> Wallet {
+    Wallet {
+        cash: words[0] as i64,
+        position: words[1] as i64,
+        cash_held: words[2] as i64,
+        position_held: words[3] as i64,
+    }
+}
+
+/// The answer of a call that leaves `wallet`.
+fn leaves(code: u64, wallet: Wallet) -> Words {
+    let numbers = [
+        wallet.cash,
+        wallet.position,
+        wallet.cash_held,
+        wallet.position_held,
+    ];
+    let words = numbers.into_iter().map(|number| number as u64);
+    std::iter::once(code).chain(words).collect()
+}
+
+fn fits(amount: Option<i64>) -> Words {
+    vec![0, amount.is_some().into(), amount.unwrap_or(0) as u64]
+}
+
+/// A wallet whose `side` owns and holds these; the rest is random.
+fn wallet_with(side: u64, owned: u64, held: u64, random: &mut Random) -> [u64; 4] {
+    let (a, b) = (random.word(), random.word());
+    if side == 0 {
+        [owned, a, held, b]
+    } else {
+        [a, owned, b, held]
+    }
+}
+
+/// A price and a quantity whose product is near a limit.
+fn near_limit(random: &mut Random) -> (u64, u64) {
+    let qty = random.bits() >> random.below(64);
+    let most = (1 << 63) / qty.max(1);
+    let price = random.beside(most);
+    if random.below(2) == 0 {
+        (price, qty)
+    } else {
+        (price.wrapping_neg(), qty)
+    }
+}
+
+pub struct Cost;
+
+impl Function for Cost {
+    const NAME: &'static str = "cost";
+    const ARGS: &'static [Arg] = &[signed("price"), unsigned("qty")];
+
+    fn inputs() -> Inputs {
+        boxed(
+            all([&LIMITS, &LIMITS])
+                .chain(random(200_000, |r| r.words(2)))
+                .chain(random(200_000, |r| {
+                    let (price, qty) = near_limit(r);
+                    vec![price, qty]
+                })),
+        )
+    }
+
+    fn rust(args: &[u64]) -> Rust {
+        Rust::Answer(fits(Wallet::hold_of(Side::Buy, args[0] as i64, args[1])))
+    }
+
+    fn rule(args: &[u64]) -> Words {
+        fits(rule::cost(args[0] as i64, args[1]))
+    }
+
+    fn rattle(args: &[u64]) -> Words {
+        call(&[FILL; 2], |out| rattle::cost(args[0], args[1], out))
+    }
+}
+
+pub struct HoldOf;
+
+impl Function for HoldOf {
+    const NAME: &'static str = "hold_of";
+    const ARGS: &'static [Arg] = &[unsigned("side"), signed("price"), unsigned("leaves")];
+
+    fn inputs() -> Inputs {
+        boxed(
+            listed([[0, 250, 4], [1, 250, 4], [0, i64::MAX as u64, 2]])
+                .chain(all([&SIDES, &LIMITS, &LIMITS]))
+                .chain(all([&NO_SIDES, &LIMITS, &LIMITS]))
+                .chain(random(200_000, |r| vec![r.below(2), r.word(), r.word()]))
+                .chain(random(200_000, |r| {
+                    let (price, qty) = near_limit(r);
+                    vec![r.below(2), price, qty]
+                })),
+        )
+    }
+
+    fn rust(args: &[u64]) -> Rust {
+        match side(args[0]) {
+            Some(side) => Rust::Answer(fits(Wallet::hold_of(side, args[1] as i64, args[2]))),
+            None => Rust::Lacks,
+        }
+    }
+
+    fn rule(args: &[u64]) -> Words {
+        match side(args[0]) {
+            Some(side) => fits(rule::hold_of(side, args[1] as i64, args[2])),
+            None => vec![MALFORMED, FILL, FILL],
+        }
+    }
+
+    fn rattle(args: &[u64]) -> Words {
+        call(&[FILL; 2], |out| {
+            rattle::hold_of(args[0] as u32, args[1], args[2], out)
+        })
+    }
+}
+
+pub struct Covers;
+
+impl Function for Covers {
+    const NAME: &'static str = "covers";
+    const ARGS: &'static [Arg] = &[
+        unsigned("side"),
+        signed("amount"),
+        signed("cash"),
+        signed("position"),
+        signed("cash_held"),
+        signed("position_held"),
+    ];
+    const KIND: usize = 2;
+
+    fn inputs() -> Inputs {
+        let mut r = Random::new();
+        let mut input = move |side, amount, owned, held| {
+            let mut args = vec![side, amount];
+            args.extend(wallet_with(side, owned, held, &mut r));
+            args
+        };
+        let limits = all([&SIDES, &LIMITS, &LIMITS, &LIMITS])
+            .chain(all([&NO_SIDES, &LIMITS, &LIMITS[..3], &LIMITS[..3]]))
+            .map(move |a| input(a[0], a[1], a[2], a[3]));
+        let border = |r: &mut Random| {
+            let (side, owned, held) = (r.below(2), r.word(), r.word());
+            let mut args = vec![side, r.beside(owned.wrapping_sub(held))];
+            args.extend(wallet_with(side, owned, held, r));
+            args
+        };
+        boxed(
+            listed([[0, 999, 1000, 0, 1, 0], [0, 1000, 1000, 0, 1, 0]])
+                .chain(limits)
+                .chain(random(200_000, |r| [vec![r.below(2)], r.words(5)].concat()))
+                .chain(random(200_000, border)),
+        )
+    }
+
+    fn rust(args: &[u64]) -> Rust {
+        match side(args[0]) {
+            Some(side) => {
+                unless_overflow(|| vec![0, wallet(&args[2..]).covers(side, args[1] as i64).into()])
+            }
+            None => Rust::Lacks,
+        }
+    }
+
+    fn rule(args: &[u64]) -> Words {
+        match side(args[0]) {
+            Some(side) => {
+                let yes = rule::covers(side, args[1] as i64, wallet(&args[2..]));
+                vec![0, yes.into()]
+            }
+            None => vec![MALFORMED, FILL],
+        }
+    }
+
+    fn rattle(args: &[u64]) -> Words {
+        let wallet = to_bytes(&args[2..]);
+        call(&[FILL], |out| {
+            rattle::covers(args[0] as u32, args[1], &wallet, out)
+        })
+    }
+}
+
+pub struct Hold;
+
+const HOLD: &[Arg] = &[
+    unsigned("side"),
+    signed("old"),
+    signed("new"),
+    signed("cash"),
+    signed("position"),
+    signed("cash_held"),
+    signed("position_held"),
+];
+
+impl Function for Hold {
+    const NAME: &'static str = "hold";
+    const ARGS: &'static [Arg] = HOLD;
+
+    fn inputs() -> Inputs {
+        let mut r = Random::new();
+        let mut input = move |side, old, new, total| {
+            let mut args = vec![side, old, new];
+            let owned = r.word();
+            args.extend(wallet_with(side, owned, total, &mut r));
+            args
+        };
+        let limits = all([&SIDES, &LIMITS, &LIMITS, &LIMITS])
+            .chain(all([&NO_SIDES, &LIMITS, &LIMITS[..3], &LIMITS[..3]]))
+            .map(move |a| input(a[0], a[1], a[2], a[3]));
+        let border = |r: &mut Random| {
+            let (side, old, total, owned) = (r.below(2), r.word(), r.word(), r.word());
+            let limit = r.beside(1 << 63);
+            let new = limit.wrapping_sub(total).wrapping_add(old);
+            let mut args = vec![side, old, new];
+            args.extend(wallet_with(side, owned, total, r));
+            args
+        };
+        boxed(
+            listed([[0, 1000, 500, 520, 2, 1000, 0]])
+                .chain(limits)
+                .chain(random(200_000, |r| [vec![r.below(2)], r.words(6)].concat()))
+                .chain(random(200_000, border)),
+        )
+    }
+
+    /// The difference is the one that `set_leaves` holds.
+    fn rust(args: &[u64]) -> Rust {
+        match side(args[0]) {
+            Some(side) => unless_overflow(|| {
+                let mut wallet = wallet(&args[3..]);
+                wallet.hold(side, args[2] as i64 - args[1] as i64);
+                leaves(0, wallet)
+            }),
+            None => Rust::Lacks,
+        }
+    }
+
+    fn rule(args: &[u64]) -> Words {
+        let before = wallet(&args[3..]);
+        match side(args[0]) {
+            None => leaves(MALFORMED, before),
+            Some(side) => match rule::hold(side, args[1] as i64, args[2] as i64, before) {
+                None => leaves(OUTSIDE, before),
+                Some(after) => leaves(0, after),
+            },
+        }
+    }
+
+    fn rattle(args: &[u64]) -> Words {
+        call(&args[3..], |wallet| {
+            rattle::hold(args[0] as u32, args[1], args[2], wallet)
+        })
+    }
+}
+
+/// `hold` again, where the Rust is a whole `Exchange` with orders that hold the totals.
+pub struct HoldInExchange;
+
+impl Function for HoldInExchange {
+    const NAME: &'static str = "hold, by Exchange";
+    const ARGS: &'static [Arg] = HOLD;
+
+    fn inputs() -> Inputs {
+        let limits = all([&SIDES, &LIMITS, &LIMITS, &LIMITS, &LIMITS[..2]])
+            .map(|a| vec![a[0], a[1], a[2], 5, 7, a[3], a[4]]);
+        boxed(
+            limits
+                .chain(random(100_000, |r| [vec![r.below(2)], r.words(6)].concat()))
+                .filter(|args| exchange::can_hold(args)),
+        )
+    }
+
+    fn rust(args: &[u64]) -> Rust {
+        if !exchange::can_hold(args) {
+            return Rust::Lacks;
+        }
+        unless_overflow(|| leaves(0, exchange::hold(args)))
+    }
+
+    fn rule(args: &[u64]) -> Words {
+        Hold::rule(args)
+    }
+
+    fn rattle(args: &[u64]) -> Words {
+        Hold::rattle(args)
+    }
+}
+
+pub struct Settle;
+
+impl Function for Settle {
+    const NAME: &'static str = "settle";
+    const ARGS: &'static [Arg] = &[
+        unsigned("side"),
+        signed("price"),
+        unsigned("qty"),
+        signed("cash"),
+        signed("position"),
+        signed("cash_held"),
+        signed("position_held"),
+    ];
+
+    fn inputs() -> Inputs {
+        let mut r = Random::new();
+        let held = move |mut args: Words| {
+            args.extend(r.words(2));
+            args
+        };
+        let limits = all([&SIDES, &LIMITS, &LIMITS, &LIMITS, &LIMITS])
+            .chain(all([
+                &NO_SIDES,
+                &LIMITS,
+                &LIMITS,
+                &LIMITS[..2],
+                &LIMITS[..2],
+            ]))
+            .map(held);
+        boxed(
+            listed([
+                [0, 240, 2, 1000, 0, 1000, 0],
+                [0, (i64::MIN / 2) as u64, 4, 0, 0, 0, 0],
+            ])
+            .chain(limits)
+            .chain(random(200_000, |r| [vec![r.below(2)], r.words(6)].concat()))
+            .chain(random(100_000, |r| {
+                let (price, qty) = near_limit(r);
+                [vec![r.below(2), price, qty], r.words(4)].concat()
+            })),
+        )
+    }
+
+    fn rust(args: &[u64]) -> Rust {
+        let Some(side) = side(args[0]) else {
+            return Rust::Lacks;
+        };
+        let mut wallet = wallet(&args[3..]);
+        wallet.settle(side, args[1] as i64, args[2]);
+        Rust::Answer(leaves(0, wallet))
+    }
+
+    fn rule(args: &[u64]) -> Words {
+        let before = wallet(&args[3..]);
+        match side(args[0]) {
+            Some(side) => leaves(0, rule::settle(side, args[1] as i64, args[2], before)),
+            None => leaves(MALFORMED, before),
+        }
+    }
+
+    fn rattle(args: &[u64]) -> Words {
+        call(&args[3..], |wallet| {
+            rattle::settle(args[0] as u32, args[1], args[2], wallet)
+        })
+    }
+}

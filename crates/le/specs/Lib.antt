@@ -1,0 +1,3 @@
+pub mod Le
+pub mod Row
+pub mod Checked

@@ -1,0 +1,164 @@
+// Tables of keyed rows in a lent slice of bytes. A table is given by numbers: where row 0 starts (`base`), the bytes of a row (`stride`),
+// how many rows there are (`n`), and where in a row its mark stands (`mark`). With constants for them the calls are inlined.
+ghost use mathlib.Core.Path.{_≡_};
+ghost use Prim.Native.Nat.{_+_, _*_, _%_, _≤_, _<_};
+ghost use lib.ListN.{length};
+ghost use Rattle.le.specs.Le.{put};
+ghost use Rattle.table.specs.Table.{keyAt, markAt, Room, Sorted, Between, Finds, Moved, Opened, Closed, Compacted};
+
+pub enum Found {
+    At(usize),
+    Nothing,
+}
+
+pub fn key_at(m: &[u8], base: usize, stride: usize, i: usize) -> u64
+    requires { ⌜ base + stride * i + 8 ≤ length (now m) ⌝ }
+    ensures { λ r. ⌜ r ≡ keyAt base stride (now (m .entry)) i ⌝ }
+{
+    le::get_u64(m, base + stride * i)
+}
+
+pub fn mark_at(m: &[u8], base: usize, stride: usize, mark: usize, i: usize) -> u8
+    requires { ⌜ base + stride * i + mark + 1 ≤ length (now m) ⌝ }
+    ensures { λ r. ⌜ r ≡ markAt base stride mark (now (m .entry)) i ⌝ }
+{
+    le::get_u8(m, base + stride * i + mark)
+}
+
+// The first row whose key is not below `key`.
+pub fn lower_bound(m: &[u8], base: usize, stride: usize, n: usize, key: u64) -> usize
+    requires { ⌜ Sorted base stride n (now m) ⌝ }
+    ensures { λ r. ⌜ Between (keyAt base stride (now (m .entry))) n key r r ⌝ }
+{
+    let mut lo: usize = 0;
+    let mut hi: usize = n;
+    while lo < hi {
+        let mid = lo + (hi - lo) / 2;
+        if key_at(m, base, stride, mid) < key {
+            lo = mid + 1;
+        } else {
+            hi = mid;
+        }
+    }
+    lo
+}
+
+pub fn find(m: &[u8], base: usize, stride: usize, mark: usize, n: usize, key: u64) -> Found
+    requires { ⌜ Sorted base stride n (now m) × (mark < stride) ⌝ }
+    ensures { λ r. ⌜ Finds (keyAt base stride (now (m .entry))) (markAt base stride mark (now (m .entry))) n key r ⌝ }
+{
+    let i = lower_bound(m, base, stride, n, key);
+    if n <= i {
+        return Found::Nothing;
+    }
+    if key_at(m, base, stride, i) != key {
+        return Found::Nothing;
+    }
+    if mark_at(m, base, stride, mark, i) == 0 {
+        return Found::Nothing;
+    }
+    Found::At(i)
+}
+
+// As `find`, but the row `hint` is tried first. Where it has the key, nothing is searched.
+pub fn find_hinted(
+    m: &[u8],
+    base: usize,
+    stride: usize,
+    mark: usize,
+    n: usize,
+    key: u64,
+    hint: usize,
+) -> Found
+    requires { ⌜ Sorted base stride n (now m) × (mark < stride) ⌝ }
+    ensures { λ r. ⌜ Finds (keyAt base stride (now (m .entry))) (markAt base stride mark (now (m .entry))) n key r ⌝ }
+{
+    if n <= hint {
+        return find(m, base, stride, mark, n, key);
+    }
+    if key_at(m, base, stride, hint) != key {
+        return find(m, base, stride, mark, n, key);
+    }
+    if mark_at(m, base, stride, mark, hint) == 0 {
+        return Found::Nothing;
+    }
+    Found::At(hint)
+}
+
+// Words are moved from the last to the first, or from the first to the last, so that none is overwritten before it has moved.
+fn move_up(m: &mut [u8], from: usize, to: usize, len: usize)
+    requires { ⌜ (from ≤ to) × (to + len ≤ length (now m)) × (len % 8 ≡ 0) ⌝ }
+    ensures { λ r. ⌜ Moved (now (m .entry)) (now (m .exit)) from to len ⌝ }
+{
+    let mut k: usize = len;
+    while 0 < k {
+        k -= 8;
+        let v = le::get_u64(m, from + k);
+        le::put_u64(m, to + k, v);
+    }
+}
+
+fn move_down(m: &mut [u8], from: usize, to: usize, len: usize)
+    requires { ⌜ (to ≤ from) × (from + len ≤ length (now m)) × (len % 8 ≡ 0) ⌝ }
+    ensures { λ r. ⌜ Moved (now (m .entry)) (now (m .exit)) from to len ⌝ }
+{
+    let mut k: usize = 0;
+    while k < len {
+        let v = le::get_u64(m, from + k);
+        le::put_u64(m, to + k, v);
+        k += 8;
+    }
+}
+
+// Room for a row at i, which the caller writes: the rows from i on move one place up.
+pub fn open_at(m: &mut [u8], base: usize, stride: usize, n: usize, i: usize)
+    requires { ⌜ Room base stride (n + 1) (now m) × (i ≤ n) ⌝ }
+    ensures { λ r. ⌜ Opened base stride n i (now (m .entry)) (now (m .exit)) ⌝ }
+{
+    let from = base + stride * i;
+    move_up(m, from, from + stride, stride * (n - i));
+}
+
+// The row i goes: those behind it move one place down.
+pub fn close_at(m: &mut [u8], base: usize, stride: usize, n: usize, i: usize)
+    requires { ⌜ Room base stride n (now m) × (i < n) ⌝ }
+    ensures { λ r. ⌜ Closed base stride n i (now (m .entry)) (now (m .exit)) ⌝ }
+{
+    let to = base + stride * i;
+    move_down(m, to + stride, to, stride * (n - 1 - i));
+}
+
+pub fn strike(m: &mut [u8], base: usize, stride: usize, mark: usize, i: usize)
+    requires { ⌜ base + stride * i + mark + 1 ≤ length (now m) ⌝ }
+    ensures { λ r. ⌜ now (m .exit) ≡ put 1 (now (m .entry)) (base + stride * i + mark) 0 ⌝ }
+{
+    le::put_u8(m, base + stride * i + mark, 0);
+}
+
+// The bytes of the row i, also at an earlier row w.
+pub fn move_row(m: &mut [u8], base: usize, stride: usize, i: usize, w: usize)
+    requires { ⌜ Room base stride (i + 1) (now m) × (w ≤ i) ⌝ }
+    ensures { λ r. ⌜ Moved (now (m .entry)) (now (m .exit)) (base + stride * i) (base + stride * w) stride ⌝ }
+{
+    if w < i {
+        move_down(m, base + stride * i, base + stride * w, stride);
+    }
+}
+
+// The dead rows are squeezed out. The answer is how many are left.
+pub fn compact(m: &mut [u8], base: usize, stride: usize, mark: usize, n: usize) -> usize
+    requires { ⌜ Room base stride n (now m) × (mark < stride) ⌝ }
+    ensures { λ r. ⌜ Compacted base stride mark n r (now (m .entry)) (now (m .exit)) ⌝ }
+{
+    let mut w: usize = 0;
+    let mut i: usize = 0;
+    while i < n {
+        let at = i;
+        i += 1;
+        if mark_at(m, base, stride, mark, at) != 0 {
+            move_row(m, base, stride, at, w);
+            w += 1;
+        }
+    }
+    w
+}
