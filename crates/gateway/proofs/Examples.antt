@@ -36,7 +36,8 @@ use Rattle.gateway.specs.Deliver.{reports, tick-of}
 use Rattle.gateway.specs.Depth.{add, show, take-off, apply, depth-agrees, levels-fit, levels-few, depth-few}
 use Rattle.gateway.specs.Listing.{listing-agrees}
 use Rattle.gateway.specs.Saved.{contents}
-use Rattle.gateway.specs.Table.{without, look, insert, replace, update}
+use Rattle.table.specs.Live.{without, look, insert, replace}
+use Rattle.gateway.specs.Table.{update}
 use Rattle.words.specs.Words.{place-of}
 use Rattle.risk.specs.Throttle.{filled}
 use Rattle.risk.specs.Meter.{green}

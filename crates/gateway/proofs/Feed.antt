@@ -12,7 +12,7 @@ use Rattle.orderbook.specs.declared.Event.{Event}
 use Rattle.orderbook.specs.declared.Event.the-variants.{Accepted, Rejected, Trade, Rested, Replenished, Cancelled, Modified, StopPlaced, Triggered, MassCancelled, PhaseChanged}
 use Rattle.protocol.specs.declared.TradeTick.{TradeTick}
 use Rattle.gateway.specs.Limits.{most-orders, most-levels, most-changed, most-trades, most-notices}
-use Rattle.gateway.specs.Table.{look}
+use Rattle.table.specs.Live.{look}
 use Rattle.gateway.specs.Basics.{option, is-some}
 use Rattle.gateway.specs.Depth.{Resting, Depth, resting-number, find-resting, add, show, take-off, where-resting, filled, modified, showing, lesser, same-price, apply, depth-agrees, levels-fit, levels-few, depth-few}
 use Rattle.gateway.specs.Entry.{settled-depth}

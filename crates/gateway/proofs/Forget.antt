@@ -13,7 +13,8 @@ use Rattle.accounts.specs.declared.Funds.{Funds}
 use Rattle.gateway.specs.Ledger.{Order, Ledger, New, Item, account, command, event, order-of, owner-of, placed, number-of, find, remove, with-leaves, with-price, with-orders, left}
 use Rattle.gateway.specs.Ledger.{Change, mark-by, fill, set-leaves, reprice, retire, changes, change, changed, pay, paper, wallet-of, step, held, held-by, wallet-fits, wallets-fit, holds-fit, open-of}
 use Rattle.gateway.specs.Basics.{option, is-some}
-use Rattle.gateway.specs.Table.{look, without, update}
+use Rattle.table.specs.Live.{look, without}
+use Rattle.gateway.specs.Table.{update}
 use Rattle.gateway.specs.Restart.{forget, forgetting}
 use Rattle.gateway.proofs.Base.{if-map}
 

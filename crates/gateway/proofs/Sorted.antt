@@ -8,7 +8,7 @@ use native.Mathlib.Omega.{arith}
 use borrow.Author.Tests.{ltb-true, ltb-false, eqb-true, eqb-false}
 use lib.ListN.{length}
 use lib.Dec.{eqb, ltb}
-use Rattle.gateway.specs.Table.{look, without, insert, replace}
+use Rattle.table.specs.Live.{look, without, insert, replace}
 use Rattle.gateway.specs.Basics.{is-some}
 use Rattle.gateway.proofs.Base.{split}
 

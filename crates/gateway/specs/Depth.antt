@@ -14,7 +14,7 @@ use Rattle.orderbook.specs.declared.Event.the-variants.{Accepted, Rejected, Tra
 use Rattle.gateway.specs.Basics.{option, is-some}
 use Rattle.gateway.specs.Limits.{word, most-orders, most-levels, most-changed}
 use Rattle.gateway.specs.Ledger.{same-side}
-use Rattle.gateway.specs.Table.{look, without, insert, replace}
+use Rattle.table.specs.Live.{look, without, insert, replace}
 
 -- a resting order; an iceberg shows a part of what is left
 pub record Resting : Type 0 where

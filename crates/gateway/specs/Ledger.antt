@@ -20,7 +20,8 @@ use Rattle.accounts.specs.declared.MaybeFunds as F
 use Rattle.words.specs.Words.{fit}
 use Rattle.wallet.specs.Wallet as W
 use Rattle.gateway.specs.Basics.{option, is-some}
-use Rattle.gateway.specs.Table.{look, without, update}
+use Rattle.table.specs.Live.{look, without}
+use Rattle.gateway.specs.Table.{update}
 
 -- a live order, with the fields of the checkpoint
 pub record Order : Type 0 where

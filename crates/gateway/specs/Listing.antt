@@ -8,7 +8,7 @@ use lib.Dec.{eqb, ltb, leb}
 use Rattle.orderbook.specs.declared.MaybePrice.the-variants.{Some}
 use Rattle.orderbook.specs.declared.Listed.{Listed}
 use Rattle.orderbook.specs.declared.Listed.the-variants as L
-use Rattle.gateway.specs.Table.{insert}
+use Rattle.table.specs.Live.{insert}
 use Rattle.gateway.specs.Ledger.{Order, number-of, find}
 use Rattle.gateway.specs.Depth.{Resting, Depth, resting-number}
 

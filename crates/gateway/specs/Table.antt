@@ -1,27 +1,10 @@
--- TEMPORARY: look, without, insert, replace are those of the table crate.
+-- The change of one row of a table; the rest of what the tables of the definitions do is in table/specs/Live.antt.
 use Prim.Native.Nat.{ℕ}
 use mathlib.Core.Bool.{cond}
-use mathlib.Core.Option.{Option, none, some}
 use mathlib.Core.List.{List, [], _∷_}
-use lib.Dec.{eqb, ltb}
+use lib.Dec.{eqb}
 
 module _ {A : Type 0} (key : A → ℕ) where
-  unfoldable pub without : ℕ → List A → List A
-  without k [] = []
-  without k (r ∷ l) = cond (eqb (key r) k) (without k l) (r ∷ without k l)
-
-  unfoldable pub look : ℕ → List A → Option A
-  look k [] = none
-  look k (r ∷ l) = cond (eqb (key r) k) (some r) (look k l)
-
-  unfoldable pub insert : A → List A → List A
-  insert r [] = r ∷ []
-  insert r (x ∷ l) = cond (ltb (key r) (key x)) (r ∷ x ∷ l) (x ∷ insert r l)
-
-  unfoldable pub replace : A → List A → List A
-  replace r [] = []
-  replace r (x ∷ l) = cond (eqb (key x) (key r)) r x ∷ replace r l
-
   -- l with f of each row whose key is k
   unfoldable pub update : ℕ → (A → A) → List A → List A
   update k f [] = []
