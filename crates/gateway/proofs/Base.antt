@@ -1,10 +1,6 @@
--- Cases of a Boolean, and of two numbers. Assumes nothing.
+-- Cases of a Boolean. Assumes nothing.
 use mathlib.Core.Bool.{Bool, true, false, cond}
 use mathlib.Core.Path.{_≡_, refl}
-use mathlib.Core.Logic.{_⊎_, inl, inr}
-use Prim.Native.Nat.{ℕ}
-use lib.Dec.{eqb}
-use borrow.Author.Tests.{eqb-true, eqb-false}
 
 -- a Boolean's two cases, with the equation
 pub split : (P : Bool → Type 0) (b : Bool) → (b ≡ true → P true) → (b ≡ false → P false) → P b
@@ -14,6 +10,3 @@ split P false t f = f refl
 pub if-map : {A B : Type 0} (f : A → B) (b : Bool) {x y : A} {u v : B} → f x ≡ u → f y ≡ v → f (cond b x y) ≡ cond b u v
 if-map f true p q = p
 if-map f false p q = q
-
-pub same? : (i j : ℕ) → (i ≡ j) ⊎ (i ≡ j → ⊥)
-same? i j = split (λ b. (eqb i j ≡ b) → (i ≡ j) ⊎ (i ≡ j → ⊥)) (eqb i j) (λ e q. inl (eqb-true i j q)) (λ e q. inr (eqb-false i j q)) refl

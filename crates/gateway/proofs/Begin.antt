@@ -16,6 +16,7 @@ use Rattle.accounts.specs.declared.Account.{Account}
 use Rattle.accounts.specs.declared.Funds.{Funds}
 use Rattle.accounts.specs.declared.MaybeFunds as F
 use Rattle.accounts.specs.declared.Timing.{Timing}
+use Rattle.table.specs.Live.{Each}
 use Rattle.gateway.specs.Basics.{option, each, is-some}
 use Rattle.gateway.specs.Limits.{word, owner-slots, session-slots, most-orders, most-notices, outside, malformed}
 use Rattle.gateway.specs.Ledger.{Order, Ledger, number-of, funds-of, wallet-of, order-hold, holds-fit}
@@ -31,7 +32,7 @@ use Rattle.gateway.specs.Start.{Started, not-started, started, start-unl
 use Rattle.gateway.specs.Start.{restored-wallet, restored-wallets, restored-ledger, order-tests, saved-tests, restore-tests, hold-notice-of, empty-depth, restore-saved, restore}
 use Rattle.gateway.specs.Fits.{Unsigned, FundsFit, MaybeFundsFit, AccountFits, AccountsFit, ListedFits, ListingFits, Bytes}
 use Rattle.gateway.proofs.Base.{split}
-use Rattle.gateway.proofs.Sorted.{Each, Rises, rises-from, each-insert}
+use Rattle.gateway.proofs.Sorted.{Rises, rises-from, each-insert}
 use Rattle.gateway.proofs.Bytes.{SavedWallet, SavedOrder, SavedFits, decode-fits}
 use Rattle.gateway.proofs.Invariant.{CoreOk, Rise, All, Keyed, In, Owned, OrderFits, WalletFits, WalletsFit, LedgerFits}
 use Rattle.gateway.proofs.Sessions.{SessionsOk, at, Known}

@@ -20,6 +20,7 @@ use Rattle.orderbook.specs.declared.MaybePrice.{MaybePrice}
 use Rattle.orderbook.specs.declared.MaybePrice.the-variants.{None, Some}
 use Rattle.accounts.specs.declared.Funds.{Funds}
 use Rattle.words.specs.Words.{place-of, fit-in, inside, above}
+use Rattle.table.specs.Live.{Each}
 use Rattle.gateway.specs.Limits.{word, owner-slots, most-orders}
 use Rattle.gateway.specs.Basics.{is-some}
 use Rattle.gateway.specs.Ledger.{Order, fits, number-of}
@@ -30,7 +31,7 @@ use Rattle.gateway.specs.Bytes.{wallet-row, order-row, raw, row-wallet, 
 use Rattle.gateway.proofs.Base.{split}
 use Rattle.gateway.proofs.Money.{word-back}
 use Rattle.gateway.proofs.Invariant.{OrderFits}
-use Rattle.gateway.proofs.Sorted.{Each, Rises}
+use Rattle.gateway.proofs.Sorted.{Rises}
 use Rattle.gateway.proofs.Rows.{Fit, done, field, FitRows, row-back, section-back, Of, missing, got, of-then, Wrote, chain, row-only, section-only, bytes-append, row-bytes, section-bytes, rows-length}
 
 -- ---- the three parts, as numbers

@@ -36,7 +36,7 @@ use Rattle.gateway.specs.Deliver.{reports, tick-of}
 use Rattle.gateway.specs.Depth.{add, show, take-off, apply, depth-agrees, levels-fit, levels-few, depth-few}
 use Rattle.gateway.specs.Listing.{listing-agrees}
 use Rattle.gateway.specs.Saved.{contents}
-use Rattle.table.specs.Live.{without, look, insert, replace}
+use Rattle.table.specs.Live.{Each, without, look, insert, replace}
 use Rattle.gateway.specs.Table.{update}
 use Rattle.words.specs.Words.{place-of}
 use Rattle.risk.specs.Throttle.{filled}
@@ -46,7 +46,6 @@ use Rattle.gateway.specs.Entry.{Answer, nothing, account-was, wallet-is,
 use Rattle.gateway.specs.Calls.{Gateway, Call, add-account, connect, set-paper-collar, wallet, last-seq, depth-levels, receive-from, tick, publish, end-session, shut-down, disconnect, detach, take-batch, deliver-event, replay-command, replay-event, finish, checkpoint, Outcome, refused, done, call, within, plan}
 use Rattle.gateway.specs.Start.{Started, not-started, started, set-up, restore, start-unless, restore-saved}
 use Rattle.gateway.specs.Restart.{next-of}
-use Rattle.gateway.proofs.Sorted.{Each}
 
 -- what a caller sees of a call: its code, or its answer and the messages sent
 pub data Seen : Type 0 where

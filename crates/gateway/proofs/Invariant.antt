@@ -28,13 +28,14 @@ use Rattle.wallet.specs.Wallet.{settle}
 use Rattle.gateway.specs.Ledger.{Order, Ledger, New, Item, account, command, event, order-of, owner-of, placed, number-of, find, remove, with-leaves, with-price, left}
 use Rattle.gateway.specs.Ledger.{Change, mark-by, fill, set-leaves, reprice, retire, changes, change, changed, pay, paper, funds-of, step, same-side, order-hold, held, fits, wallet-fits, wallets-fit, holds-fit, open-of}
 use Rattle.gateway.specs.Basics.{option, is-some}
-use Rattle.table.specs.Live.{without}
+use Rattle.table.specs.Live.{Each, without}
 use Rattle.gateway.specs.Table.{update}
 use Rattle.gateway.specs.Core.{Tests, Pass, Origin, Flight, Core, flight, drop-below, places, owner-below, tests, core-step}
 use Rattle.gateway.specs.Start.{funds-in}
 use Rattle.gateway.specs.Fits.{Unsigned, Signed, PriceFits, FundsFit, MaybeFundsFit, AccountFits, CommandFits, EventFits}
-use Rattle.gateway.proofs.Base.{split, same?}
-use Rattle.gateway.proofs.Sorted.{Each, Rises, rises-from}
+use Rattle.gateway.proofs.Base.{split}
+use Rattle.table.proofs.Live.{same?}
+use Rattle.gateway.proofs.Sorted.{Rises, rises-from}
 use Rattle.gateway.proofs.Forget.{step-forget, holds-forget}
 use Rattle.gateway.proofs.Money.{settle-fits, zero-fits}
 

@@ -7,9 +7,9 @@ use mathlib.Core.List.{List, [], _∷_, _++_, map, append-assoc}
 use native.Mathlib.Omega.{arith}
 use native.Mathlib.Nat.{pow-succ', mod-add-div}
 use lib.ListN.{length, length-append}
+use Rattle.table.specs.Live.{Each}
 use Rattle.gateway.specs.Fits.{Bytes}
 use Rattle.gateway.specs.Bytes.{number, row, rows, section, Read, then, read-number, read-row, read-rows, read-section}
-use Rattle.gateway.proofs.Sorted.{Each}
 
 -- the values fit their fields
 pub data Fit : List ℕ → List ℕ → Type 0 where

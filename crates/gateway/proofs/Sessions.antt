@@ -15,7 +15,8 @@ use Rattle.gateway.specs.Limits.{session-slots}
 use Rattle.gateway.specs.Basics.{option, is-some}
 use Rattle.gateway.specs.Rest.{Session, Mail, send, close, Rest, session-at, account-of, logged-in, session-from, session-of, update-session, set-sent, stamp, stamped, with-sessions}
 use Rattle.gateway.specs.Calls.{close-where}
-use Rattle.gateway.proofs.Base.{split, same?}
+use Rattle.gateway.proofs.Base.{split}
+use Rattle.table.proofs.Live.{same?}
 
 -- the account of the session in slot i
 abbrev pub at : List (Option Session) → ℕ → Option ℕ

@@ -8,14 +8,9 @@ use native.Mathlib.Omega.{arith}
 use borrow.Author.Tests.{ltb-true, ltb-false, eqb-true, eqb-false}
 use lib.ListN.{length}
 use lib.Dec.{eqb, ltb}
-use Rattle.table.specs.Live.{look, without, insert, replace}
+use Rattle.table.specs.Live.{Each, look, without, insert, replace}
 use Rattle.gateway.specs.Basics.{is-some}
 use Rattle.gateway.proofs.Base.{split}
-
-module _ {A : Type 0} where
-  abbrev pub Each : (A → Type 0) → List A → Type 0
-  Each P [] = Unit {0}
-  Each P (x ∷ l) = P x × Each P l
 
 module _ {A : Type 0} (key : A → ℕ) where
   -- keys rise from n on
