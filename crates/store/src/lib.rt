@@ -1,0 +1,83 @@
+// The gateway's state in one lent slice of bytes: blocks of rows of 64-bit cells. docs/STATE.md has the layout.
+ghost use mathlib.Core.Path.{_≡_};
+ghost use Prim.Native.Nat.{_<_};
+ghost use Rattle.store.specs.Layout.{blocks, cells, start, width, spot, cell, store, Cell, Holds};
+
+pub const HEADER: usize = 0;
+
+pub const ACCOUNTS: usize = 1;
+
+pub const SESSIONS: usize = 2;
+
+pub const FLIGHTS: usize = 3;
+
+pub const BATCH: usize = 4;
+
+pub const ORDERS: usize = 5;
+
+pub const BIDS: usize = 6;
+
+pub const ASKS: usize = 7;
+
+pub const TRADES: usize = 8;
+
+pub const NOTICES: usize = 9;
+
+pub const CHANGED: usize = 10;
+
+pub const HINTS: usize = 11;
+
+// The bytes of a state.
+pub const SIZE: usize = 442_624;
+
+fn start_of(b: usize) -> usize
+    requires { ⌜ b < blocks ⌝ }
+    ensures { λ r. ⌜ r ≡ start b ⌝ }
+{
+    let starts = [
+        0,
+        32,
+        4128,
+        4640,
+        5664,
+        8736,
+        41504,
+        43552,
+        45600,
+        47136,
+        49184,
+        51232,
+        55328,
+    ];
+    starts[b]
+}
+
+fn width_of(b: usize) -> usize
+    requires { ⌜ b < blocks ⌝ }
+    ensures { λ r. ⌜ r ≡ width b ⌝ }
+{
+    let widths = [32, 16, 8, 4, 12, 16, 4, 4, 6, 1, 2, 1];
+    widths[b]
+}
+
+// Where the cell k of the row i of the block b stands. With a constant b it is a constant and a multiple of i.
+fn spot_of(b: usize, i: usize, k: usize) -> usize
+    requires { ⌜ Cell b i k ⌝ }
+    ensures { λ r. ⌜ (r ≡ spot b i k) × (r < cells) ⌝ }
+{
+    start_of(b) + (width_of(b) * i + k)
+}
+
+pub fn get(m: &[u8], b: usize, i: usize, k: usize) -> u64
+    requires { ⌜ Holds (now m) × Cell b i k ⌝ }
+    ensures { λ r. ⌜ r ≡ cell (now (m .entry)) b i k ⌝ }
+{
+    le::get_u64(m, 8 * spot_of(b, i, k))
+}
+
+pub fn set(m: &mut [u8], b: usize, i: usize, k: usize, v: u64)
+    requires { ⌜ Holds (now m) × Cell b i k ⌝ }
+    ensures { λ r. ⌜ now (m .exit) ≡ store (now (m .entry)) b i k v ⌝ }
+{
+    le::put_u64(m, 8 * spot_of(b, i, k), v);
+}
