@@ -10,7 +10,7 @@ use native.Mathlib.Omega.{arith}
 use lib.ListN.{length}
 use Rattle.le.specs.Le.{le, put, Bytes}
 use Rattle.le.proofs.Laws.{outside-refl, outside-trans, outside-wider, outside-put, same-trans, same-outside, same-join, same-part, same-put}
-use Rattle.table.specs.Table.{Room, Moved, Opened, Closed}
+use Rattle.table.specs.Table.{Moved, Opened, Closed}
 
 -- ---- products, which omega takes for unknowns
 
@@ -97,15 +97,17 @@ moved-up {xs} {ys} o p n k h l m f b s =
 
 -- ---- rows
 
--- what moves stays in the slice
-pub open-in : {base s n i : ℕ} {xs : List ℕ} → Room base s (n + 1) xs → i ≤ n → base + s * i + s + s * (n - i) ≤ length xs
-open-in {s = s} {n = n} r h = omega (arith, r .fits, minus s h, next s n)
+-- the bytes of the rows from i up to n
+pub bytes : (base s : ℕ) {i n : ℕ} → i ≤ n → base + s * n - (base + s * i) ≡ s * (n - i)
+bytes base s h = omega (arith, minus s h)
 
-pub close-in : {base s n i : ℕ} {xs : List ℕ} → Room base s n xs → i < n → base + s * i + s + s * (n - 1 - i) ≤ length xs
-close-in {s = s} r h = omega (arith, r .fits, rest s h)
+-- and of those behind i
+pub behind : (base s : ℕ) {i n : ℕ} → i < n → base + s * n - (base + s * i + s) ≡ s * (n - 1 - i)
+behind base s h = omega (arith, rest s h)
 
-pub opened : {xs ys : List ℕ} (base s n i : ℕ) → i ≤ n → Moved xs ys (base + s * i) (base + s * i + s) (s * (n - i)) → Opened base s n i xs ys
-opened {xs} {ys} base s n i h m =
+pub opened : {xs ys : List ℕ} (base s n i : ℕ) → i ≤ n → Moved xs ys (base + s * i) (base + s * i + s) (base + s * n - (base + s * i)) → Opened base s n i xs ys
+opened {xs} {ys} base s n i h d =
+    let m : Moved xs ys (base + s * i) (base + s * i + s) (s * (n - i)) = rw (bytes base s h) at d in
     record {
       inside = h;
       before = λ j l. same-outside s (base + s * j) (m .frame) (inl (omega (arith, step s l)));
@@ -118,8 +120,9 @@ opened {xs} {ys} base s n i h m =
       frame = outside-wider _ _ (omega (arith, next s i)) (omega (arith, minus s h, next s n)) (m .frame);
     }
 
-pub closed : {xs ys : List ℕ} (base s n i : ℕ) → i < n → Moved xs ys (base + s * i + s) (base + s * i) (s * (n - 1 - i)) → Closed base s n i xs ys
-closed {xs} {ys} base s n i h m =
+pub closed : {xs ys : List ℕ} (base s n i : ℕ) → i < n → Moved xs ys (base + s * i + s) (base + s * i) (base + s * n - (base + s * i + s)) → Closed base s n i xs ys
+closed {xs} {ys} base s n i h d =
+    let m : Moved xs ys (base + s * i + s) (base + s * i) (s * (n - 1 - i)) = rw (behind base s h) at d in
     record {
       inside = h;
       before = λ j l. same-outside s (base + s * j) (m .frame) (inl (omega (arith, step s l)));

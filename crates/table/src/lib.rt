@@ -116,7 +116,9 @@ pub fn open_at(m: &mut [u8], base: usize, stride: usize, n: usize, i: usize)
     ensures { λ r. ⌜ Opened base stride n i (now (m .entry)) (now (m .exit)) ⌝ }
 {
     let from = base + stride * i;
-    move_up(m, from, from + stride, stride * (n - i));
+    let to = from + stride;
+    let end = base + stride * n;
+    move_up(m, from, to, end - from);
 }
 
 // The row i goes: those behind it move one place down.
@@ -125,7 +127,9 @@ pub fn close_at(m: &mut [u8], base: usize, stride: usize, n: usize, i: usize)
     ensures { λ r. ⌜ Closed base stride n i (now (m .entry)) (now (m .exit)) ⌝ }
 {
     let to = base + stride * i;
-    move_down(m, to + stride, to, stride * (n - 1 - i));
+    let from = to + stride;
+    let end = base + stride * n;
+    move_down(m, from, to, end - from);
 }
 
 pub fn strike(m: &mut [u8], base: usize, stride: usize, mark: usize, i: usize)
