@@ -75,11 +75,11 @@ one-side : {b i k c j l : ℕ} → Cell b i k → Cell c j l → Other b i k c j
 one-side {b} {i} {k} {c} {j} {l} p q ne =
     ⊎-elim
     (λ (e : b ≡ c).
-      ⊎-elim
-      (λ (f : i ≡ j).
-        ⊎-elim (λ (g : k ≡ l). absurd (ne e f g))
-        (λ g. ⊎-elim (λ h. inl (rw (e, f) (same-row c j k l h))) (λ h. inr (rw (e, f) (same-row c j l k h))) (apart k l g)) (same? k l))
-      (λ f. ⊎-elim (λ h. inl (rw (← e) (same-block l p h))) (λ h. inr (rw e (same-block k q h))) (apart i j f)) (same? i j))
+    ⊎-elim
+    (λ (f : i ≡ j).
+    ⊎-elim (λ (g : k ≡ l). absurd (ne e f g))
+    (λ g. ⊎-elim (λ h. inl (rw (e, f) (same-row c j k l h))) (λ h. inr (rw (e, f) (same-row c j l k h))) (apart k l g)) (same? k l))
+    (λ f. ⊎-elim (λ h. inl (rw (← e) (same-block l p h))) (λ h. inr (rw e (same-block k q h))) (apart i j f)) (same? i j))
     (λ e. ⊎-elim (λ h. inl (two-blocks p q h)) (λ h. inr (two-blocks q p h)) (apart b c e))
     (same? b c)
 
