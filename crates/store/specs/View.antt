@@ -1,10 +1,10 @@
 -- The gateway of the definitions that the cells hold. It forgets the caches: holds, held totals, open counts, levels and hints.
 use Prim.Native.Nat.{ℕ, zero, suc, _+_, _-_, _*_, _%_}
-use mathlib.Core.Bool.{Bool, true, false, cond, not}
+use mathlib.Core.Path.{_≡_}
+use mathlib.Core.Bool.{Bool, true, false, cond, not, _&&_}
 use mathlib.Core.Option.{Option, none, some}
 use mathlib.Core.List.{List, [], _∷_, _++_, map}
 use lib.IntN.{ℤ}
-use lib.ListN.{getD}
 use lib.Dec.{eqb}
 use Rattle.orderbook.specs.declared.Side.{Side}
 use Rattle.orderbook.specs.declared.Side.the-variants.{Buy, Sell}
@@ -28,15 +28,23 @@ use Rattle.gateway.specs.Core.{Flight, Core}
 use Rattle.gateway.specs.Depth.{Resting, Depth, Level, Key}
 use Rattle.gateway.specs.Rest.{Session, Rest}
 use Rattle.gateway.specs.Calls.{Gateway}
-use Rattle.store.specs.Layout.{width, cell}
+use Rattle.store.specs.Layout.{Cell}
 use Rattle.store.specs.Cells as C
 
--- a row's numbers, cell by cell, and the rows of every block
+-- a row's numbers by cell, and all cells by block, row and cell
 abbrev pub Row : Type 0
-Row = List ℕ
+Row = ℕ → ℕ
 
 abbrev pub Store : Type 0
 Store = ℕ → ℕ → Row
+
+-- s with v in one cell
+abbrev pub write : ℕ → ℕ → ℕ → ℕ → Store → Store
+write b i k v s d j l = cond (eqb d b && (eqb j i && eqb l k)) v (s d j l)
+
+-- the same numbers in every cell of the layout
+abbrev pub Same : Store → Store → Type 0
+Same s t = (b i k : ℕ) → Cell b i k → s b i k ≡ t b i k
 
 -- f 0, .., f (n - 1)
 unfoldable pub listed : {A : Type 0} → (ℕ → A) → ℕ → List A
@@ -66,39 +74,36 @@ tif n = cond (eqb n 0) Gtc (cond (eqb n 1) Ioc (cond (eqb n 2) Fok PostOnly))
 
 -- ---- rows
 
-abbrev pub at : Row → ℕ → ℕ
-at r k = getD r k 0
-
 abbrev pub account : ℕ → Row → Option Account
 account i r =
-    maybe (at r C.account-exists)
+    maybe (r C.account-exists)
     (record {
       id = i;
-      token = at r C.account-token;
-      «max_open_orders» = at r C.account-max-open;
-      «messages_per_second» = at r C.account-rate;
+      token = r C.account-token;
+      «max_open_orders» = r C.account-max-open;
+      «messages_per_second» = r C.account-rate;
       funds =
-          cond (flag (at r C.account-funded))
-          (F.the-variants.Some (record { cash = int (at r C.account-funds-cash); position = int (at r C.account-funds-position) }))
+          cond (flag (r C.account-funded))
+          (F.the-variants.Some (record { cash = int (r C.account-funds-cash); position = int (r C.account-funds-position) }))
           F.the-variants.None;
     })
 
 abbrev pub wallet : Row → Option Funds
 wallet r =
-    maybe (at r C.account-funded) (record { cash = int (at r C.account-cash); position = int (at r C.account-position) })
+    maybe (r C.account-funded) (record { cash = int (r C.account-cash); position = int (r C.account-position) })
 
 abbrev pub bucket : Row → Bucket
-bucket r = record { tokens = at r C.account-tokens; refilled = at r C.account-refilled }
+bucket r = record { tokens = r C.account-tokens; refilled = r C.account-refilled }
 
 abbrev pub session : Row → Option Session
 session r =
-    maybe (at r C.session-connected)
+    maybe (r C.session-connected)
     (record {
-      account = optional (at r C.session-account);
-      last-received = at r C.session-last-received;
-      last-sent = at r C.session-last-sent;
-      closing = flag (at r C.session-closing);
-      subscribed = flag (at r C.session-subscribed);
+      account = optional (r C.session-account);
+      last-received = r C.session-last-received;
+      last-sent = r C.session-last-sent;
+      closing = flag (r C.session-closing);
+      subscribed = flag (r C.session-subscribed);
     })
 
 -- the command numbered n
@@ -106,81 +111,81 @@ abbrev pub flight : ℕ → Row → Flight
 flight n r =
     record {
       number = n;
-      session = optional (at r C.flight-sender);
-      owner = at r C.flight-owner;
-      places = flag (at r C.flight-places);
+      session = optional (r C.flight-sender);
+      owner = r C.flight-owner;
+      places = flag (r C.flight-places);
     }
 
 -- kinds as in the Rust, from 0; a phase change is never in the batch
 abbrev pub command : Row → Command
 command r =
-    let id = at r C.command-id in
-    let owner = at r C.command-owner in
-    let price = int (at r C.command-price) in
-    let qty = at r C.command-qty in
-    let display = cond (flag (at r C.command-displayed)) (Q.the-variants.Some (at r C.command-display)) Q.the-variants.None in
-    cond (eqb (at r C.command-kind) 0) (Limit id owner (side (at r C.command-side)) price qty (tif (at r C.command-tif)) display)
-    (cond (eqb (at r C.command-kind) 1) (Market id owner (side (at r C.command-side)) qty)
-    (cond (eqb (at r C.command-kind) 2) (Cancel id owner)
-    (cond (eqb (at r C.command-kind) 3) (Modify id owner price qty)
-    (cond (eqb (at r C.command-kind) 4)
-    (Stop id owner (side (at r C.command-side)) (int (at r C.command-trigger)) (maybe-price (at r C.command-limited) (at r C.command-limit)) qty)
+    let id = r C.command-id in
+    let owner = r C.command-owner in
+    let price = int (r C.command-price) in
+    let qty = r C.command-qty in
+    let display = cond (flag (r C.command-displayed)) (Q.the-variants.Some (r C.command-display)) Q.the-variants.None in
+    cond (eqb (r C.command-kind) 0) (Limit id owner (side (r C.command-side)) price qty (tif (r C.command-tif)) display)
+    (cond (eqb (r C.command-kind) 1) (Market id owner (side (r C.command-side)) qty)
+    (cond (eqb (r C.command-kind) 2) (Cancel id owner)
+    (cond (eqb (r C.command-kind) 3) (Modify id owner price qty)
+    (cond (eqb (r C.command-kind) 4)
+    (Stop id owner (side (r C.command-side)) (int (r C.command-trigger)) (maybe-price (r C.command-limited) (r C.command-limit)) qty)
     (CancelAll owner)))))
 
 -- the two halves of an order's row
 abbrev pub order : Row → Order
 order r =
     record {
-      number = at r C.order-number;
-      account = at r C.order-account;
-      client-ref = at r C.order-client-ref;
-      side = side (at r C.order-side);
-      price = maybe-price (at r C.order-priced) (at r C.order-price);
-      leaves = at r C.order-leaves;
+      number = r C.order-number;
+      account = r C.order-account;
+      client-ref = r C.order-client-ref;
+      side = side (r C.order-side);
+      price = maybe-price (r C.order-priced) (r C.order-price);
+      leaves = r C.order-leaves;
     }
 
 abbrev pub resting : Row → Resting
 resting r =
     record {
-      number = at r C.order-number;
-      side = side (at r C.order-rest-side);
-      price = int (at r C.order-rest-price);
-      visible = at r C.order-visible;
-      leaves = at r C.order-rest-leaves;
+      number = r C.order-number;
+      side = side (r C.order-rest-side);
+      price = int (r C.order-rest-price);
+      visible = r C.order-visible;
+      leaves = r C.order-rest-leaves;
     }
 
 -- a level's price is raised by 2^63
 abbrev pub level : Row → Level
-level r = record { price = at r C.level-price ⊖ half; qty = at r C.level-qty; orders = at r C.level-orders }
+level r = record { price = r C.level-price ⊖ half; qty = r C.level-qty; orders = r C.level-orders }
 
 abbrev pub trade : Row → TradeTick
 trade r =
     record {
-      seq = at r C.trade-seq;
-      «trade_id» = at r C.trade-trade-id;
-      side = side (at r C.trade-side);
-      price = int (at r C.trade-price);
-      qty = at r C.trade-qty;
+      seq = r C.trade-seq;
+      «trade_id» = r C.trade-trade-id;
+      side = side (r C.trade-side);
+      price = int (r C.trade-price);
+      qty = r C.trade-qty;
     }
 
 abbrev pub changed-key : Row → Key
-changed-key r = (side (at r C.changed-side), int (at r C.changed-price))
+changed-key r = (side (r C.changed-side), int (r C.changed-price))
 
 -- ---- the gateway
 module _ (s : Store) where
   abbrev pub word : ℕ → ℕ
-  word k = at (s C.header 0) k
+  word k = s C.header 0 k
 
-  -- the rows of orders whose cell k is not 0, ascending by number
-  abbrev pub marked : ℕ → List Row
-  marked k = live (λ r. at r k) (s C.orders) (word C.order-rows)
+  -- the rows of orders whose cell k is not 0, ascending by number, as f reads them
+  abbrev pub marked : {A : Type 0} → ℕ → (Row → A) → List A
+  marked {A} k f = map (λ (p : ℕ × A). p .1) (live (λ (p : ℕ × A). p .0) (λ i. (s C.orders i k, f (s C.orders i))) (word C.order-rows))
 
   abbrev pub ledger : Ledger
   ledger =
       record {
         last = word C.last;
         wallets = listed (λ i. wallet (s C.accounts i)) owner-slots;
-        orders = map order (marked C.order-live);
+        orders = marked C.order-live order;
         mark = maybe-price (word C.marked) (word C.mark);
       }
 
@@ -193,7 +198,7 @@ module _ (s : Store) where
 
   abbrev pub depth : Depth
   depth =
-      record { resting = map resting (marked C.order-resting); changed = listed (λ i. changed-key (s C.changed i)) (word C.changed-rows) }
+      record { resting = marked C.order-resting resting; changed = listed (λ i. changed-key (s C.changed i)) (word C.changed-rows) }
 
   abbrev pub gateway : Gateway
   gateway =
@@ -210,11 +215,7 @@ module _ (s : Store) where
               published = word C.published;
               depth = depth;
               trades = listed (λ i. trade (s C.trades i)) (word C.trade-rows);
-              notices = listed (λ i. at (s C.notices i) C.notice-account) (word C.notice-rows);
+              notices = listed (λ i. s C.notices i C.notice-account) (word C.notice-rows);
               collar = optional (word C.collar);
             };
       }
-
--- the rows that stand in bytes
-unfoldable pub row : List ℕ → Store
-row xs b i = listed (cell xs b i) (width b)

@@ -1,0 +1,44 @@
+-- A store in the bytes writes one cell, and none other. Assumes nothing.
+use mathlib.Core.Path.{_≡_, refl, sym, ap, _∙_, subst}
+use mathlib.Core.Logic.{⊎-elim}
+use mathlib.Core.Bool.{Bool, true, false, cond, _&&_}
+use mathlib.Core.List.{List}
+use Prim.Native.Nat.{ℕ, _^_, _<_}
+use borrow.Author.Tests.{eq-eqb, ne-eqb}
+use lib.Dec.{eqb}
+use Rattle.table.proofs.Live.{same?}
+use Rattle.store.specs.Layout.{cell, store, Cell, Holds}
+use Rattle.store.specs.View.{Store, write, Same}
+use Rattle.store.proofs.Cells.{cell-same, cell-other}
+
+-- what `write` leaves in its own cell, and in another
+here : (b i k v : ℕ) (s : Store) → write b i k v s b i k ≡ v
+here b i k v s = simp (eq-eqb b b refl, eq-eqb i i refl, eq-eqb k k refl)
+
+there : (b i k v : ℕ) (s : Store) (d j l : ℕ) → (eqb d b && (eqb j i && eqb l k)) ≡ false → write b i k v s d j l ≡ s d j l
+there b i k v s d j l h = rw h refl
+
+pub stored : (xs : List ℕ) {b i k : ℕ} (v : ℕ) → Cell b i k → Holds xs → v < 2 ^ 64 → Same (cell (store xs b i k v)) (write b i k v (cell xs))
+stored xs {b} {i} {k} v c h f d j l q =
+    ⊎-elim
+    (λ (e : d ≡ b).
+    ⊎-elim
+    (λ (e′ : j ≡ i).
+    ⊎-elim
+    (λ (e″ : l ≡ k). rw (e, e′, e″) (cell-same xs v c h f ∙ sym (here b i k v (cell xs))))
+    (λ ne. cell-other xs v c q (λ x y z. ne (sym z)) ∙ sym (there b i k v (cell xs) d j l (rw (e, e′, eq-eqb b b refl, eq-eqb i i refl, ne-eqb l k ne) refl)))
+    (same? l k))
+    (λ ne. cell-other xs v c q (λ x y z. ne (sym y)) ∙ sym (there b i k v (cell xs) d j l (rw (e, eq-eqb b b refl, ne-eqb j i ne) refl)))
+    (same? j i))
+    (λ ne. cell-other xs v c q (λ x y z. ne (sym x)) ∙ sym (there b i k v (cell xs) d j l (rw (ne-eqb d b ne) refl)))
+    (same? d b)
+
+-- one write after another, and the same written to the same
+pub same-refl : (s : Store) → Same s s
+same-refl s b i k c = refl
+
+pub same-trans : (s t u : Store) → Same s t → Same t u → Same s u
+same-trans s t u p q b i k c = p b i k c ∙ q b i k c
+
+pub same-write : (s t : Store) (b i k v : ℕ) → Same s t → Same (write b i k v s) (write b i k v t)
+same-write s t b i k v p d j l c = ap (λ n. cond (eqb d b && (eqb j i && eqb l k)) v n) (p d j l c)
