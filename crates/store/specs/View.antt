@@ -1,5 +1,5 @@
 -- The gateway of the definitions that the cells hold. It forgets the caches: holds, held totals, open counts, levels and hints.
-use Prim.Native.Nat.{ℕ, zero, suc, _+_, _-_, _*_, _%_}
+use Prim.Native.Nat.{ℕ, zero, suc, _+_, _-_, _%_, _≤_}
 use mathlib.Core.Path.{_≡_}
 use mathlib.Core.Bool.{Bool, true, false, cond, not, _&&_}
 use mathlib.Core.Option.{Option, none, some}
@@ -22,7 +22,7 @@ use Rattle.accounts.specs.declared.Timing.{Timing}
 use Rattle.risk.specs.declared.Bucket.{Bucket}
 use Rattle.words.specs.Words.{int, half, _⊖_}
 use Rattle.table.specs.Live.{live}
-use Rattle.gateway.specs.Limits.{owner-slots, session-slots, most-in-flight}
+use Rattle.gateway.specs.Limits.{owner-slots, session-slots, most-in-flight, most-in-batch, most-levels, most-trades, most-notices, most-changed}
 use Rattle.gateway.specs.Ledger.{Order, Ledger}
 use Rattle.gateway.specs.Core.{Flight, Core}
 use Rattle.gateway.specs.Depth.{Resting, Depth, Level, Key}
@@ -219,3 +219,19 @@ module _ (s : Store) where
               collar = optional (word C.collar);
             };
       }
+
+-- room for twice the orders that may be in the table
+abbrev pub order-room : ℕ
+order-room = 2048
+
+-- the rows in use stand in their blocks
+pub record Bounds (s : Store) : Type 0 where
+  pub accounts-fit : word s C.owner-limit ≤ owner-slots
+  pub flights-fit : word s C.flying ≤ most-in-flight
+  pub batch-fits : word s C.waiting ≤ most-in-batch
+  pub orders-fit : word s C.order-rows ≤ order-room
+  pub bids-fit : word s C.bid-levels ≤ most-levels
+  pub asks-fit : word s C.ask-levels ≤ most-levels
+  pub trades-fit : word s C.trade-rows ≤ most-trades
+  pub notices-fit : word s C.notice-rows ≤ most-notices
+  pub changed-fit : word s C.changed-rows ≤ most-changed
