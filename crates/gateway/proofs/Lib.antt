@@ -13,3 +13,4 @@ pub mod Calls
 pub mod Restore
 pub mod Begin
 pub mod Restart
+pub mod Rejected
