@@ -15,3 +15,4 @@ pub mod Begin
 pub mod Restart
 pub mod Rejected
 pub mod Roomy
+pub mod Settled
