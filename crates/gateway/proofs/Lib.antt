@@ -16,3 +16,4 @@ pub mod Restart
 pub mod Rejected
 pub mod Roomy
 pub mod Settled
+pub mod Counted

@@ -129,17 +129,17 @@ surely p q = absurd (true≢false (sym p ∙ q))
 
 module _ (Q : Plan → Type 0) {A : Type 0} (no-way : A → Plan) where
   -- where a test fails Q has its label's plan, and where all pass P
-  abbrev Leads : Type 0 → Tests A → Type 0
+  abbrev pub Leads : Type 0 → Tests A → Type 0
   Leads P [] = P
   Leads P (t ∷ ts) = (t .1 ≡ false → Q (no-way (t .0))) × (t .1 ≡ true → Leads P ts)
 
-  unless-leads : (p : Plan) (ts : Tests A) → Leads (Q p) ts → Q (unless ts no-way p)
+  pub unless-leads : (p : Plan) (ts : Tests A) → Leads (Q p) ts → Q (unless ts no-way p)
   unfolding unless
   unless-leads p [] h = h
   unless-leads p (t ∷ ts) h =
       split (λ b. (t .1 ≡ b) → Q (cond b (unless ts no-way p) (no-way (t .0)))) (t .1) (λ _ e. unless-leads p ts (h .1 e)) (λ _ e. h .0 e) refl
 
-  leads-append : (P : Type 0) (xs ys : Tests A) → Leads (Leads P ys) xs → Leads P (xs ++ ys)
+  pub leads-append : (P : Type 0) (xs ys : Tests A) → Leads (Leads P ys) xs → Leads P (xs ++ ys)
   leads-append P [] ys h = h
   leads-append P (x ∷ xs) ys h = (h .0, λ e. leads-append P xs ys (h .1 e))
 
@@ -193,7 +193,7 @@ module _ (s a : ℕ) (c : Core) where
       split (λ b. leb (length (cond b [] (a ∷ []))) most-notices ≡ true) (is-zero (hold (o .side) (price-of (o .kind)) (o .qty))) (λ e. refl) (λ e. refl)
 
   -- the last three tests of a new order
-  abbrev last-tests : NewOrder → Command → Rest → Tests RejectCode
+  abbrev pub last-tests : NewOrder → Command → Rest → Tests RejectCode
   last-tests o k r =
       (Unavailable, ltb (length (c .ledger .orders)) most-orders)
       ∷ (Unavailable, leb (length (r .notices ++ new-notice a o (wallet-at a c))) most-notices)
