@@ -1,10 +1,10 @@
--- Counts are counted. In plain words: over the levels of a side, the orders add up to the resting orders of that side and the quantities to what
--- these show; every level is strictly better than all that follow it, so no price comes twice; the number in a book snapshot is the number of level
--- messages that follow it; and `TooManyOrders` answers a new order exactly where the account's live orders are at least its limit. So invented open
--- counts or level counts are not this gateway's. Assumes nothing.
-use Prim.Native.Nat.{ℕ, zero, suc, _+_, _<_, _≤_}
-use mathlib.Core.Bool.{Bool, true, false, cond, not, _&&_, _||_, and-eq-true-iff, true≢false}
-use mathlib.Core.Path.{_≡_, refl, ap, ap₂, sym, _∙_, subst}
+-- Counts are counted. In plain words: over the levels of a side, at any prices picked, the orders add up to the orders of that side that rest there
+-- and the quantities to what these show; every level is strictly better than all that follow it, so no price comes twice; the number in a book
+-- snapshot is the number of level messages that follow it; and `TooManyOrders` answers a new order exactly where the account's live orders are at
+-- least its limit. So invented open counts or level counts are not this gateway's. Assumes nothing.
+use Prim.Native.Nat.{ℕ, suc, _+_, _<_, _≤_}
+use mathlib.Core.Bool.{Bool, true, false, cond, _&&_, and-eq-true-iff, true≢false}
+use mathlib.Core.Path.{_≡_, refl, ap, ap₂, sym, _∙_}
 use mathlib.Core.Option.{Option, none, some}
 use mathlib.Core.List.{List, [], _∷_, _++_, map}
 use native.Mathlib.Omega.{arith}
@@ -12,19 +12,18 @@ use borrow.Author.Tests.{ltb-true, ltb-false, lt-ltb, le-ltb, leb-true, le-leb}
 use lib.IntN.{ℤ, pos, negsuc}
 use lib.Signed.{leZ, ltZ}
 use lib.ListN.{length, length-append, length-map}
-use lib.Dec.{eqb, ltb, leb}
+use lib.Dec.{ltb, leb}
 use Rattle.orderbook.specs.declared.Side.{Side}
 use Rattle.orderbook.specs.declared.Side.the-variants.{Buy, Sell}
 use Rattle.protocol.specs.declared.NewOrder.{NewOrder}
 use Rattle.protocol.specs.declared.OrderKind.{OrderKind}
 use Rattle.protocol.specs.declared.OrderKind.the-variants as Kind
 use Rattle.protocol.specs.declared.Outbound.the-variants as Out
-use Rattle.protocol.specs.declared.RejectCode.{RejectCode}
 use Rattle.protocol.specs.declared.RejectCode.the-variants.{TooManyOrders, Unavailable}
 use Rattle.accounts.specs.declared.Funds.{Funds}
 use Rattle.gateway.specs.Basics.{option}
 use Rattle.gateway.specs.Ledger.{same-side, open-of}
-use Rattle.gateway.specs.Core.{Tests, Core, account-at}
+use Rattle.gateway.specs.Core.{Core, account-at}
 use Rattle.gateway.specs.Depth.{Resting, Level, same-price, better, joined, levels}
 use Rattle.gateway.specs.Rest.{Mail, send, Rest}
 use Rattle.gateway.specs.Entry.{Plan, unless, wallet-at, reject, next, can-number, command-of, paper-tests, most-open, new-tests, enter-new, level-to, snapshot}
@@ -100,27 +99,36 @@ abbrev pub sum : Side → (Resting → ℕ) → List Resting → ℕ
 sum s g [] = 0
 sum s g (o ∷ os) = cond (same-side s (o .side)) (g o + sum s g os) (sum s g os)
 
+-- f counts k for the order that joins
 total-joined : (f : Level → ℕ) (s : Side) (p : ℤ) (v k : ℕ) → f (record { price = p; qty = v; orders = 1 }) ≡ k →
-    ((l : Level) → f (record { price = p; qty = l .qty + v; orders = suc (l .orders) }) ≡ f l + k) → (ls : List Level) → total f (joined s p v ls) ≡ k + total f ls
+    ((l : Level) → p ≡ l .price → f (record { price = p; qty = l .qty + v; orders = suc (l .orders) }) ≡ f l + k) → (ls : List Level) →
+    total f (joined s p v ls) ≡ k + total f ls
 total-joined f s p v k a b [] = ap (λ n. n + 0) a
 total-joined f s p v k a b (l ∷ ls) =
     let u = total-joined f s p v k a b ls in
-    joins s p v (λ ms. total f ms ≡ k + (f l + total f ls)) l ls (λ _. let q = b l in omega arith) (λ _. omega arith) (λ _. omega arith)
+    joins s p v (λ ms. total f ms ≡ k + (f l + total f ls)) l ls (λ e. let q = b l e in omega arith) (λ _. omega arith) (λ _. omega arith)
 
 module _ (f : Level → ℕ) (g : Resting → ℕ)
     (one : (o : Resting) → f (record { price = o .price; qty = o .visible; orders = 1 }) ≡ g o)
-    (more : (o : Resting) (l : Level) → f (record { price = o .price; qty = l .qty + o .visible; orders = suc (l .orders) }) ≡ f l + g o) where
+    (more : (o : Resting) (l : Level) → o .price ≡ l .price → f (record { price = o .price; qty = l .qty + o .visible; orders = suc (l .orders) }) ≡ f l + g o) where
   total-levels : (s : Side) (os : List Resting) → total f (levels s os) ≡ sum s g os
   total-levels s [] = refl
   total-levels s (o ∷ os) =
       let u = total-levels s os in
       if-map (total f) (same-side s (o .side)) (total-joined f s (o .price) (o .visible) (g o) (one o) (more o) (levels s os) ∙ ap (λ n. g o + n) u) u
 
-pub orders-counted : (s : Side) (os : List Resting) → total (λ l. l .orders) (levels s os) ≡ sum s (λ o. 1) os
-orders-counted = total-levels _ _ (λ o. refl) (λ o l. omega arith)
+-- at the prices that `at` picks: all of them, or one
+module _ (at : ℤ → Bool) where
+  pub orders-counted : (s : Side) (os : List Resting) → total (λ l. cond (at (l .price)) (l .orders) 0) (levels s os) ≡ sum s (λ o. cond (at (o .price)) 1 0) os
+  orders-counted =
+      total-levels (λ l. cond (at (l .price)) (l .orders) 0) (λ o. cond (at (o .price)) 1 0) (λ o. refl)
+      (λ o l e. rw e (split (λ b. cond b (suc (l .orders)) 0 ≡ cond b (l .orders) 0 + cond b 1 0) (at (l .price)) (λ _. omega arith) (λ _. refl)))
 
-pub quantities-counted : (s : Side) (os : List Resting) → total (λ l. l .qty) (levels s os) ≡ sum s (λ o. o .visible) os
-quantities-counted = total-levels _ _ (λ o. refl) (λ o l. refl)
+  pub quantities-counted : (s : Side) (os : List Resting) →
+      total (λ l. cond (at (l .price)) (l .qty) 0) (levels s os) ≡ sum s (λ o. cond (at (o .price)) (o .visible) 0) os
+  quantities-counted =
+      total-levels (λ l. cond (at (l .price)) (l .qty) 0) (λ o. cond (at (o .price)) (o .visible) 0) (λ o. refl)
+      (λ o l e. rw e (split (λ b. cond b (l .qty + o .visible) 0 ≡ cond b (l .qty) 0 + cond b (o .visible) 0) (at (l .price)) (λ _. refl) (λ _. refl)))
 
 -- ---- best first, no price twice
 

@@ -2,8 +2,8 @@
 -- the ledger, which sees no gateway, where the event names the command's own number. Whatever list of calls a gateway has been through, from set-up or
 -- restore, an accepted refusal changes its ledger the same way by either rule: no live order bears the number of a command in flight that places
 -- nothing (`Fresh`). So a gateway that ends an order of somebody else on a refused cancel is not this one. Assumes nothing.
-use Prim.Native.Nat.{ℕ, zero, suc, _+_, _<_, _≤_}
-use mathlib.Core.Bool.{Bool, true, false, cond, not, _&&_, _||_, and-eq-true-iff, true≢false}
+use Prim.Native.Nat.{ℕ, _+_, _<_}
+use mathlib.Core.Bool.{Bool, true, false, cond, not, _||_, and-eq-true-iff, true≢false}
 use mathlib.Core.Path.{_≡_, refl, ap, sym, _∙_, subst}
 use mathlib.Core.Option.{Option, none, some}
 use mathlib.Core.List.{List, [], _∷_, _++_}

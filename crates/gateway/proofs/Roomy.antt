@@ -3,18 +3,17 @@
 -- and no received message is answered by the reject `Unavailable`. And where such a gateway receives a new order, cancel, modify or mass cancel of
 -- a session logged in for an account without a wallet that has a token and an open limit above 0, it numbers the command and sends nothing, so no
 -- reject either. So a gateway that refuses all, or sends the same reject to everyone, is not this one. Assumes nothing.
-use Prim.Native.Nat.{ℕ, zero, suc, _+_, _<_, _≤_}
+use Prim.Native.Nat.{ℕ, suc, _<_}
 use mathlib.Core.Bool.{Bool, true, false, cond, not, _&&_, _||_, true≢false}
 use mathlib.Core.Path.{_≡_, refl, ap, ap₂, sym, _∙_, subst}
 use mathlib.Core.Option.{Option, none, some, Option·getD}
 use mathlib.Core.List.{List, [], _∷_, _++_, append-nil}
 use native.Mathlib.Omega.{arith}
 use borrow.Author.Tests.{lt-ltb, le-leb, eq-eqb}
-use lib.IntN.{ℤ, pos, _+ℤ_, +ℤ-idr}
+use lib.IntN.{ℤ, pos, +ℤ-idr}
 use lib.Signed.{leZ}
 use lib.ListN.{length, set}
 use lib.Dec.{eqb, ltb, leb}
-use Rattle.orderbook.specs.Types.{oppositeOf}
 use Rattle.orderbook.specs.declared.Side.{Side}
 use Rattle.orderbook.specs.declared.Side.the-variants.{Buy, Sell}
 use Rattle.orderbook.specs.declared.MaybePrice.{MaybePrice}
@@ -29,33 +28,26 @@ use Rattle.protocol.specs.declared.Inbound.the-variants as In
 use Rattle.protocol.specs.declared.NewOrder.{NewOrder}
 use Rattle.protocol.specs.declared.OrderKind.{OrderKind}
 use Rattle.protocol.specs.declared.OrderKind.the-variants as Kind
-use Rattle.protocol.specs.declared.Report as R
-use Rattle.protocol.specs.declared.ReportKind.{ReportKind}
-use Rattle.protocol.specs.declared.ReportKind.the-variants as Report
-use Rattle.protocol.specs.declared.Balance.{Balance}
-use Rattle.protocol.specs.declared.Outbound.{Outbound}
 use Rattle.protocol.specs.declared.Outbound.the-variants as Out
 use Rattle.protocol.specs.declared.RejectCode.{RejectCode}
 use Rattle.protocol.specs.declared.RejectCode.the-variants.{TooManyOrders, Throttled, Unavailable, InsufficientFunds, NotAllowed, OffMarket}
 use Rattle.accounts.specs.declared.Funds.{Funds}
 use Rattle.words.specs.Words.{least, most, fit, fit-in, place-of, inside, above, below}
 use Rattle.risk.specs.declared.Bucket.{Bucket}
-use Rattle.gateway.specs.Basics.{option, each, is-some, is-empty}
-use Rattle.gateway.specs.Limits.{word, most-in-flight, most-orders, most-notices, most-trades, full, not-quiet}
+use Rattle.gateway.specs.Basics.{option, is-some}
+use Rattle.gateway.specs.Limits.{word, most-in-flight, most-orders, most-notices, most-trades, full, too-short, not-quiet}
 use Rattle.gateway.specs.Table.{look, insert}
-use Rattle.gateway.specs.Ledger.{Order, Ledger, New, Item, command, event, order-of, owner-of, placed, find, Change, mark-by, fill, set-leaves, reprice, retire, wallet-of, change, changes, step, same-side, price-option, hold, order-hold, held-by, held, fits, wallets-fit, holds-fit}
+use Rattle.gateway.specs.Ledger.{Order, Ledger, New, Item, command, event, order-of, owner-of, placed, Change, mark-by, fill, set-leaves, reprice, retire, wallet-of, change, changes, step, same-side, hold, order-hold, held-by, held, fits, wallets-fit, holds-fit}
 use Rattle.gateway.specs.Core.{Tests, Pass, Origin, Core, account-at, places, tests, fits-after}
-use Rattle.gateway.specs.Depth.{Depth, levels, level, apply, add, levels-few, depth-few}
-use Rattle.gateway.specs.Rest.{Session, Mail, send, pending, close, Rest, at-time, with-sessions, with-buckets, session-at, session-of, account-of, is-present, update-session, set-received, report, report-to, each-from}
-use Rattle.gateway.specs.Rest as Rest
-use Rattle.gateway.specs.Entry.{Plan, refuse, quiet, records, unless, sends, wallet-at, balance, balance-to, ended, rested, open-order, login-tests, logged-in, greet, reject, next, can-number, queued, numbered, command-of, paper-tests, is-zero, price-of, new-notice, most-open, new-tests, noticing, enter-new, enter-other, taken, with-token, level-to, changes-to, notice-mail, publish-mail, published, snapshot, subscribe, hear, receive}
-use Rattle.gateway.specs.Deliver.{about, refused-ref, tell-owner, tell-sender, reports, named, notices-of, tick-of, order-notices, rest-after, deliver-tests, deliver}
+use Rattle.gateway.specs.Depth.{apply, add, levels-few, depth-few}
+use Rattle.gateway.specs.Rest.{Session, Mail, send, pending, Rest, at-time, with-sessions, with-buckets, session-at, account-of, is-present, update-session, set-received}
+use Rattle.gateway.specs.Entry.{Plan, refuse, quiet, records, unless, sends, wallet-at, ended, login-tests, logged-in, greet, reject, next, can-number, queued, numbered, command-of, paper-tests, is-zero, price-of, new-notice, most-open, new-tests, enter-new, enter-other, taken, with-token, publish-mail, published, hear, receive}
+use Rattle.gateway.specs.Deliver.{named, notices-of, tick-of, order-notices, deliver-tests, deliver}
 use Rattle.gateway.specs.Listing.{listing-agrees, listed-depth}
 use Rattle.gateway.specs.Calls.{Call, add-account, connect, set-paper-collar, wallet, last-seq, depth-levels, receive-from, tick, publish, end-session, shut-down, disconnect, detach, take-batch, deliver-event, replay-command, replay-event, finish, checkpoint}
-use Rattle.gateway.specs.Calls.{within, tick-mail, ticked, all-ended, without-session, gone, replay-tests, finish-tests, plan}
+use Rattle.gateway.specs.Calls.{within, ticked, all-ended, without-session, gone, replay-tests, finish-tests, plan}
 use Rattle.gateway.specs.Start.{empty-depth}
 use Rattle.gateway.proofs.Base.{split}
-use Rattle.gateway.proofs.Sorted.{Each}
 use Rattle.gateway.proofs.Money.{between, zero-fits}
 use Rattle.gateway.proofs.Invariant.{Shrinks, empty, shrunk}
 use Rattle.gateway.proofs.Calls.{unless-pass}
@@ -252,7 +244,7 @@ greet-serves s (In.Modify i p q) c r = many _ _ _
 greet-serves s In.MassCancel c r = many _ _ _
 greet-serves s In.Subscribe c r = many _ _ _
 
-pub receive-serves : (s : ℕ) (m : Inbound) (c : Core) (r : Rest) → Roomy c r → Serves (receive s m c r)
+receive-serves : (s : ℕ) (m : Inbound) (c : Core) (r : Rest) → Roomy c r → Serves (receive s m c r)
 unfolding receive
 receive-serves s m c r h =
     let after = update-session s (set-received (r .clock)) r in
@@ -298,9 +290,12 @@ few-after n (Triggered i) = (refl, refl)
 few-after n (MassCancelled o k) = (refl, refl)
 few-after n (PhaseChanged p) = (refl, refl)
 
-within-open : (room : ℕ) (p : Plan) → Open p → Open (within room p)
+within-keeps : (Q : Plan → Type 0) → Q (refuse too-short) → (room : ℕ) (p : Plan) → Q p → Q (within room p)
 unfolding within
-within-open room p h = unless-leads Open refuse p _ (λ _. refl, λ _. h)
+within-keeps Q k room p h = unless-leads Q refuse p _ (λ _. k, λ _. h)
+
+within-open : (room : ℕ) (p : Plan) → Open p → Open (within room p)
+within-open = within-keeps Open refl
 
 deliver-open : (n : ℕ) (e : Event) (room : ℕ) (c : Core) (r : Rest) → Roomy c r → Open (unless (deliver-tests n e c r) refuse (within room (deliver n e c r)))
 deliver-open n e room c r h =
@@ -400,6 +395,12 @@ pub never-full : (c : Core) (r : Rest) (x : Call) → Roomy c r → (plan c r x 
 never-full c r x h =
     let p = plan-open c r x h in
     (λ e. surely refl (subst Open e p), λ e. surely refl (subst Open e p))
+
+-- and `Unavailable` of no received message
+pub never-unavailable : (s : ℕ) (m : Inbound) (t room : ℕ) (c : Core) (r : Rest) → Roomy c r → Serves (plan c r (receive-from s m t room))
+unfolding plan
+never-unavailable s m t room c r h =
+    within-keeps Serves refl room (receive s m c (at-time t r)) (receive-serves s m c (at-time t r) (moved t (r .sessions) (r .buckets) c r h))
 
 -- ---- a member is served
 

@@ -3,33 +3,32 @@
 -- by price × quantity and its seats rise by the quantity, and a sell's go the other way. What an account holds on a side moves by the new hold less
 -- the old, and the new hold is that of the order's own side and price with what is left: the trade's price has no part in it. So a gateway that echoes
 -- reports and moves no wallet, or releases a buy's hold at the trade's price, is not this one. Assumes nothing.
-use Prim.Native.Nat.{ℕ, zero, suc, _+_, _<_, _≤_}
+use Prim.Native.Nat.{ℕ, suc, _<_}
 use mathlib.Core.Bool.{Bool, true, false, cond, not, _&&_, and-eq-true-iff, true≢false}
-use mathlib.Core.Path.{_≡_, refl, ap, ap₂, sym, _∙_, subst}
+use mathlib.Core.Path.{_≡_, refl, ap, ap₂, sym, _∙_}
 use mathlib.Core.Logic.{_⊎_, inl, inr}
-use mathlib.Core.Option.{Option, none, some, Option·map, Option·getD}
-use mathlib.Core.List.{List, [], _∷_, _++_}
+use mathlib.Core.Option.{Option, none, some, Option·map}
+use mathlib.Core.List.{List, [], _∷_}
 use native.Mathlib.Omega.{arith}
-use borrow.Author.Tests.{eqb-true, eqb-false, ne-eqb, eq-eqb}
+use borrow.Author.Tests.{eqb-true, ne-eqb, eq-eqb}
 use lib.IntN.{ℤ, pos, negℤ, _+ℤ_, _-ℤ_, _*ℤ_, +ℤ-idl, +ℤ-idr, +ℤ-assoc, +ℤ-comm, +ℤ-invl, *ℤ-zero}
-use lib.ListN.{length, getD, set}
+use lib.ListN.{getD}
 use lib.Seq.{getD-set-same, getD-set-other}
 use lib.Dec.{eqb, leb}
 use Rattle.orderbook.specs.declared.Side.{Side}
 use Rattle.orderbook.specs.declared.Side.the-variants.{Buy, Sell}
 use Rattle.orderbook.specs.declared.MaybePrice.{MaybePrice}
 use Rattle.orderbook.specs.declared.MaybePrice.the-variants.{None, Some}
-use Rattle.orderbook.specs.declared.Event.{Event}
 use Rattle.orderbook.specs.declared.Event.the-variants.{Trade}
 use Rattle.accounts.specs.declared.Funds.{Funds}
 use Rattle.words.specs.Words.{place-of, inside}
 use Rattle.wallet.specs.Wallet as W
 use Rattle.gateway.specs.Basics.{option}
 use Rattle.gateway.specs.Table.{look, without, update}
-use Rattle.gateway.specs.Ledger.{Order, Ledger, event, number-of, find, remove, with-leaves, left, Change, fill, changes, change, changed, pay, step, same-side, hold, order-hold, held-by, held, fits}
+use Rattle.gateway.specs.Ledger.{Order, Ledger, event, number-of, find, remove, with-leaves, left, fill, changes, change, changed, pay, step, same-side, hold, order-hold, held-by, held, fits}
 use Rattle.gateway.specs.Core.{Pass, Origin, Core, numbers-agree, tests, core-step}
-use Rattle.gateway.proofs.Base.{split, if-map}
-use Rattle.gateway.proofs.Sorted.{Rises, rises-from, Absent}
+use Rattle.gateway.proofs.Base.{split}
+use Rattle.gateway.proofs.Sorted.{Absent}
 use Rattle.gateway.proofs.Money.{bounds}
 use Rattle.gateway.proofs.Invariant.{CoreOk, Rise, shrunk, rise-shrinks}
 use Rattle.gateway.proofs.Calls.{held-slot}
