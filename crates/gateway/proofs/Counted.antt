@@ -29,7 +29,7 @@ use Rattle.gateway.specs.Rest.{Mail, send, Rest}
 use Rattle.gateway.specs.Entry.{Plan, unless, wallet-at, reject, next, can-number, command-of, paper-tests, most-open, new-tests, enter-new, level-to, snapshot}
 use Rattle.gateway.proofs.Base.{split, if-map}
 use Rattle.gateway.proofs.Sorted.{Each}
-use Rattle.gateway.proofs.Roomy.{Leads, unless-leads, leads-append, last-tests}
+use Rattle.gateway.proofs.Roomy.{is-code, Needs, needs-append, unless-needs, last-tests}
 
 -- ---- how an order joins the levels
 
@@ -179,21 +179,19 @@ module _ (s a : ℕ) (o : NewOrder) (c : Core) (r : Rest) where
   abbrev Else : Plan → Type 0
   Else p = (q : Rest) → p ≡ reject s (o .«client_ref») q TooManyOrders → ⊥
 
-  paper-else : (P : Type 0) (k : OrderKind) (w : Option Funds) → P → Leads Else (reject s (o .«client_ref») r) P (option [] (paper-tests a (o .side) (o .qty) c r k) w)
-  paper-else P k none p = p
-  paper-else P (Kind.Limit z t d) (some w) p =
-      (λ _ q e. let n : _≡_ {A = ℕ} 0 1 = cc in omega (arith, n), λ _. (λ _ q e. let n : _≡_ {A = ℕ} 0 1 = cc in omega (arith, n), λ _. p))
-  paper-else P Kind.Market (some w) p = (λ _ q e. let n : _≡_ {A = ℕ} 0 1 = cc in omega (arith, n), λ _. p)
-  paper-else P (Kind.Stop t l) (some w) p = (λ _ q e. let n : _≡_ {A = ℕ} 0 1 = cc in omega (arith, n), λ _. p)
-
   pub not-too-many : open-of a (c .ledger .orders) < most-open (account-at a c) → Else (enter-new s a o c r)
   not-too-many h =
       let k = command-of (next c) a (o .side) (o .qty) (o .kind) in
-      let why = reject s (o .«client_ref») r in
-      let full : Else (why Unavailable) = λ q e. let n : _≡_ {A = ℕ} 0 1 = cc in omega (arith, n) in
-      unless-leads Else why _ (new-tests a o k c r) (
-        λ e. absurd (true≢false (sym (lt-ltb (open-of a (c .ledger .orders)) (most-open (account-at a c)) h) ∙ e)),
-        λ _. leads-append Else why _ (option [] (paper-tests a (o .side) (o .qty) c r (o .kind)) (wallet-at a c)) (can-number Unavailable c r ++ last-tests s a c o k r)
-            (paper-else _ (o .kind) (wallet-at a c)
-            (λ _. full, λ _. (λ _. full, λ _. (λ _. full, λ _. (λ _. full, λ _. (λ _. full, λ _. (λ _. full, λ _. λ q e. let n : _≡_ {A = ℕ} 0 1 = cc in omega (arith, n)))))))),
+      unless-needs (is-code TooManyOrders) Else (reject s (o .«client_ref») r)
+      (λ why f q e. let z : why ≡ TooManyOrders = cc in absurd (true≢false (sym (ap (is-code TooManyOrders) z) ∙ f))) _ (new-tests a o k c r) (
+        lt-ltb (open-of a (c .ledger .orders)) (most-open (account-at a c)) h,
+        needs-append (is-code TooManyOrders) (option [] (paper-tests a (o .side) (o .qty) c r (o .kind)) (wallet-at a c)) (can-number Unavailable c r ++ last-tests a o k c r)
+            (paper (o .kind) (wallet-at a c)) tt,
       )
+      (λ q e. let n : _≡_ {A = ℕ} 0 1 = cc in omega (arith, n))
+    where
+      paper : (k : OrderKind) (w : Option Funds) → Needs (is-code TooManyOrders) (option [] (paper-tests a (o .side) (o .qty) c r k) w)
+      paper k none = tt
+      paper (Kind.Limit z t d) (some w) = tt
+      paper Kind.Market (some w) = tt
+      paper (Kind.Stop t l) (some w) = tt

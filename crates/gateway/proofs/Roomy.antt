@@ -35,9 +35,9 @@ use Rattle.accounts.specs.declared.Funds.{Funds}
 use Rattle.words.specs.Words.{least, most, fit, fit-in, place-of, inside, above, below}
 use Rattle.risk.specs.declared.Bucket.{Bucket}
 use Rattle.gateway.specs.Basics.{option, is-some}
-use Rattle.gateway.specs.Limits.{word, most-in-flight, most-orders, most-notices, most-trades, full, too-short, not-quiet}
+use Rattle.gateway.specs.Limits.{word, most-in-flight, most-orders, most-notices, most-trades, full, too-short, inconsistent, not-quiet}
 use Rattle.gateway.specs.Table.{look, insert}
-use Rattle.gateway.specs.Ledger.{Order, Ledger, New, Item, command, event, order-of, owner-of, placed, Change, mark-by, fill, set-leaves, reprice, retire, wallet-of, change, changes, step, same-side, hold, order-hold, held-by, held, fits, wallets-fit, holds-fit}
+use Rattle.gateway.specs.Ledger.{Order, Ledger, New, Item, account, command, event, order-of, owner-of, placed, Change, mark-by, fill, set-leaves, reprice, retire, wallet-of, change, changes, step, same-side, hold, order-hold, held-by, held, fits, wallets-fit, holds-fit}
 use Rattle.gateway.specs.Core.{Tests, Pass, Origin, Core, account-at, places, tests, fits-after}
 use Rattle.gateway.specs.Depth.{apply, add, levels-few, depth-few}
 use Rattle.gateway.specs.Rest.{Session, Mail, send, pending, Rest, at-time, with-sessions, with-buckets, session-at, account-of, is-present, update-session, set-received}
@@ -45,7 +45,7 @@ use Rattle.gateway.specs.Entry.{Plan, refuse, quiet, records, unless, se
 use Rattle.gateway.specs.Deliver.{named, notices-of, tick-of, order-notices, deliver-tests, deliver}
 use Rattle.gateway.specs.Listing.{listing-agrees, listed-depth}
 use Rattle.gateway.specs.Calls.{Call, add-account, connect, set-paper-collar, wallet, last-seq, depth-levels, receive-from, tick, publish, end-session, shut-down, disconnect, detach, take-batch, deliver-event, replay-command, replay-event, finish, checkpoint}
-use Rattle.gateway.specs.Calls.{within, ticked, all-ended, without-session, gone, replay-tests, finish-tests, plan}
+use Rattle.gateway.specs.Calls.{mail-of, within, ticked, all-ended, without-session, gone, replay-tests, plan}
 use Rattle.gateway.specs.Start.{empty-depth}
 use Rattle.gateway.proofs.Base.{split}
 use Rattle.gateway.proofs.Money.{between, zero-fits}
@@ -97,8 +97,11 @@ room-fits c n k e =
 -- ---- plans that serve
 
 -- not refused as full or as not quiet
+abbrev pub blocks : ℕ → Bool
+blocks k = eqb k full || eqb k not-quiet
+
 abbrev pub Open : Plan → Type 0
-Open (refuse k) = eqb k full || eqb k not-quiet ≡ false
+Open (refuse k) = blocks k ≡ false
 Open (quiet a ms r) = Unit {0}
 Open (records from i ms r) = Unit {0}
 
@@ -119,27 +122,37 @@ serves-open (records from i ms r) h = tt
 surely : {b : Bool} {X : Type 0} → b ≡ true → b ≡ false → X
 surely p q = absurd (true≢false (sym p ∙ q))
 
-module _ (Q : Plan → Type 0) {A : Type 0} (no-way : A → Plan) where
-  -- where a test fails Q has its label's plan, and where all pass P
-  abbrev pub Leads : Type 0 → Tests A → Type 0
-  Leads P [] = P
-  Leads P (t ∷ ts) = (t .1 ≡ false → Q (no-way (t .0))) × (t .1 ≡ true → Leads P ts)
+module _ {A : Type 0} (bad : A → Bool) where
+  -- the tests whose labels are bad pass
+  abbrev pub Needs : Tests A → Type 0
+  Needs [] = Unit {0}
+  Needs (t ∷ ts) = cond (bad (t .0)) ((t .1 ≡ true) × Needs ts) (Needs ts)
 
-  pub unless-leads : (p : Plan) (ts : Tests A) → Leads (Q p) ts → Q (unless ts no-way p)
+  pub needs-append : (xs ys : Tests A) → Needs xs → Needs ys → Needs (xs ++ ys)
+  needs-append [] ys h k = k
+  needs-append (x ∷ xs) ys h k =
+      split (λ d. cond d ((x .1 ≡ true) × Needs xs) (Needs xs) → cond d ((x .1 ≡ true) × Needs (xs ++ ys)) (Needs (xs ++ ys))) (bad (x .0))
+      (λ _ u. (u .0, needs-append xs ys (u .1) k)) (λ _ u. needs-append xs ys u k) h
+
+  -- so a property of p and of every label that is not bad is one of what the tests decide
+  pub unless-needs : (Q : Plan → Type 0) (no-way : A → Plan) → ((a : A) → bad a ≡ false → Q (no-way a)) → (p : Plan) (ts : Tests A) → Needs ts → Q p → Q (unless ts no-way p)
   unfolding unless
-  unless-leads p [] h = h
-  unless-leads p (t ∷ ts) h =
-      split (λ b. (t .1 ≡ b) → Q (cond b (unless ts no-way p) (no-way (t .0)))) (t .1) (λ _ e. unless-leads p ts (h .1 e)) (λ _ e. h .0 e) refl
+  unless-needs Q no-way g p [] h k = k
+  unless-needs Q no-way g p (t ∷ ts) h k =
+      split (λ d. (bad (t .0) ≡ d) → cond d ((t .1 ≡ true) × Needs ts) (Needs ts) → Q (cond (t .1) (unless ts no-way p) (no-way (t .0)))) (bad (t .0))
+      (λ _ e u. rw (u .0) (unless-needs Q no-way g p ts (u .1) k))
+      (λ _ e u. split (λ b. Q (cond b (unless ts no-way p) (no-way (t .0)))) (t .1) (λ _. unless-needs Q no-way g p ts u k) (λ _. g (t .0) e)) refl h
 
-  pub leads-append : (P : Type 0) (xs ys : Tests A) → Leads (Leads P ys) xs → Leads P (xs ++ ys)
-  leads-append P [] ys h = h
-  leads-append P (x ∷ xs) ys h = (h .0, λ e. leads-append P xs ys (h .1 e))
+guard-open : (p : Plan) (ts : Tests ℕ) → Needs blocks ts → Open p → Open (unless ts refuse p)
+guard-open p ts h k = unless-needs blocks Open refuse (λ n e. e) p ts h k
 
-  can-leads : (k : A) (P : Type 0) (ts : Tests A) (c : Core) (r : Rest) → Roomy c r → Leads P ts → Leads P (can-number k c r ++ ts)
-  can-leads k P ts c r h p = (
-    surely (lt-ltb (length (c .flights)) most-in-flight (h .flying)),
-    λ _. (surely (rw (h .waiting) refl), λ _. (surely (lt-ltb (next c) word (h .number)), λ _. p)),
-  )
+-- where the first test fails, the others do not matter
+first-open : (p : Plan) (k : ℕ) (b : Bool) (ts : Tests ℕ) → Open (refuse k) → (b ≡ true → Needs blocks ts) → Open p → Open (unless ((k, b) ∷ ts) refuse p)
+unfolding unless
+first-open p k b ts g h q = split (λ x. (b ≡ x) → Open (cond x (unless ts refuse p) (refuse k))) b (λ _ e. guard-open p ts (h e) q) (λ _ e. g) refl
+
+can-pass : {A : Type 0} (k : A) (c : Core) (r : Rest) → Roomy c r → Pass (can-number k c r)
+can-pass k c r h = (lt-ltb (length (c .flights)) most-in-flight (h .flying), (rw (h .waiting) refl, (lt-ltb (next c) word (h .number), tt)))
 
 -- clock, sessions and buckets do not matter
 moved : (t : ℕ) (xs : List (Option Session)) (bs : List Bucket) (c : Core) (r : Rest) → Roomy c r → Roomy c (with-buckets bs (with-sessions xs (at-time t r)))
@@ -148,16 +161,20 @@ moved t xs bs c r h =
 
 -- ---- receiving
 
-abbrev is-unavailable : RejectCode → Bool
-is-unavailable Unavailable = true
-is-unavailable TooManyOrders = false
-is-unavailable Throttled = false
-is-unavailable InsufficientFunds = false
-is-unavailable NotAllowed = false
-is-unavailable OffMarket = false
+-- a code's place
+abbrev pub place : RejectCode → ℕ
+place TooManyOrders = 0
+place Throttled = 1
+place Unavailable = 2
+place InsufficientFunds = 3
+place NotAllowed = 4
+place OffMarket = 5
 
-other : (why : RejectCode) → is-unavailable why ≡ false → (s ref : ℕ) → Heard (send s (Out.Reject why ref) ∷ [])
-other why h s ref t n e = let q : why ≡ Unavailable = cc in surely (ap is-unavailable q) h
+abbrev pub is-code : RejectCode → RejectCode → Bool
+is-code why x = eqb (place x) (place why)
+
+other : (s ref : ℕ) (r : Rest) (why : RejectCode) → is-code Unavailable why ≡ false → Serves (reject s ref r why)
+other s ref r why h t n e = let q : why ≡ Unavailable = cc in surely (ap (is-code Unavailable) q) h
 
 silent : Heard []
 silent s ref e = let z : _≡_ {A = ℕ} 0 1 = cc in omega (arith, z)
@@ -171,52 +188,50 @@ led m ms h [] s ref e = h s ref cc
 led m ms h (n ∷ []) s ref e = many n m ms s ref e
 led m ms h (n ∷ k ∷ ns) s ref e = many n k _ s ref e
 
-module _ (s a : ℕ) (c : Core) where
-  paper-leads : (o : NewOrder) (r : Rest) (P : Type 0) (k : OrderKind) (w : Option Funds) → P →
-      Leads Serves (reject s (o .«client_ref») r) P (option [] (paper-tests a (o .side) (o .qty) c r k) w)
-  paper-leads o r P k none p = p
-  paper-leads o r P (Kind.Limit z t d) (some w) p = (λ _. other OffMarket refl s _, λ _. (λ _. other InsufficientFunds refl s _, λ _. p))
-  paper-leads o r P Kind.Market (some w) p = (λ _. other NotAllowed refl s _, λ _. p)
-  paper-leads o r P (Kind.Stop t l) (some w) p = (λ _. other NotAllowed refl s _, λ _. p)
+-- the last three tests of a new order
+abbrev pub last-tests : ℕ → NewOrder → Command → Core → Rest → Tests RejectCode
+last-tests a o k c r =
+    (Unavailable, ltb (length (c .ledger .orders)) most-orders)
+    ∷ (Unavailable, leb (length (r .notices ++ new-notice a o (wallet-at a c))) most-notices)
+    ∷ (Unavailable, fits-after (command (next c) k) c)
+    ∷ []
 
+guard-serves : (s ref : ℕ) (r : Rest) (p : Plan) (ts : Tests RejectCode) → Needs (is-code Unavailable) ts → Serves p → Serves (unless ts (reject s ref r) p)
+guard-serves s ref r p ts h k = unless-needs (is-code Unavailable) Serves (reject s ref r) (other s ref r) p ts h k
+
+module _ (s a : ℕ) (c : Core) where
   one-notice : (o : NewOrder) (w : Option Funds) → leb (length (new-notice a o w)) most-notices ≡ true
   one-notice o none = refl
   one-notice o (some w) =
       split (λ b. leb (length (cond b [] (a ∷ []))) most-notices ≡ true) (is-zero (hold (o .side) (price-of (o .kind)) (o .qty))) (λ e. refl) (λ e. refl)
 
-  -- the last three tests of a new order
-  abbrev pub last-tests : NewOrder → Command → Rest → Tests RejectCode
-  last-tests o k r =
-      (Unavailable, ltb (length (c .ledger .orders)) most-orders)
-      ∷ (Unavailable, leb (length (r .notices ++ new-notice a o (wallet-at a c))) most-notices)
-      ∷ (Unavailable, fits-after (command (next c) k) c)
-      ∷ []
-
-  last-pass : (o : NewOrder) (k : Command) (r : Rest) → Roomy c r → Pass (last-tests o k r)
+  last-pass : (o : NewOrder) (k : Command) (r : Rest) → Roomy c r → Pass (last-tests a o k c r)
   last-pass o k r h = (rw (h .orders) refl, (rw (h .notices) (one-notice o (wallet-at a c)), (room-fits c (next c) k (h .orders), tt)))
 
-  new-serves : (o : NewOrder) (r : Rest) → Roomy c r → Serves (enter-new s a o c r)
-  new-serves o r h =
-      let k = command-of (next c) a (o .side) (o .qty) (o .kind) in
-      let no-way = reject s (o .«client_ref») r in
-      let p = last-pass o k r h in
-      unless-leads Serves no-way _ (new-tests a o k c r) (
-        λ _. other TooManyOrders refl s _,
-        λ _. leads-append Serves no-way (Unit {0}) (option [] (paper-tests a (o .side) (o .qty) c r (o .kind)) (wallet-at a c)) (can-number Unavailable c r ++ last-tests o k r)
-            (paper-leads o r _ (o .kind) (wallet-at a c) (can-leads Serves no-way Unavailable (Unit {0}) (last-tests o k r) c r h
-            (surely (p .0), λ _. (surely (p .1 .0), λ _. (surely (p .1 .1 .0), λ _. tt))))),
-      )
+  new-needs : (o : NewOrder) (k : Command) (r : Rest) → Roomy c r → Needs (is-code Unavailable) (new-tests a o k c r)
+  new-needs o k r h =
+      let bad = is-code Unavailable in
+      needs-append bad (option [] (paper-tests a (o .side) (o .qty) c r (o .kind)) (wallet-at a c)) _ (paper (o .kind) (wallet-at a c))
+      (needs-append bad (can-number Unavailable c r) (last-tests a o k c r) (can-pass Unavailable c r h) (last-pass o k r h))
+    where
+      paper : (k : OrderKind) (w : Option Funds) → Needs (is-code Unavailable) (option [] (paper-tests a (o .side) (o .qty) c r k) w)
+      paper k none = tt
+      paper (Kind.Limit z t d) (some w) = tt
+      paper Kind.Market (some w) = tt
+      paper (Kind.Stop t l) (some w) = tt
 
-  other-serves : (own : Tests RejectCode) (k : Command) (r : Rest) → Roomy c r → ((P : Type 0) → P → Leads Serves (reject s 0 r) P own) → Serves (enter-other s own k c r)
+  new-serves : (o : NewOrder) (r : Rest) → Roomy c r → Serves (enter-new s a o c r)
+  new-serves o r h = let k = command-of (next c) a (o .side) (o .qty) (o .kind) in guard-serves s (o .«client_ref») r _ (new-tests a o k c r) (new-needs o k r h) tt
+
+  other-serves : (own : Tests RejectCode) (k : Command) (r : Rest) → Roomy c r → Needs (is-code Unavailable) own → Serves (enter-other s own k c r)
   other-serves own k r h g =
-      let no-way = reject s 0 r in
-      unless-leads Serves no-way (numbered (some s) k c r) (own ++ can-number Unavailable c r)
-      (leads-append Serves no-way (Unit {0}) own (can-number Unavailable c r) (g _ (can-leads Serves no-way Unavailable (Unit {0}) [] c r h tt)))
+      guard-serves s 0 r (numbered (some s) k c r) (own ++ can-number Unavailable c r)
+      (needs-append (is-code Unavailable) own (can-number Unavailable c r) g (can-pass Unavailable c r h)) tt
 
   token-serves : (ref : ℕ) (r : Rest) (enter : Rest → Plan) → Roomy c r → ((q : Rest) → Roomy c q → Serves (enter q)) → Serves (with-token s a ref c r enter)
   token-serves ref r enter h g =
       let after = with-buckets (set (r .buckets) a (taken a c r .bucket)) r in
-      unless-leads Serves (reject s ref after) (enter after) _ (λ _. other Throttled refl s ref, λ _. g after (moved (r .clock) (r .sessions) _ c r h))
+      guard-serves s ref after (enter after) _ tt (g after (moved (r .clock) (r .sessions) _ c r h))
 
   hear-serves : (m : Inbound) (r : Rest) → Roomy c r → Serves (hear s a m c r)
   unfolding hear
@@ -225,17 +240,17 @@ module _ (s a : ℕ) (c : Core) where
   hear-serves In.Heartbeat r h = silent
   hear-serves In.Subscribe r h = led _ _ (λ t n e. let z : _≡_ {A = ℕ} 0 1 = cc in omega (arith, z)) (publish-mail c r)
   hear-serves (In.NewOrder o) r h = token-serves (o .«client_ref») r (enter-new s a o c) h (new-serves o)
-  hear-serves (In.Cancel i) r h = token-serves 0 r (enter-other s [] (Cancel i a) c) h (λ q g. other-serves [] _ q g (λ P p. p))
+  hear-serves (In.Cancel i) r h = token-serves 0 r (enter-other s [] (Cancel i a) c) h (λ q g. other-serves [] (Cancel i a) q g tt)
   hear-serves (In.Modify i p n) r h =
-      token-serves 0 r (enter-other s ((NotAllowed, not (is-some (wallet-at a c))) ∷ []) (Modify i a p n) c) h
-      (λ q g. other-serves ((NotAllowed, not (is-some (wallet-at a c))) ∷ []) _ q g (λ P u. (λ _. other NotAllowed refl s 0, λ _. u)))
-  hear-serves In.MassCancel r h = token-serves 0 r (enter-other s [] (CancelAll a) c) h (λ q g. other-serves [] _ q g (λ P p. p))
+      let own : Tests RejectCode = (NotAllowed, not (is-some (wallet-at a c))) ∷ [] in
+      token-serves 0 r (enter-other s own (Modify i a p n) c) h (λ q g. other-serves own (Modify i a p n) q g tt)
+  hear-serves In.MassCancel r h = token-serves 0 r (enter-other s [] (CancelAll a) c) h (λ q g. other-serves [] (CancelAll a) q g tt)
 
 greet-serves : (s : ℕ) (m : Inbound) (c : Core) (r : Rest) → Serves (greet s m c r)
 unfolding greet
 greet-serves s (In.Login version a token) c r =
-    unless-leads Serves (λ why. ended s (Out.LoginRejected why) r) (logged-in s a c r) (login-tests version a token c r)
-    (λ _. many _ _ _, λ _. (λ _. many _ _ _, λ _. (λ _. many _ _ _, λ _. led _ _ (λ t n e. let z : _≡_ {A = ℕ} 0 1 = cc in omega (arith, z)) [])))
+    unless-needs (λ why. false) Serves (λ why. ended s (Out.LoginRejected why) r) (λ why e. many _ _ _) (logged-in s a c r) (login-tests version a token c r) tt
+    (led _ _ (λ t n e. let z : _≡_ {A = ℕ} 0 1 = cc in omega (arith, z)) [])
 greet-serves s In.Logout c r = many _ _ _
 greet-serves s In.Heartbeat c r = many _ _ _
 greet-serves s (In.NewOrder o) c r = many _ _ _
@@ -291,40 +306,17 @@ few-after n (MassCancelled o k) = (refl, refl)
 few-after n (PhaseChanged p) = (refl, refl)
 
 within-keeps : (Q : Plan → Type 0) → Q (refuse too-short) → (room : ℕ) (p : Plan) → Q p → Q (within room p)
-unfolding within
-within-keeps Q k room p h = unless-leads Q refuse p _ (λ _. k, λ _. h)
+unfolding within unless
+within-keeps Q k room p h = split (λ b. Q (cond b p (refuse too-short))) (leb (length (mail-of p)) room) (λ _. h) (λ _. k)
 
 within-open : (room : ℕ) (p : Plan) → Open p → Open (within room p)
 within-open = within-keeps Open refl
 
-deliver-open : (n : ℕ) (e : Event) (room : ℕ) (c : Core) (r : Rest) → Roomy c r → Open (unless (deliver-tests n e c r) refuse (within room (deliver n e c r)))
-deliver-open n e room c r h =
-    let d : r .depth ≡ empty-depth = λ i. record { resting = h .resting i; changed = h .changed i } in
-    let f = few-after n e in
-    unless-leads Open refuse _ (deliver-tests n e c r) (
-      λ _. refl,
-      λ _. (
-        λ _. refl,
-        λ _. (
-          λ _. refl,
-          λ _. (
-            λ _. refl,
-            λ _. (
-              λ _. refl,
-              λ _. (
-                λ _. refl,
-                λ _. (
-                  surely (ap (λ x. depth-few (apply e x)) d ∙ f .0),
-                  λ _. (
-                    surely (ap (λ ts. leb (length (ts ++ tick-of n e)) most-trades) (h .trades) ∙ f .1),
-                    λ _. (surely (rw (h .notices, no-notices (changes n e) (c .ledger) (h .orders)) refl), λ _. within-open room (deliver n e c r) tt),
-                  ),
-                ),
-              ),
-            ),
-          ),
-        ),
-      ),
+deliver-needs : (n : ℕ) (e : Event) (c : Core) (r : Rest) → Roomy c r → Needs blocks (deliver-tests n e c r)
+deliver-needs n e c r h =
+    let d : r .depth ≡ empty-depth = λ i. record { resting = h .resting i; changed = h .changed i } in (
+      ap (λ x. depth-few (apply e x)) d ∙ few-after n e .0,
+      (ap (λ ts. leb (length (ts ++ tick-of n e)) most-trades) (h .trades) ∙ few-after n e .1, (rw (h .notices, no-notices (changes n e) (c .ledger) (h .orders)) refl, tt)),
     )
 
 -- ---- every call
@@ -341,12 +333,12 @@ listing-few (x ∷ xs) os e h = surely h (rw e refl)
 
 pub plan-open : (c : Core) (r : Rest) (x : Call) → Roomy c r → Open (plan c r x)
 unfolding plan tests
-plan-open c r (add-account a) h = unless-leads Open refuse _ _ (λ _. refl, λ _. (λ _. refl, λ _. (λ _. refl, λ _. tt)))
-plan-open c r (connect s t) h = unless-leads Open refuse _ _ (λ _. refl, λ _. (λ _. refl, λ _. tt))
+plan-open c r (add-account a) h = guard-open _ (tests (account a) c) tt tt
+plan-open c r (connect s t) h = guard-open _ _ tt tt
 plan-open c r (set-paper-collar p) h = tt
 plan-open c r (wallet a) h = tt
 plan-open c r last-seq h = tt
-plan-open c r (depth-levels s room) h = unless-leads Open refuse _ _ (λ _. refl, λ _. tt)
+plan-open c r (depth-levels s room) h = guard-open _ _ tt tt
 plan-open c r (receive-from s m t room) h =
     within-open room (receive s m c (at-time t r)) (serves-open (receive s m c (at-time t r)) (receive-serves s m c _ (moved t (r .sessions) (r .buckets) c r h)))
 plan-open c r (tick t room) h = within-open room (ticked (at-time t r)) tt
@@ -354,41 +346,19 @@ plan-open c r (publish room) h = within-open room (sends (publish-mail c r) (pub
 plan-open c r (end-session s why room) h =
     within-open room _ (split (λ b. Open (cond b (ended s (Out.Logout why) r) (sends [] r))) (is-present (session-at s r)) (λ _. tt) (λ _. tt))
 plan-open c r (shut-down room) h = within-open room (all-ended r) tt
-plan-open c r (disconnect s) h = gone-open (account-of (session-at s r))
+plan-open c r (disconnect s) h = go (account-of (session-at s r))
   where
-    gone-open : (a : Option ℕ) → Open (gone a c (without-session s r))
-    gone-open none = tt
-    gone-open (some a) =
-        unless-leads Open refuse _ (can-number full c (without-session s r)) (can-leads Open refuse full (Unit {0}) [] c (without-session s r) (moved (r .clock) (set (r .sessions) s none) (r .buckets) c r h) tt)
+    go : (a : Option ℕ) → Open (gone a c (without-session s r))
+    go none = tt
+    go (some a) = guard-open _ (can-number full c (without-session s r)) (can-pass full c (without-session s r) (moved (r .clock) (set (r .sessions) s none) (r .buckets) c r h)) tt
 plan-open c r (detach s) h = tt
-plan-open c r (take-batch room) h = unless-leads Open refuse _ _ (λ _. refl, λ _. tt)
-plan-open c r (deliver-event n e room) h = deliver-open n e room c r h
+plan-open c r (take-batch room) h = guard-open _ _ tt tt
+plan-open c r (deliver-event n e room) h = guard-open _ (deliver-tests n e c r) (deliver-needs n e c r h) (within-open room (deliver n e c r) tt)
 plan-open c r (replay-command n k) h =
-    unless-leads Open refuse _ (replay-tests (command n k) c r) (
-      λ _. refl,
-      λ _. (
-        λ _. refl,
-        λ _. (
-          λ _. refl,
-          λ _. (
-            λ _. refl,
-            λ _. (
-              surely (lt-ltb (length (c .flights)) most-in-flight (h .flying)),
-              λ _. (surely (rw (h .orders) (or-true (not (places k)))), λ _. (λ _. refl, λ _. tt)),
-            ),
-          ),
-        ),
-      ),
-    )
-plan-open c r (replay-event n e) h =
-    unless-leads Open refuse _ (replay-tests (event n e) c r) (λ _. refl, λ _. (λ _. refl, λ _. (λ _. refl, λ _. (λ _. refl, λ _. (λ _. refl, λ _. tt)))))
-plan-open c r (finish xs) h =
-    unless-leads Open refuse _ (finish-tests xs c) (λ _. refl, λ e. (surely (listing-few xs (c .ledger .orders) (h .orders) e), λ _. (λ _. refl, λ _. tt)))
-plan-open c r (checkpoint room) h =
-    unless-leads Open refuse _ _ (
-      surely (rw (h .waiting) refl),
-      λ _. (surely (eq-eqb (r .delivered) (c .ledger .last) (h .delivered)), λ _. (λ _. refl, λ _. tt)),
-    )
+    guard-open _ (replay-tests (command n k) c r) (lt-ltb (length (c .flights)) most-in-flight (h .flying), (rw (h .orders) (or-true (not (places k))), tt)) tt
+plan-open c r (replay-event n e) h = guard-open _ (replay-tests (event n e) c r) tt tt
+plan-open c r (finish xs) h = first-open _ inconsistent _ _ refl (λ e. (listing-few xs (c .ledger .orders) (h .orders) e, tt)) tt
+plan-open c r (checkpoint room) h = guard-open _ _ (rw (h .waiting) refl, (eq-eqb (r .delivered) (c .ledger .last) (h .delivered), tt)) tt
 
 -- so neither code comes of any call
 pub never-full : (c : Core) (r : Rest) (x : Call) → Roomy c r → (plan c r x ≡ refuse full → ⊥) × (plan c r x ≡ refuse not-quiet → ⊥)
@@ -418,9 +388,6 @@ pass-join : {A : Type 0} (xs ys : Tests A) → Pass xs → Pass ys → Pass (xs 
 pass-join [] ys p q = q
 pass-join (x ∷ xs) ys p q = (p .0, pass-join xs ys (p .1) q)
 
-can-pass : (c : Core) (r : Rest) → Roomy c r → Pass (can-number Unavailable c r)
-can-pass c r h = (lt-ltb (length (c .flights)) most-in-flight (h .flying), (rw (h .waiting) refl, (lt-ltb (next c) word (h .number), tt)))
-
 module _ (s a : ℕ) (c : Core) (r : Rest) (h : Roomy c r) (m : Member a c r) where
   roomy-spent : Roomy c (spent a c r)
   roomy-spent = moved (r .clock) (r .sessions) _ c r h
@@ -432,7 +399,7 @@ module _ (s a : ℕ) (c : Core) (r : Rest) (h : Roomy c r) (m : Member a c r) wh
   new-pass o k = (
     rw (h .orders) (lt-ltb 0 (most-open (account-at a c)) (m .limit)),
     pass-join (option [] (paper-tests a (o .side) (o .qty) c (spent a c r) (o .kind)) (wallet-at a c)) _ (rw (m .no-wallet) tt)
-        (pass-join (can-number Unavailable c (spent a c r)) (last-tests s a c o k (spent a c r)) (can-pass c (spent a c r) roomy-spent) (last-pass s a c o k (spent a c r) roomy-spent)),
+        (pass-join (can-number Unavailable c (spent a c r)) (last-tests a o k c (spent a c r)) (can-pass Unavailable c (spent a c r) roomy-spent) (last-pass s a c o k (spent a c r) roomy-spent)),
   )
 
   -- the new order is numbered under the client's reference, and nobody is sent anything
@@ -451,7 +418,7 @@ module _ (s a : ℕ) (c : Core) (r : Rest) (h : Roomy c r) (m : Member a c r) wh
   other-numbered : (own : Tests RejectCode) (k : Command) → Pass own → with-token s a 0 c r (enter-other s own k c) ≡ numbered (some s) k c (spent a c r)
   other-numbered own k p =
       tokened 0 (enter-other s own k c)
-      ∙ unless-pass (reject s 0 (spent a c r)) (numbered (some s) k c (spent a c r)) (own ++ can-number Unavailable c (spent a c r)) (pass-join own _ p (can-pass c (spent a c r) roomy-spent))
+      ∙ unless-pass (reject s 0 (spent a c r)) (numbered (some s) k c (spent a c r)) (own ++ can-number Unavailable c (spent a c r)) (pass-join own _ p (can-pass Unavailable c (spent a c r) roomy-spent))
 
   pub cancel-numbered : (i : ℕ) → hear s a (In.Cancel i) c r ≡ numbered (some s) (Cancel i a) c (spent a c r)
   unfolding hear
