@@ -18,13 +18,14 @@ use Rattle.accounts.specs.declared.Account.{Account}
 use Rattle.accounts.specs.declared.Timing.{Timing}
 use Rattle.gateway.specs.Basics.{option, is-some}
 use Rattle.gateway.specs.Limits.{malformed}
-use Rattle.gateway.specs.Table.{without}
-use Rattle.gateway.specs.Ledger.{Order, Ledger, New, Item, account, command, event, order-of, owner-of, placed, remove, with-orders, Change, retire, changes, change, changed, step}
+use Rattle.gateway.specs.Table.{look, without}
+use Rattle.gateway.specs.Ledger.{Order, Ledger, New, Item, account, command, event, order-of, owner-of, placed, find, remove, with-orders, Change, retire, changes, change, changed, step}
 use Rattle.gateway.specs.Saved.{Saved}
 use Rattle.gateway.specs.Bytes.{decode}
 use Rattle.gateway.specs.Core.{Tests, Pass, Origin, Flight, Core, drop-below, is-first, first-places, numbers-agree, tests, core-step}
 use Rattle.gateway.specs.Rest.{Mail, stamped}
 use Rattle.gateway.specs.Entry.{Answer, Plan, refuse, quiet, records}
+use Rattle.gateway.specs.Deliver.{notices-of}
 use Rattle.gateway.specs.Calls.{Gateway, Call, plan, done, carry-out, call}
 use Rattle.gateway.specs.Start.{Started, not-started, started, start-unless, set-up, restore, restore-saved}
 use Rattle.gateway.specs.Fits.{Unsigned, AccountsFit, ListingFits, Bytes, CallFits, CallsFit}
@@ -99,20 +100,34 @@ first-no : (n : ℕ) (os : List Order) (fs : List Flight) → is-first n fs ≡ 
 first-no n os [] a b h = absurd (true≢false (sym a))
 first-no n os (f ∷ fs) a b h = subst (λ m. No m os) (eqb-true (f .number) n a) (h .0 b)
 
-pub rejected-agrees : (c : Core) (n i : ℕ) (why : RejectReason) → Pass (tests (event n (Rejected i why)) c) → FreshCore c →
-    changed (changes n (Rejected i why)) (c .ledger) ≡ changed (rust-rejected (first-places (drop-below n (c .flights))) i) (c .ledger)
-unfolding tests numbers-agree changes change
-rejected-agrees c n i why p h = go (first-places (drop-below n (c .flights))) refl (eqb i n) refl
+find-no : (n : ℕ) (os : List Order) → No n os → find n os ≡ none
+unfolding look
+find-no n [] h = refl
+find-no n (o ∷ os) h = rw (ne-eqb (o .number) n (h .0)) (find-no n os (h .1))
+
+-- what does not see the end of an order that is not live does not tell the two rules apart
+agrees : {X : Type 0} (F : List Change → X) (c : Core) (n i : ℕ) (why : RejectReason) → (No i (c .ledger .orders) → F (retire i ∷ []) ≡ F []) →
+    Pass (tests (event n (Rejected i why)) c) → FreshCore c → F (changes n (Rejected i why)) ≡ F (rust-rejected (first-places (drop-below n (c .flights))) i)
+unfolding tests numbers-agree changes
+agrees F c n i why f p h = go (first-places (drop-below n (c .flights))) refl (eqb i n) refl
   where
-    go : (b : Bool) → first-places (drop-below n (c .flights)) ≡ b → (d : Bool) → eqb i n ≡ d →
-        changed (cond d (retire i ∷ []) []) (c .ledger) ≡ changed (rust-rejected b i) (c .ledger)
+    go : (b : Bool) → first-places (drop-below n (c .flights)) ≡ b → (d : Bool) → eqb i n ≡ d → F (cond d (retire i ∷ []) []) ≡ F (rust-rejected b i)
     go true e true q = refl
     go true e false q =
         absurd (true≢false (sym (rw (e, q) at (and-eq-true-iff (leb i n) (not (first-places (drop-below n (c .flights))) || eqb i n) .0 (p .1 .1 .0) .1))))
     go false e false q = refl
     go false e true q =
-        ap (λ os. with-orders os (c .ledger)) (remove-no i (c .ledger .orders)
-        (subst (λ m. No m (c .ledger .orders)) (sym (eqb-true i n q)) (first-no n (c .ledger .orders) (drop-below n (c .flights)) (p .0) e (fresh-below n _ (c .flights) h))))
+        f (subst (λ m. No m (c .ledger .orders)) (sym (eqb-true i n q)) (first-no n (c .ledger .orders) (drop-below n (c .flights)) (p .0) e (fresh-below n _ (c .flights) h)))
+
+pub rejected-agrees : (c : Core) (n i : ℕ) (why : RejectReason) → Pass (tests (event n (Rejected i why)) c) → FreshCore c →
+    changed (changes n (Rejected i why)) (c .ledger) ≡ changed (rust-rejected (first-places (drop-below n (c .flights))) i) (c .ledger)
+unfolding change
+rejected-agrees c n i why = agrees (λ xs. changed xs (c .ledger)) c n i why (λ t. ap (λ os. with-orders os (c .ledger)) (remove-no i (c .ledger .orders) t))
+
+-- and the wallet notices are the same
+pub notices-agree : (c : Core) (n i : ℕ) (why : RejectReason) → Pass (tests (event n (Rejected i why)) c) → FreshCore c →
+    notices-of (changes n (Rejected i why)) (c .ledger) ≡ notices-of (rust-rejected (first-places (drop-below n (c .flights))) i) (c .ledger)
+notices-agree c n i why = agrees (λ xs. notices-of xs (c .ledger)) c n i why (λ t. rw (find-no i (c .ledger .orders) t) refl)
 
 -- ---- for every list of calls
 

@@ -3,7 +3,7 @@
 -- and no received message is answered by the reject `Unavailable`. And where such a gateway receives a new order, cancel, modify or mass cancel of
 -- a session logged in for an account without a wallet that has a token and an open limit above 0, it numbers the command and sends nothing, so no
 -- reject either. So a gateway that refuses all, or sends the same reject to everyone, is not this one. Assumes nothing.
-use Prim.Native.Nat.{ℕ, suc, _<_}
+use Prim.Native.Nat.{ℕ, suc, _+_, _<_}
 use mathlib.Core.Bool.{Bool, true, false, cond, not, _&&_, _||_, true≢false}
 use mathlib.Core.Path.{_≡_, refl, ap, ap₂, sym, _∙_, subst}
 use mathlib.Core.Option.{Option, none, some, Option·getD}
@@ -31,7 +31,9 @@ use Rattle.protocol.specs.declared.OrderKind.the-variants as Kind
 use Rattle.protocol.specs.declared.Outbound.the-variants as Out
 use Rattle.protocol.specs.declared.RejectCode.{RejectCode}
 use Rattle.protocol.specs.declared.RejectCode.the-variants.{TooManyOrders, Throttled, Unavailable, InsufficientFunds, NotAllowed, OffMarket}
+use Rattle.accounts.specs.declared.Account.{Account}
 use Rattle.accounts.specs.declared.Funds.{Funds}
+use Rattle.accounts.specs.declared.Timing.{Timing}
 use Rattle.words.specs.Words.{least, most, fit, fit-in, place-of, inside, above, below}
 use Rattle.risk.specs.declared.Bucket.{Bucket}
 use Rattle.gateway.specs.Basics.{option, is-some}
@@ -46,7 +48,7 @@ use Rattle.gateway.specs.Deliver.{named, notices-of, tick-of, order-noti
 use Rattle.gateway.specs.Listing.{listing-agrees, listed-depth}
 use Rattle.gateway.specs.Calls.{Call, add-account, connect, set-paper-collar, wallet, last-seq, depth-levels, receive-from, tick, publish, end-session, shut-down, disconnect, detach, take-batch, deliver-event, replay-command, replay-event, finish, checkpoint}
 use Rattle.gateway.specs.Calls.{mail-of, within, ticked, all-ended, without-session, gone, replay-tests, plan}
-use Rattle.gateway.specs.Start.{empty-depth}
+use Rattle.gateway.specs.Start.{begin, empty-depth}
 use Rattle.gateway.proofs.Base.{split}
 use Rattle.gateway.proofs.Money.{between, zero-fits}
 use Rattle.gateway.proofs.Invariant.{Shrinks, empty, shrunk}
@@ -62,6 +64,12 @@ pub record Roomy (c : Core) (r : Rest) : Type 0 where
   pub trades : r .trades ≡ []
   pub notices : r .notices ≡ []
   pub delivered : r .delivered ≡ c .ledger .last
+
+-- such a gateway begins where no order is listed or saved
+pub begins-roomy : (timing : Timing) (l : Ledger) (t : List (Option Account)) → l .orders ≡ [] → l .last + 1 < word →
+    (let g = begin timing l t empty-depth [] in Roomy (g .core) (g .rest))
+begins-roomy timing l t e h =
+    record { flying = omega arith; waiting = refl; number = h; orders = e; resting = refl; changed = refl; trades = refl; notices = refl; delivered = refl }
 
 -- ---- one order's hold is in range, whatever it is
 
