@@ -240,7 +240,7 @@ not-none : {A : Type 0} {x : A} → some x ≡ none → ⊥
 not-none e = let z : _≡_ {A = ℕ} 0 1 = cc in omega arith
 
 -- a slot that holds something is within the list
-held-slot : {A : Type 0} (xs : List (Option A)) (s : ℕ) (y : A) → getD xs s none ≡ some y → s < length xs
+pub held-slot : {A : Type 0} (xs : List (Option A)) (s : ℕ) (y : A) → getD xs s none ≡ some y → s < length xs
 held-slot [] s y h = absurd (not-none (sym h))
 held-slot (x ∷ xs) zero y h = omega arith
 held-slot (x ∷ xs) (suc s) y h = let t = held-slot xs s y h in omega arith

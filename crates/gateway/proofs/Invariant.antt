@@ -107,7 +107,7 @@ pub shrunk : (xs : List Change) (l : Ledger) → Shrinks (l .orders) (changed xs
 shrunk [] l = same _
 shrunk (x ∷ xs) l = then (change-shrinks x l) (shrunk xs (change x l))
 
-rise-shrinks : (n : ℕ) {os ps : List Order} → Shrinks os ps → Rise n os → Rise n ps
+pub rise-shrinks : (n : ℕ) {os ps : List Order} → Shrinks os ps → Rise n os → Rise n ps
 rise-shrinks n empty t = tt
 rise-shrinks n (ended {o = o} {ps = ps} s) t = rises-from number-of n (suc (o .number)) (omega (arith, t .0)) ps (rise-shrinks (suc (o .number)) s (t .1))
 rise-shrinks n (kept e q s) t = rw e (t .0, rise-shrinks _ s (t .1))

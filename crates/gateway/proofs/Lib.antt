@@ -14,3 +14,7 @@ pub mod Restore
 pub mod Begin
 pub mod Restart
 pub mod Examples
+pub mod Rejected
+pub mod Roomy
+pub mod Settled
+pub mod Counted

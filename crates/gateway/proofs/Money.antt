@@ -25,7 +25,7 @@ unfolding fits place-of
 zero-fits = refl
 
 -- a number between the two ends
-between : (z : ℤ) → leZ least z ≡ true → leZ z most ≡ true → fits z ≡ true
+pub between : (z : ℤ) → leZ least z ≡ true → leZ z most ≡ true → fits z ≡ true
 unfolding fits place-of
 between z a b = rw (a, b) refl
 
@@ -40,7 +40,7 @@ pub settle-fits : (s : Side) (p : ℤ) (q : ℕ) (w : Funds) → FundsFit (settl
 settle-fits Buy p q w = (clamp-fits _, clamp-fits _)
 settle-fits Sell p q w = (clamp-fits _, clamp-fits _)
 
-bounds : (z : ℤ) → fits z ≡ true → (leZ least z ≡ true) × (leZ z most ≡ true)
+pub bounds : (z : ℤ) → fits z ≡ true → (leZ least z ≡ true) × (leZ z most ≡ true)
 unfolding fits place-of
 bounds z =
     split (λ x. (leZ least z ≡ x) → is-some (fit-in (cond x (cond (leZ z most) (inside z) above) below)) ≡ true → (x ≡ true) × (leZ z most ≡ true)) (leZ least z)

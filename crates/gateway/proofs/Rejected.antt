@@ -1,0 +1,192 @@
+-- A refusal means one thing to the gateway and to the ledger. In plain words: the Rust ends a refused order where the command in flight places one;
+-- the ledger, which sees no gateway, where the event names the command's own number. Whatever list of calls a gateway has been through, from set-up or
+-- restore, an accepted refusal changes its ledger the same way by either rule: no live order bears the number of a command in flight that places
+-- nothing (`Fresh`). So a gateway that ends an order of somebody else on a refused cancel is not this one. Assumes nothing.
+use Prim.Native.Nat.{ℕ, _+_, _<_}
+use mathlib.Core.Bool.{Bool, true, false, cond, not, _||_, and-eq-true-iff, true≢false}
+use mathlib.Core.Path.{_≡_, refl, ap, sym, _∙_, subst}
+use mathlib.Core.Option.{Option, none, some}
+use mathlib.Core.List.{List, [], _∷_, _++_}
+use native.Mathlib.Omega.{arith}
+use borrow.Author.Tests.{eqb-true, ne-eqb}
+use lib.ListN.{length}
+use lib.Dec.{eqb, ltb, leb}
+use Rattle.orderbook.specs.declared.Event.the-variants.{Rejected}
+use Rattle.orderbook.specs.declared.RejectReason.{RejectReason}
+use Rattle.orderbook.specs.declared.Listed.{Listed}
+use Rattle.accounts.specs.declared.Account.{Account}
+use Rattle.accounts.specs.declared.Timing.{Timing}
+use Rattle.gateway.specs.Basics.{option, is-some}
+use Rattle.gateway.specs.Limits.{malformed}
+use Rattle.gateway.specs.Table.{look, without}
+use Rattle.gateway.specs.Ledger.{Order, Ledger, New, Item, account, command, event, order-of, owner-of, placed, find, remove, with-orders, Change, retire, changes, change, changed, step}
+use Rattle.gateway.specs.Saved.{Saved}
+use Rattle.gateway.specs.Bytes.{decode}
+use Rattle.gateway.specs.Core.{Tests, Pass, Origin, Flight, Core, drop-below, is-first, first-places, numbers-agree, tests, core-step}
+use Rattle.gateway.specs.Rest.{Mail, stamped}
+use Rattle.gateway.specs.Entry.{Answer, Plan, refuse, quiet, records}
+use Rattle.gateway.specs.Deliver.{notices-of}
+use Rattle.gateway.specs.Calls.{Gateway, Call, plan, done, carry-out, call}
+use Rattle.gateway.specs.Start.{Started, not-started, started, start-unless, set-up, restore, restore-saved}
+use Rattle.gateway.specs.Fits.{Unsigned, AccountsFit, ListingFits, Bytes, CallFits, CallsFit}
+use Rattle.gateway.specs.Restart.{next-of, final}
+use Rattle.gateway.proofs.Base.{split}
+use Rattle.gateway.proofs.Invariant.{CoreOk, All, Keyed, In, Shrinks, Runs, shrunk, all-shrinks, all-more}
+use Rattle.gateway.proofs.Calls.{Good, plan-good}
+use Rattle.gateway.proofs.Begin.{Ok, Begins, set-up-begins, restore-begins}
+use Rattle.gateway.proofs.Restart.{call-ok}
+
+abbrev No : ℕ → List Order → Type 0
+No n os = All (Keyed (λ m a. m ≡ n → ⊥)) os
+
+-- no live order bears the number of a command in flight that places nothing
+abbrev pub Fresh : List Order → List Flight → Type 0
+Fresh os [] = Unit {0}
+Fresh os (f ∷ fs) = (f .places ≡ false → No (f .number) os) × Fresh os fs
+
+abbrev pub FreshCore : Core → Type 0
+FreshCore c = Fresh (c .ledger .orders) (c .flights)
+
+-- ---- the invariant is kept
+
+fresh-shrinks : {os ps : List Order} → Shrinks os ps → (fs : List Flight) → Fresh os fs → Fresh ps fs
+fresh-shrinks s [] h = tt
+fresh-shrinks s (f ∷ fs) h = (λ e. all-shrinks _ s (h .0 e), fresh-shrinks s fs (h .1))
+
+fresh-below : (n : ℕ) (os : List Order) (fs : List Flight) → Fresh os fs → Fresh os (drop-below n fs)
+fresh-below n os [] h = tt
+fresh-below n os (f ∷ fs) h =
+    let t = fresh-below n os fs (h .1) in
+    split (λ b. Fresh os (cond b (drop-below n fs) (f ∷ fs))) (ltb (f .number) n) (λ e. t) (λ e. h)
+
+no-placed : (ref n m a : ℕ) (x : Option New) → (n ≡ m → ⊥) → No m (placed ref n a x)
+no-placed ref n m a none h = tt
+no-placed ref n m a (some x) h = (h, tt)
+
+-- earlier commands stay fresh where a later number is placed
+fresh-more : (ref n a last : ℕ) (x : Option New) (os : List Order) (fs gs : List Flight) → last < n → Runs last fs → Fresh os fs →
+    Fresh (os ++ placed ref n a x) gs → Fresh (os ++ placed ref n a x) (fs ++ gs)
+fresh-more ref n a last x os [] gs h u t s = s
+fresh-more ref n a last x os (f ∷ fs) gs h u t s = (
+  λ e. all-more _ (Keyed (λ m b. m ≡ f .number → ⊥)) (λ o v. v) os _ (t .0 e) (no-placed ref n (f .number) a x (λ q. omega (arith, u .0, q))),
+  fresh-more ref n a last x os fs gs h (u .1) (t .1) s,
+)
+
+no-new : (ref n a last limit : ℕ) (x : Option New) (os : List Order) → last < n → All (Keyed (In last limit)) os → is-some x ≡ false → No n (os ++ placed ref n a x)
+no-new ref n a last limit none os h t e = all-more (Keyed (In last limit)) _ (λ o v q. omega (arith, v .0, q)) os [] t tt
+no-new ref n a last limit (some x) os h t e = absurd (true≢false e)
+
+pub fresh-step : (from : Origin) (i : Item) (c : Core) → CoreOk c → Pass (tests i c) → FreshCore c → FreshCore (core-step from i c)
+unfolding step tests
+fresh-step from (account a) c ok p h = h
+fresh-step from (command n k) c ok p h =
+    let e = eqb-true n (c .ledger .last + 1) (p .0) in
+    fresh-more (from .client-ref) n (owner-of k) (c .ledger .last) (order-of k) (c .ledger .orders) (c .flights) _ (omega arith) (ok .runs) h
+    (λ q. no-new (from .client-ref) n (owner-of k) (c .ledger .last) (length (c .accounts)) (order-of k) (c .ledger .orders) (omega arith) (ok .inside) q, tt)
+fresh-step from (event n e) c ok p h = fresh-below n _ (c .flights) (fresh-shrinks (shrunk (changes n e) (c .ledger)) (c .flights) h)
+
+-- ---- the two rules agree
+
+-- the Rust's rule for a refused command
+abbrev pub rust-rejected : Bool → ℕ → List Change
+rust-rejected places i = cond places (retire i ∷ []) []
+
+remove-no : (n : ℕ) (os : List Order) → No n os → remove n os ≡ os
+unfolding without
+remove-no n [] h = refl
+remove-no n (o ∷ os) h = rw (ne-eqb (o .number) n (h .0)) (ap (λ t. o ∷ t) (remove-no n os (h .1)))
+
+first-no : (n : ℕ) (os : List Order) (fs : List Flight) → is-first n fs ≡ true → first-places fs ≡ false → Fresh os fs → No n os
+first-no n os [] a b h = absurd (true≢false (sym a))
+first-no n os (f ∷ fs) a b h = subst (λ m. No m os) (eqb-true (f .number) n a) (h .0 b)
+
+find-no : (n : ℕ) (os : List Order) → No n os → find n os ≡ none
+unfolding look
+find-no n [] h = refl
+find-no n (o ∷ os) h = rw (ne-eqb (o .number) n (h .0)) (find-no n os (h .1))
+
+-- what does not see the end of an order that is not live does not tell the two rules apart
+agrees : {X : Type 0} (F : List Change → X) (c : Core) (n i : ℕ) (why : RejectReason) → (No i (c .ledger .orders) → F (retire i ∷ []) ≡ F []) →
+    Pass (tests (event n (Rejected i why)) c) → FreshCore c → F (changes n (Rejected i why)) ≡ F (rust-rejected (first-places (drop-below n (c .flights))) i)
+unfolding tests numbers-agree changes
+agrees F c n i why f p h = go (first-places (drop-below n (c .flights))) refl (eqb i n) refl
+  where
+    go : (b : Bool) → first-places (drop-below n (c .flights)) ≡ b → (d : Bool) → eqb i n ≡ d → F (cond d (retire i ∷ []) []) ≡ F (rust-rejected b i)
+    go true e true q = refl
+    go true e false q =
+        absurd (true≢false (sym (rw (e, q) at (and-eq-true-iff (leb i n) (not (first-places (drop-below n (c .flights))) || eqb i n) .0 (p .1 .1 .0) .1))))
+    go false e false q = refl
+    go false e true q =
+        f (subst (λ m. No m (c .ledger .orders)) (sym (eqb-true i n q)) (first-no n (c .ledger .orders) (drop-below n (c .flights)) (p .0) e (fresh-below n _ (c .flights) h)))
+
+pub rejected-agrees : (c : Core) (n i : ℕ) (why : RejectReason) → Pass (tests (event n (Rejected i why)) c) → FreshCore c →
+    changed (changes n (Rejected i why)) (c .ledger) ≡ changed (rust-rejected (first-places (drop-below n (c .flights))) i) (c .ledger)
+unfolding change
+rejected-agrees c n i why = agrees (λ xs. changed xs (c .ledger)) c n i why (λ t. ap (λ os. with-orders os (c .ledger)) (remove-no i (c .ledger .orders) t))
+
+-- and the wallet notices are the same
+pub notices-agree : (c : Core) (n i : ℕ) (why : RejectReason) → Pass (tests (event n (Rejected i why)) c) → FreshCore c →
+    notices-of (changes n (Rejected i why)) (c .ledger) ≡ notices-of (rust-rejected (first-places (drop-below n (c .flights))) i) (c .ledger)
+notices-agree c n i why = agrees (λ xs. notices-of xs (c .ledger)) c n i why (λ t. rw (find-no i (c .ledger .orders) t) refl)
+
+-- ---- for every list of calls
+
+-- what the Rust does to the ledger of g with command n's refusal of i
+abbrev pub rust-ledger : Gateway → ℕ → ℕ → Ledger
+rust-ledger g n i = changed (rust-rejected (first-places (drop-below n (g .core .flights))) i) (g .core .ledger)
+
+module _ (g : Gateway) (ok : Ok g) (t : FreshCore (g .core)) where
+  carry-fresh : (p : Plan) → Good (g .core) p → FreshCore (next-of g (carry-out (g .core) p) .core)
+  carry-fresh (refuse k) h = t
+  carry-fresh (quiet a ms r) h = t
+  carry-fresh (records from i ms r) h = fresh-step from i (g .core) (ok .core-is) (h .0) t
+
+  carry-rejected : (p : Plan) → Good (g .core) p → (a : Answer) (n i : ℕ) (why : RejectReason) (ms : List Mail) (h : Gateway) →
+      carry-out (g .core) p ≡ done a (event n (Rejected i why) ∷ []) ms h → h .core .ledger ≡ rust-ledger g n i
+  unfolding step
+  carry-rejected (refuse k) q a n i why ms h e = absurd (let z : _≡_ {A = ℕ} 0 1 = cc in omega (arith, z))
+  carry-rejected (quiet b ns r) q a n i why ms h e = absurd (let z : _≡_ {A = ℕ} 0 1 = cc in omega (arith, z))
+  carry-rejected (records from j ns r) q a n i why ms h e =
+      let j-is : j ≡ event n (Rejected i why) = cc in
+      let h-is : h ≡ record { core = core-step from j (g .core); rest = stamped ns r } = cc in
+      ap (λ k. k .core .ledger) h-is
+      ∙ ap (λ x. step (from .client-ref) x (g .core .ledger)) j-is
+      ∙ rejected-agrees (g .core) n i why (subst (λ x. Pass (tests x (g .core))) j-is (q .0)) t
+
+-- whatever calls came before, an accepted refusal leaves the ledger that the Rust leaves
+abbrev pub RefusesAsRust : Gateway → Type 0
+RefusesAsRust g = (xs : List Call) (x : Call) (a : Answer) (n i : ℕ) (why : RejectReason) (ms : List Mail) (h : Gateway) → CallsFit xs → CallFits x →
+    call (final g xs) x ≡ done a (event n (Rejected i why) ∷ []) ms h → h .core .ledger ≡ rust-ledger (final g xs) n i
+
+refuses : (g : Gateway) → Ok g → FreshCore (g .core) → RefusesAsRust g
+refuses g ok t [] x a n i why ms h f fx e =
+    carry-rejected g ok t (plan (g .core) (g .rest) x) (plan-good (g .core) (g .rest) x fx (ok .core-is) (ok .rest-is)) a n i why ms h e
+refuses g ok t (y ∷ xs) x a n i why ms h f fx e =
+    refuses (next-of g (call g y)) (call-ok g y (f .0) ok)
+    (carry-fresh g ok t (plan (g .core) (g .rest) y) (plan-good (g .core) (g .rest) y (f .0) (ok .core-is) (ok .rest-is))) xs x a n i why ms h (f .1) fx e
+
+-- ---- from set-up, and from restore: nothing is in flight
+
+starts : (limit : ℕ) (l : List Account) (s : Started) (g : Gateway) → Begins limit l s → (s ≡ started g → g .core .flights ≡ []) → s ≡ started g → RefusesAsRust g
+starts limit l s g b f e = refuses g (subst (Begins limit l) e b .0) (rw (f e) tt)
+
+none-flying : (ts : Tests ℕ) (k g : Gateway) → k .core .flights ≡ [] → start-unless ts k ≡ started g → g .core .flights ≡ []
+unfolding start-unless
+none-flying [] k g h e = let q : g ≡ k = cc in rw q h
+none-flying (t ∷ ts) k g h e =
+    split (λ b. cond b (start-unless ts k) (not-started (t .0)) ≡ started g → g .core .flights ≡ []) (t .1) (λ _ q. none-flying ts k g h q)
+    (λ _ q. absurd (let z : _≡_ {A = ℕ} 0 1 = cc in omega (arith, z))) e
+
+pub refuses-after-set-up : (limit last : ℕ) (l : List Account) (listing : List Listed) (timing : Timing) (g : Gateway) → Unsigned last → AccountsFit l →
+    ListingFits listing → set-up limit last l listing timing ≡ started g → RefusesAsRust g
+unfolding set-up
+refuses-after-set-up limit last l listing timing g f a x e = starts limit l _ g (set-up-begins limit last l listing timing f a x) (none-flying _ _ g refl) e
+
+pub refuses-after-restore : (limit : ℕ) (l : List Account) (timing : Timing) (bs : List ℕ) (g : Gateway) → AccountsFit l → Bytes bs →
+    restore limit l timing bs ≡ started g → RefusesAsRust g
+unfolding restore restore-saved
+refuses-after-restore limit l timing bs g a b e = starts limit l _ g (restore-begins limit l timing bs a b) (go (decode bs)) e
+  where
+    go : (s : Option Saved) → option (not-started malformed) (restore-saved limit l timing) s ≡ started g → g .core .flights ≡ []
+    go none q = absurd (let z : _≡_ {A = ℕ} 0 1 = cc in omega (arith, z))
+    go (some s) q = none-flying _ _ g refl q
