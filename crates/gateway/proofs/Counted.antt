@@ -21,6 +21,7 @@ use Rattle.protocol.specs.declared.OrderKind.the-variants as Kind
 use Rattle.protocol.specs.declared.Outbound.the-variants as Out
 use Rattle.protocol.specs.declared.RejectCode.the-variants.{TooManyOrders, Unavailable}
 use Rattle.accounts.specs.declared.Funds.{Funds}
+use Rattle.table.specs.Live.{Each}
 use Rattle.gateway.specs.Basics.{option}
 use Rattle.gateway.specs.Ledger.{same-side, open-of}
 use Rattle.gateway.specs.Core.{Core, account-at}
@@ -28,7 +29,6 @@ use Rattle.gateway.specs.Depth.{Resting, Level, same-price, better, join
 use Rattle.gateway.specs.Rest.{Mail, send, Rest}
 use Rattle.gateway.specs.Entry.{Plan, unless, wallet-at, reject, next, can-number, command-of, paper-tests, most-open, new-tests, enter-new, level-to, snapshot}
 use Rattle.gateway.proofs.Base.{split, if-map}
-use Rattle.gateway.proofs.Sorted.{Each}
 use Rattle.gateway.proofs.Roomy.{is-code, Needs, needs-append, unless-needs, last-tests}
 
 -- ---- how an order joins the levels

@@ -18,7 +18,7 @@ use Rattle.accounts.specs.declared.Account.{Account}
 use Rattle.accounts.specs.declared.Timing.{Timing}
 use Rattle.gateway.specs.Basics.{option, is-some}
 use Rattle.gateway.specs.Limits.{malformed}
-use Rattle.gateway.specs.Table.{look, without}
+use Rattle.table.specs.Live.{look, without}
 use Rattle.gateway.specs.Ledger.{Order, Ledger, New, Item, account, command, event, order-of, owner-of, placed, find, remove, with-orders, Change, retire, changes, change, changed, step}
 use Rattle.gateway.specs.Saved.{Saved}
 use Rattle.gateway.specs.Bytes.{decode}

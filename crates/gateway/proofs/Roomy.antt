@@ -38,7 +38,7 @@ use Rattle.words.specs.Words.{least, most, fit, fit-in, place-of, inside, above
 use Rattle.risk.specs.declared.Bucket.{Bucket}
 use Rattle.gateway.specs.Basics.{option, is-some}
 use Rattle.gateway.specs.Limits.{word, most-in-flight, most-orders, most-notices, most-trades, full, too-short, inconsistent, not-quiet}
-use Rattle.gateway.specs.Table.{look, insert}
+use Rattle.table.specs.Live.{look, insert}
 use Rattle.gateway.specs.Ledger.{Order, Ledger, New, Item, account, command, event, order-of, owner-of, placed, Change, mark-by, fill, set-leaves, reprice, retire, wallet-of, change, changes, step, same-side, hold, order-hold, held-by, held, fits, wallets-fit, holds-fit}
 use Rattle.gateway.specs.Core.{Tests, Pass, Origin, Core, account-at, places, tests, fits-after}
 use Rattle.gateway.specs.Depth.{apply, add, levels-few, depth-few}

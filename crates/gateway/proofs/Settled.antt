@@ -24,7 +24,8 @@ use Rattle.accounts.specs.declared.Funds.{Funds}
 use Rattle.words.specs.Words.{place-of, inside}
 use Rattle.wallet.specs.Wallet as W
 use Rattle.gateway.specs.Basics.{option}
-use Rattle.gateway.specs.Table.{look, without, update}
+use Rattle.table.specs.Live.{look, without}
+use Rattle.gateway.specs.Table.{update}
 use Rattle.gateway.specs.Ledger.{Order, Ledger, event, number-of, find, remove, with-leaves, left, fill, changes, change, changed, pay, step, same-side, hold, order-hold, held-by, held, fits}
 use Rattle.gateway.specs.Core.{Pass, Origin, Core, numbers-agree, tests, core-step}
 use Rattle.gateway.proofs.Base.{split}
