@@ -7,7 +7,7 @@ use native.Mathlib.Omega.{arith}
 use Rattle.table.specs.Live.{live}
 use Rattle.table.proofs.Live.{live-ext}
 use Rattle.gateway.specs.Limits.{owner-slots, session-slots, most-in-flight}
-use Rattle.store.specs.Layout.{rows, width, Cell}
+use Rattle.store.specs.Layout.{blocks, rows, width, Cell}
 use Rattle.store.specs.Cells as C
 use Rattle.store.specs.View.{Row, Store, Same, listed, word, account, wallet, bucket, session, flight, command, order, resting, trade, changed-key, marked, in-slot, ledger, flights, depth, gateway, Bounds}
 use Rattle.store.proofs.Listed.{listed-ext}
@@ -45,3 +45,27 @@ trade-same q r h = rw (h C.trade-seq (omega arith), h C.trade-trade-id (omega ar
 
 changed-key-same : (q r : Row) → Agree 2 q r → changed-key q ≡ changed-key r
 changed-key-same q r h = rw (h C.changed-side (omega arith), h C.changed-price (omega arith))
+
+module _ (s t : Store) (b : Bounds s) (e : Same s t) where
+  -- the cells of a block's row
+  row-agrees : (c i n : ℕ) → c < blocks → i < rows c → n ≤ width c → Agree n (s c i) (t c i)
+  row-agrees c i n p q h k l = e c i k (record { block-is = p; row-is = q; cell-is = omega arith })
+
+  word-same : (k : ℕ) → k < 32 → word s k ≡ word t k
+  unfolding rows width
+  word-same k l = row-agrees C.header 0 32 (omega arith) (omega arith) (omega arith) k l
+
+  -- a list of the first n rows of a block
+  rows-same : {A : Type 0} (c m n : ℕ) (f : ℕ → Row → A) → ((i : ℕ) (q r : Row) → Agree m q r → f i q ≡ f i r) → c < blocks → n ≤ rows c → m ≤ width c →
+    listed (λ i. f i (s c i)) n ≡ listed (λ i. f i (t c i)) n
+  rows-same c m n f h p q w = listed-ext (λ i. f i (t c i)) (λ i. f i (s c i)) n (λ j l. h j (s c j) (t c j) (row-agrees c j m p (omega arith) w))
+
+  marked-same : {A : Type 0} (k : ℕ) (f : Row → A) → k < 16 → ((q r : Row) → Agree 16 q r → f q ≡ f r) → marked s k f ≡ marked t k f
+  unfolding rows width
+  marked-same {A} k f l h =
+      ap (map (λ (p : ℕ × A). p .1))
+      (live-ext (λ (p : ℕ × A). p .0) (λ i. (t C.orders i k, f (t C.orders i))) (λ i. (s C.orders i k, f (s C.orders i))) (word s C.order-rows)
+        (λ j m.
+          let g = row-agrees C.orders j 16 (omega arith) (omega (arith, b .orders-fit)) (omega arith) in
+          ap₂ (λ (x : ℕ) (y : A). (x, y)) (g k l) (h (s C.orders j) (t C.orders j) g))
+      ∙ ap (live (λ (p : ℕ × A). p .0) (λ i. (t C.orders i k, f (t C.orders i)))) (word-same C.order-rows (omega arith)))
