@@ -9,7 +9,7 @@ use Rattle.table.proofs.Live.{live-ext}
 use Rattle.gateway.specs.Limits.{owner-slots, session-slots, most-in-flight}
 use Rattle.store.specs.Layout.{blocks, rows, width, Cell}
 use Rattle.store.specs.Cells as C
-use Rattle.store.specs.View.{Row, Store, Same, listed, word, account, wallet, bucket, session, flight, command, order, resting, trade, changed-key, marked, in-slot, ledger, flights, depth, gateway, Bounds}
+use Rattle.store.specs.View.{Row, Store, Same, listed, optional, maybe-price, word, account, wallet, bucket, session, flight, command, order, resting, trade, changed-key, marked, in-slot, ledger, flights, depth, gateway, Bounds}
 use Rattle.store.proofs.Listed.{listed-ext}
 
 -- two rows agree in their first n cells
@@ -69,3 +69,60 @@ module _ (s t : Store) (b : Bounds s) (e : Same s t) where
           let g = row-agrees C.orders j 16 (omega arith) (omega (arith, b .orders-fit)) (omega arith) in
           ap₂ (λ (x : ℕ) (y : A). (x, y)) (g k l) (h (s C.orders j) (t C.orders j) g))
       ∙ ap (live (λ (p : ℕ × A). p .0) (λ i. (t C.orders i k, f (t C.orders i)))) (word-same C.order-rows (omega arith)))
+
+  slot-same : (n : ℕ) → in-slot s n ≡ in-slot t n
+  unfolding rows width
+  slot-same n = flight-same n _ _ (row-agrees C.flights (n % most-in-flight) 4 (omega arith) (omega arith) (omega arith))
+
+  flights-same : flights s ≡ flights t
+  flights-same =
+      listed-ext (λ j. in-slot t (word t C.last + 1 + j - word t C.flying)) (λ j. in-slot s (word s C.last + 1 + j - word s C.flying)) (word s C.flying)
+      (λ j l.
+        slot-same (word s C.last + 1 + j - word s C.flying)
+        ∙ ap₂ (λ (x y : ℕ). in-slot t (x + 1 + j - y)) (word-same C.last (omega arith)) (word-same C.flying (omega arith)))
+      ∙ ap (listed (λ j. in-slot t (word t C.last + 1 + j - word t C.flying))) (word-same C.flying (omega arith))
+
+  -- as many rows as a word says
+  counted-same : {A : Type 0} (c m k : ℕ) (f : ℕ → Row → A) → ((i : ℕ) (q r : Row) → Agree m q r → f i q ≡ f i r) → c < blocks → word s k ≤ rows c → m ≤ width c → k < 32 →
+    listed (λ i. f i (s c i)) (word s k) ≡ listed (λ i. f i (t c i)) (word t k)
+  counted-same c m k f h p q w l = rows-same c m (word s k) f h p q w ∙ ap (listed (λ i. f i (t c i))) (word-same k l)
+
+  pub gateway-same : gateway s ≡ gateway t
+  unfolding rows width
+  gateway-same =
+      λ z.
+        record {
+          core =
+            record {
+              ledger =
+                record {
+                  last = w C.last (omega arith) z;
+                  wallets = rows-same C.accounts 16 owner-slots (λ i r. wallet r) (λ i. wallet-same) (omega arith) (omega arith) (omega arith) z;
+                  orders = marked-same C.order-live order (omega arith) order-same z;
+                  mark = ap₂ (λ x y. maybe-price x y) (w C.marked (omega arith)) (w C.mark (omega arith)) z
+                };
+              flights = flights-same z;
+              accounts = counted-same C.accounts 16 C.owner-limit account account-same (omega arith) (b .accounts-fit) (omega arith) (omega arith) z
+            };
+          rest =
+            record {
+              timing = record { heartbeat = w C.heartbeat (omega arith) z; «idle_timeout» = w C.idle-timeout (omega arith) z };
+              clock = w C.clock (omega arith) z;
+              sessions = rows-same C.sessions 8 session-slots (λ i r. session r) (λ i. session-same) (omega arith) (omega arith) (omega arith) z;
+              buckets = rows-same C.accounts 16 owner-slots (λ i r. bucket r) (λ i. bucket-same) (omega arith) (omega arith) (omega arith) z;
+              batch = counted-same C.batch 12 C.waiting (λ i r. command r) (λ i. command-same) (omega arith) (b .batch-fits) (omega arith) (omega arith) z;
+              delivered = w C.delivered (omega arith) z;
+              published = w C.published (omega arith) z;
+              depth =
+                record {
+                  resting = marked-same C.order-resting resting (omega arith) resting-same z;
+                  changed = counted-same C.changed 2 C.changed-rows (λ i r. changed-key r) (λ i. changed-key-same) (omega arith) (b .changed-fit) (omega arith) (omega arith) z
+                };
+              trades = counted-same C.trades 6 C.trade-rows (λ i r. trade r) (λ i. trade-same) (omega arith) (b .trades-fit) (omega arith) (omega arith) z;
+              notices = counted-same C.notices 1 C.notice-rows (λ i r. r C.notice-account) (λ i q r h. h C.notice-account (omega arith)) (omega arith) (b .notices-fit) (omega arith) (omega arith) z;
+              collar = ap optional (w C.collar (omega arith)) z
+            }
+        }
+    where
+      w : (k : ℕ) → k < 32 → word s k ≡ word t k
+      w = word-same
