@@ -52,59 +52,55 @@ module _ (s t : Store) (b : Bounds s) (e : Same s t) where
   row-agrees c i n p q h k l = e c i k (record { block-is = p; row-is = q; cell-is = omega arith })
 
   word-same : (k : ℕ) → k < 32 → word s k ≡ word t k
-  unfolding rows width
   word-same k l = row-agrees C.header 0 32 (omega arith) (omega arith) (omega arith) k l
 
   -- a list of the first n rows of a block
   rows-same : {A : Type 0} (c m n : ℕ) (f : ℕ → Row → A) → ((i : ℕ) (q r : Row) → Agree m q r → f i q ≡ f i r) → c < blocks → n ≤ rows c → m ≤ width c →
-    listed (λ i. f i (s c i)) n ≡ listed (λ i. f i (t c i)) n
+      listed (λ i. f i (s c i)) n ≡ listed (λ i. f i (t c i)) n
   rows-same c m n f h p q w = listed-ext (λ i. f i (t c i)) (λ i. f i (s c i)) n (λ j l. h j (s c j) (t c j) (row-agrees c j m p (omega arith) w))
 
   marked-same : {A : Type 0} (k : ℕ) (f : Row → A) → k < 16 → ((q r : Row) → Agree 16 q r → f q ≡ f r) → marked s k f ≡ marked t k f
-  unfolding rows width
   marked-same {A} k f l h =
       ap (map (λ (p : ℕ × A). p .1))
       (live-ext (λ (p : ℕ × A). p .0) (λ i. (t C.orders i k, f (t C.orders i))) (λ i. (s C.orders i k, f (s C.orders i))) (word s C.order-rows)
-        (λ j m.
-          let g = row-agrees C.orders j 16 (omega arith) (omega (arith, b .orders-fit)) (omega arith) in
-          ap₂ (λ (x : ℕ) (y : A). (x, y)) (g k l) (h (s C.orders j) (t C.orders j) g))
+      (λ j m.
+      let g = row-agrees C.orders j 16 (omega arith) (omega (arith, b .orders-fit)) (omega arith) in
+      ap₂ (λ (x : ℕ) (y : A). (x, y)) (g k l) (h (s C.orders j) (t C.orders j) g))
       ∙ ap (live (λ (p : ℕ × A). p .0) (λ i. (t C.orders i k, f (t C.orders i)))) (word-same C.order-rows (omega arith)))
 
   slot-same : (n : ℕ) → in-slot s n ≡ in-slot t n
-  unfolding rows width
   slot-same n = flight-same n _ _ (row-agrees C.flights (n % most-in-flight) 4 (omega arith) (omega arith) (omega arith))
 
   flights-same : flights s ≡ flights t
   flights-same =
       listed-ext (λ j. in-slot t (word t C.last + 1 + j - word t C.flying)) (λ j. in-slot s (word s C.last + 1 + j - word s C.flying)) (word s C.flying)
       (λ j l.
-        slot-same (word s C.last + 1 + j - word s C.flying)
-        ∙ ap₂ (λ (x y : ℕ). in-slot t (x + 1 + j - y)) (word-same C.last (omega arith)) (word-same C.flying (omega arith)))
+      slot-same (word s C.last + 1 + j - word s C.flying)
+      ∙ ap₂ (λ (x y : ℕ). in-slot t (x + 1 + j - y)) (word-same C.last (omega arith)) (word-same C.flying (omega arith)))
       ∙ ap (listed (λ j. in-slot t (word t C.last + 1 + j - word t C.flying))) (word-same C.flying (omega arith))
 
   -- as many rows as a word says
   counted-same : {A : Type 0} (c m k : ℕ) (f : ℕ → Row → A) → ((i : ℕ) (q r : Row) → Agree m q r → f i q ≡ f i r) → c < blocks → word s k ≤ rows c → m ≤ width c → k < 32 →
-    listed (λ i. f i (s c i)) (word s k) ≡ listed (λ i. f i (t c i)) (word t k)
+      listed (λ i. f i (s c i)) (word s k) ≡ listed (λ i. f i (t c i)) (word t k)
   counted-same c m k f h p q w l = rows-same c m (word s k) f h p q w ∙ ap (listed (λ i. f i (t c i))) (word-same k l)
 
   pub gateway-same : gateway s ≡ gateway t
-  unfolding rows width
   gateway-same =
       λ z.
-        record {
-          core =
+      record {
+        core =
             record {
               ledger =
-                record {
-                  last = w C.last (omega arith) z;
-                  wallets = rows-same C.accounts 16 owner-slots (λ i r. wallet r) (λ i. wallet-same) (omega arith) (omega arith) (omega arith) z;
-                  orders = marked-same C.order-live order (omega arith) order-same z;
-                  mark = ap₂ (λ x y. maybe-price x y) (w C.marked (omega arith)) (w C.mark (omega arith)) z
-                };
+                  record {
+                    last = w C.last (omega arith) z;
+                    wallets = rows-same C.accounts 16 owner-slots (λ i r. wallet r) (λ i. wallet-same) (omega arith) (omega arith) (omega arith) z;
+                    orders = marked-same C.order-live order (omega arith) order-same z;
+                    mark = ap₂ (λ x y. maybe-price x y) (w C.marked (omega arith)) (w C.mark (omega arith)) z;
+                  };
               flights = flights-same z;
-              accounts = counted-same C.accounts 16 C.owner-limit account account-same (omega arith) (b .accounts-fit) (omega arith) (omega arith) z
+              accounts = counted-same C.accounts 16 C.owner-limit account account-same (omega arith) (b .accounts-fit) (omega arith) (omega arith) z;
             };
-          rest =
+        rest =
             record {
               timing = record { heartbeat = w C.heartbeat (omega arith) z; «idle_timeout» = w C.idle-timeout (omega arith) z };
               clock = w C.clock (omega arith) z;
@@ -114,15 +110,15 @@ module _ (s t : Store) (b : Bounds s) (e : Same s t) where
               delivered = w C.delivered (omega arith) z;
               published = w C.published (omega arith) z;
               depth =
-                record {
-                  resting = marked-same C.order-resting resting (omega arith) resting-same z;
-                  changed = counted-same C.changed 2 C.changed-rows (λ i r. changed-key r) (λ i. changed-key-same) (omega arith) (b .changed-fit) (omega arith) (omega arith) z
-                };
+                  record {
+                    resting = marked-same C.order-resting resting (omega arith) resting-same z;
+                    changed = counted-same C.changed 2 C.changed-rows (λ i r. changed-key r) (λ i. changed-key-same) (omega arith) (b .changed-fit) (omega arith) (omega arith) z;
+                  };
               trades = counted-same C.trades 6 C.trade-rows (λ i r. trade r) (λ i. trade-same) (omega arith) (b .trades-fit) (omega arith) (omega arith) z;
               notices = counted-same C.notices 1 C.notice-rows (λ i r. r C.notice-account) (λ i q r h. h C.notice-account (omega arith)) (omega arith) (b .notices-fit) (omega arith) (omega arith) z;
-              collar = ap optional (w C.collar (omega arith)) z
-            }
-        }
+              collar = ap optional (w C.collar (omega arith)) z;
+            };
+      }
     where
       w : (k : ℕ) → k < 32 → word s k ≡ word t k
       w = word-same

@@ -7,9 +7,9 @@ use Prim.Native.Nat.{ℕ, _^_, _<_}
 use borrow.Author.Tests.{eq-eqb, ne-eqb}
 use lib.Dec.{eqb}
 use Rattle.table.proofs.Live.{same?}
-use Rattle.store.specs.Layout.{cell, store, Cell, Holds}
-use Rattle.store.specs.View.{Store, write, Same}
-use Rattle.store.proofs.Cells.{cell-same, cell-other}
+use Rattle.store.specs.Layout.{cell, store, Cell, Holds, Set}
+use Rattle.store.specs.View.{Store, write, Same, Is}
+use Rattle.store.proofs.Places.{cell-same, cell-other}
 
 -- what `write` leaves in its own cell, and in another
 here : (b i k v : ℕ) (s : Store) → write b i k v s b i k ≡ v
@@ -42,3 +42,14 @@ same-trans s t u p q b i k c = p b i k c ∙ q b i k c
 
 pub same-write : (s t : Store) (b i k v : ℕ) → Same s t → Same (write b i k v s) (write b i k v t)
 same-write s t b i k v p d j l c = ap (λ n. cond (eqb d b && (eqb j i && eqb l k)) v n) (p d j l c)
+
+-- what a store leaves, after stores that left s
+pub then-set : {xs ys : List ℕ} {s : Store} {b i k v : ℕ} → Is xs s → Cell b i k → v < 2 ^ 64 → Set xs ys b i k v → Is ys (write b i k v s)
+then-set {xs} {ys} {s} {b} {i} {k} {v} h c f e =
+    record {
+      holds = e .holds;
+      same = λ d j l q. ap (λ zs. cell zs d j l) (e .exact) ∙ stored xs v c (h .holds) f d j l q ∙ same-write (cell xs) s b i k v (h .same) d j l q
+    }
+
+pub is-itself : {xs : List ℕ} → Holds xs → Is xs (cell xs)
+is-itself {xs} h = record { holds = h; same = same-refl (cell xs) }

@@ -1,5 +1,6 @@
 -- The layout of the lent state: blocks of rows of 64-bit cells, one behind the other. docs/STATE.md says what each cell holds.
 use Prim.Native.Nat.{ℕ, _+_, _*_, _≤_, _<_}
+use mathlib.Core.Path.{_≡_}
 use mathlib.Core.List.{List, [], _∷_}
 use lib.ListN.{length, getD}
 use Rattle.le.specs.Le.{le, put}
@@ -22,10 +23,10 @@ blocks = 12
 abbrev pub cells : ℕ
 cells = 55328
 
-unfoldable pub rows : ℕ → ℕ
+abbrev pub rows : ℕ → ℕ
 rows b = getD row-counts b 0
 
-unfoldable pub width : ℕ → ℕ
+abbrev pub width : ℕ → ℕ
 width b = getD row-widths b 0
 
 unfoldable pub start : ℕ → ℕ
@@ -51,3 +52,8 @@ Holds xs = 8 * cells ≤ length xs
 -- xs with v in that cell
 unfoldable pub store : List ℕ → ℕ → ℕ → ℕ → ℕ → List ℕ
 store xs b i k v = put 8 xs (8 * spot b i k) v
+
+-- ys is xs with v in that cell, and holds a state
+pub record Set (xs ys : List ℕ) (b i k v : ℕ) : Type 0 where
+  pub holds : Holds ys
+  pub exact : ys ≡ store xs b i k v

@@ -28,7 +28,7 @@ use Rattle.gateway.specs.Core.{Flight, Core}
 use Rattle.gateway.specs.Depth.{Resting, Depth, Level, Key}
 use Rattle.gateway.specs.Rest.{Session, Rest}
 use Rattle.gateway.specs.Calls.{Gateway}
-use Rattle.store.specs.Layout.{Cell}
+use Rattle.store.specs.Layout.{Cell, Holds, cell}
 use Rattle.store.specs.Cells as C
 
 -- a row's numbers by cell, and all cells by block, row and cell
@@ -235,3 +235,13 @@ pub record Bounds (s : Store) : Type 0 where
   pub trades-fit : word s C.trade-rows ≤ most-trades
   pub notices-fit : word s C.notice-rows ≤ most-notices
   pub changed-fit : word s C.changed-rows ≤ most-changed
+
+-- ys holds the store s
+pub record Is (ys : List ℕ) (s : Store) : Type 0 where
+  pub holds : Holds ys
+  pub same : Same (cell ys) s
+
+-- a state that is in bounds stands in xs
+pub record Ready (xs : List ℕ) : Type 0 where
+  pub holds : Holds xs
+  pub bounds : Bounds (cell xs)

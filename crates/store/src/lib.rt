@@ -1,7 +1,9 @@
 // The gateway's state in one lent slice of bytes: blocks of rows of 64-bit cells. docs/STATE.md has the layout.
+pub mod cells;
+
 ghost use mathlib.Core.Path.{_≡_};
 ghost use Prim.Native.Nat.{_<_};
-ghost use Rattle.store.specs.Layout.{blocks, cells, start, width, spot, cell, store, Cell, Holds};
+ghost use Rattle.store.specs.Layout.{blocks, cells, start, width, spot, cell, Cell, Holds, Set};
 
 pub const HEADER: usize = 0;
 
@@ -77,7 +79,7 @@ pub fn get(m: &[u8], b: usize, i: usize, k: usize) -> u64
 
 pub fn set(m: &mut [u8], b: usize, i: usize, k: usize, v: u64)
     requires { ⌜ Holds (now m) × Cell b i k ⌝ }
-    ensures { λ r. ⌜ now (m .exit) ≡ store (now (m .entry)) b i k v ⌝ }
+    ensures { λ r. ⌜ Set (now (m .entry)) (now (m .exit)) b i k v ⌝ }
 {
     le::put_u64(m, 8 * spot_of(b, i, k), v);
 }

@@ -10,7 +10,6 @@ array-read-result : tie.Need-array-read-result
 array-read-result c = search needs
 
 returns : tie.Need-returns
-unfolding width
 returns c = search needs
 
 pub width-of-spec : {M : Type 1} → statement M

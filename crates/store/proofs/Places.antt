@@ -13,6 +13,7 @@ use Rattle.le.specs.Le.{le, put, Outside}
 use Rattle.le.proofs.Laws.{length-put, le-put, le-put-other, lt-or-le}
 use Rattle.table.proofs.Live.{same?}
 use Rattle.table.proofs.Moves.{step}
+use Rattle.store.specs.Cells as C
 use Rattle.store.specs.Layout.{blocks, cells, rows, width, start, spot, cell, store, Cell, Holds}
 
 -- a test that passes for each number below n
@@ -28,7 +29,7 @@ pass-at f (suc n) t b h =
 
 -- each block ends where the next one starts
 ends : (b : ℕ) → b < blocks → start b + width b * rows b ≡ start (suc b)
-unfolding start width rows
+unfolding start
 ends b h = eqb-true _ _ (pass-at (λ c. eqb (start c + width c * rows c) (start (suc c))) blocks refl b h)
 
 -- blocks stand in their order
@@ -99,3 +100,41 @@ module _ (xs : List ℕ) {b i k : ℕ} (v : ℕ) (c : Cell b i k) where
   cell-other {d} {j} {l} q ne =
       le-put-other 8 (8 * spot d j l) 8 xs (8 * spot b i k) v
       (⊎-elim (λ h. inr (omega arith)) (λ h. inl (omega arith)) (one-side c q ne))
+
+-- ---- the cells of each block
+
+pub header-cell : (k : ℕ) → k < 32 → Cell C.header 0 k
+header-cell k l = record { block-is = omega arith; row-is = omega arith; cell-is = l }
+
+pub account-cell : (i k : ℕ) → i < 256 → k < 16 → Cell C.accounts i k
+account-cell i k h l = record { block-is = omega arith; row-is = h; cell-is = l }
+
+pub session-cell : (i k : ℕ) → i < 64 → k < 8 → Cell C.sessions i k
+session-cell i k h l = record { block-is = omega arith; row-is = h; cell-is = l }
+
+pub flight-cell : (i k : ℕ) → i < 256 → k < 4 → Cell C.flights i k
+flight-cell i k h l = record { block-is = omega arith; row-is = h; cell-is = l }
+
+pub command-cell : (i k : ℕ) → i < 256 → k < 12 → Cell C.batch i k
+command-cell i k h l = record { block-is = omega arith; row-is = h; cell-is = l }
+
+pub order-cell : (i k : ℕ) → i < 2048 → k < 16 → Cell C.orders i k
+order-cell i k h l = record { block-is = omega arith; row-is = h; cell-is = l }
+
+pub bid-cell : (i k : ℕ) → i < 512 → k < 4 → Cell C.bids i k
+bid-cell i k h l = record { block-is = omega arith; row-is = h; cell-is = l }
+
+pub ask-cell : (i k : ℕ) → i < 512 → k < 4 → Cell C.asks i k
+ask-cell i k h l = record { block-is = omega arith; row-is = h; cell-is = l }
+
+pub trade-cell : (i k : ℕ) → i < 256 → k < 6 → Cell C.trades i k
+trade-cell i k h l = record { block-is = omega arith; row-is = h; cell-is = l }
+
+pub notice-cell : (i k : ℕ) → i < 2048 → k < 1 → Cell C.notices i k
+notice-cell i k h l = record { block-is = omega arith; row-is = h; cell-is = l }
+
+pub changed-cell : (i k : ℕ) → i < 1024 → k < 2 → Cell C.changed i k
+changed-cell i k h l = record { block-is = omega arith; row-is = h; cell-is = l }
+
+pub hint-cell : (i k : ℕ) → i < 4096 → k < 1 → Cell C.hints i k
+hint-cell i k h l = record { block-is = omega arith; row-is = h; cell-is = l }
