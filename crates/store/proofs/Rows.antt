@@ -48,7 +48,7 @@ pub then-set : {xs ys : List ℕ} {s : Store} {b i k v : ℕ} → Is xs s → Ce
 then-set {xs} {ys} {s} {b} {i} {k} {v} h c f e =
     record {
       holds = e .holds;
-      same = λ d j l q. ap (λ zs. cell zs d j l) (e .exact) ∙ stored xs v c (h .holds) f d j l q ∙ same-write (cell xs) s b i k v (h .same) d j l q
+      same = λ d j l q. ap (λ zs. cell zs d j l) (e .exact) ∙ stored xs v c (h .holds) f d j l q ∙ same-write (cell xs) s b i k v (h .same) d j l q;
     }
 
 pub is-itself : {xs : List ℕ} → Holds xs → Is xs (cell xs)
