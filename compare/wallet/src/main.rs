@@ -7,7 +7,6 @@ mod function;
 mod inputs;
 mod lengths;
 mod money;
-#[cfg_attr(feature = "mock", path = "mock.rs")]
 mod rattle;
 mod risk;
 mod rule;
@@ -153,7 +152,6 @@ fn compare<F: Function>() -> Result<Count, String> {
 
 fn compare_all() -> Result<(), String> {
     let compared = [
-        compare::<money::Cost>()?,
         compare::<money::HoldOf>()?,
         compare::<money::Covers>()?,
         compare::<money::Hold>()?,
