@@ -68,10 +68,12 @@ unsized n k xs b h = rw (ne-eqb n k h)
 
 -- ---- wallets
 
-pub wrote-wallet : (w : Wallet) (m m₁ m₂ m₃ m₄ : List ℕ) → w .cash < 2 ^ 64 → w .position < 2 ^ 64 → w .«cash_held» < 2 ^ 64 → w .«position_held» < 2 ^ 64
-    → m₁ ≡ put 8 m 0 (w .cash) → m₂ ≡ put 8 m₁ 8 (w .position) → m₃ ≡ put 8 m₂ 16 (w .«cash_held») → m₄ ≡ put 8 m₃ 24 (w .«position_held»)
+abbrev pub Words : Wallet → Type 0
+Words w = (w .cash < 2 ^ 64) × (w .position < 2 ^ 64) × (w .«cash_held» < 2 ^ 64) × (w .«position_held» < 2 ^ 64)
+
+pub wrote-wallet : (w : Wallet) (m m₁ m₂ m₃ m₄ : List ℕ) → Words w → m₁ ≡ put 8 m 0 (w .cash) → m₂ ≡ put 8 m₁ 8 (w .position) → m₃ ≡ put 8 m₂ 16 (w .«cash_held») → m₄ ≡ put 8 m₃ 24 (w .«position_held»)
     → answer 0 m₄ ≡ answer 0 (E.put-balance (W.balance-of w) m)
-wrote-wallet w m m₁ m₂ m₃ m₄ a b c d e f g h =
+wrote-wallet w m m₁ m₂ m₃ m₄ (a, b, c, d) e f g h =
     rw (h, g, f, e, of-int (w .cash) a, of-int (w .position) b, of-int (w .«cash_held») c, of-int (w .«position_held») d)
 
 pub covered : (side : Side) (a : ℕ) (xs out ys : List ℕ) (w : Wallet) (q : Bool) (v r : ℕ) → length xs ≡ 32 → w ≡ E.wallet-in xs
@@ -147,4 +149,4 @@ module _ (width at v : ℕ) (xs ys : List ℕ) (w s b : Bool) (e : w ≡ isWidth
   pub no-room : b ≡ false → answer 6 ys ≡ E.store width at v xs
   no-room h = rw (← e, t, ← f, u, room, h, g .1, ← g .0, h)
 
-pub ruleset laws = (needs, too-short, wrote-one, wrote-two, fits, too-big, holds-of, past, on-side, no-side, unsized, wrote-wallet, covered, changed, settled, wrote-changed, refused, nears, wrote-bucket, took, no-bucket, no-flag, takes-token, loads, load-refused, no-width, too-long, stores, no-room)
+pub ruleset laws = (needs, too-short, wrote-one, wrote-two, fits, too-big, holds-of, past, on-side, no-side, unsized, covered, changed, settled, wrote-changed, refused, nears, wrote-bucket, took, no-bucket, no-flag, takes-token, loads, load-refused, no-width, too-long, stores, no-room)
