@@ -28,15 +28,14 @@ impl Function for Lengths {
     const NAME: &'static str = "lent lengths";
     const ARGS: &'static [Arg] = &[unsigned("call"), unsigned("input"), unsigned("output")];
 
-    /// One wrong length at a time.
     fn inputs() -> Inputs {
-        let lengths = |most: u64| 0..if most > 0 { LONGEST } else { 0 };
+        let lengths = |most: u64| 0..if most > 0 { LONGEST } else { 1 };
         boxed(
             (0..)
                 .zip(CALLS)
                 .flat_map(move |(call, (_, input, output))| {
-                    let inputs = lengths(input).map(move |len| vec![call, len, output]);
-                    inputs.chain(lengths(output).map(move |len| vec![call, input, len]))
+                    let pair = move |len| lengths(output).map(move |room| vec![call, len, room]);
+                    lengths(input).flat_map(pair)
                 }),
         )
     }
