@@ -1,9 +1,6 @@
 //! Links what `rt staticlib entry` wrote.
 
 fn main() {
-    if std::env::var_os("CARGO_FEATURE_MOCK").is_some() {
-        return;
-    }
     let folder = concat!(env!("CARGO_MANIFEST_DIR"), "/../../target/staticlib");
     println!("cargo:rerun-if-changed={folder}/libentry.a");
     println!("cargo:rustc-link-search=native={folder}");

@@ -1,7 +1,6 @@
-//! Amounts and wallets: `cost`, `hold_of`, `covers`, `hold` and `settle`, with the Rust's `Wallet`.
+//! Amounts and wallets: `hold_of`, `covers`, `hold` and `settle`, with the Rust's `Wallet`.
 
 use gateway::wallet::Wallet;
-use orderbook::Side;
 
 use crate::exchange;
 use crate::function::{
@@ -56,36 +55,6 @@ fn near_limit(random: &mut Random) -> (u64, u64) {
         (price, qty)
     } else {
         (price.wrapping_neg(), qty)
-    }
-}
-
-pub struct Cost;
-
-impl Function for Cost {
-    const NAME: &'static str = "cost";
-    const ARGS: &'static [Arg] = &[signed("price"), unsigned("qty")];
-
-    fn inputs() -> Inputs {
-        boxed(
-            all([&LIMITS, &LIMITS])
-                .chain(random(200_000, |r| r.words(2)))
-                .chain(random(200_000, |r| {
-                    let (price, qty) = near_limit(r);
-                    vec![price, qty]
-                })),
-        )
-    }
-
-    fn rust(args: &[u64]) -> Rust {
-        Rust::Answer(fits(Wallet::hold_of(Side::Buy, args[0] as i64, args[1])))
-    }
-
-    fn rule(args: &[u64]) -> Words {
-        fits(rule::cost(args[0] as i64, args[1]))
-    }
-
-    fn rattle(args: &[u64]) -> Words {
-        call(&[FILL; 2], |out| rattle::cost(args[0], args[1], out))
     }
 }
 

@@ -1,7 +1,6 @@
 //! The proved library's entry points. A slice goes over as its address and its length.
 
 unsafe extern "C" {
-    fn entry_cost(price: u64, qty: u64, out: *mut u8, room: usize) -> u32;
     fn entry_hold_of(side: u32, price: u64, leaves: u64, out: *mut u8, room: usize) -> u32;
     fn entry_covers(
         side: u32,
@@ -35,10 +34,6 @@ unsafe extern "C" {
 
 // SAFETY, of each call below: every address and length are those of one live slice, and no two
 // of a call overlap.
-
-pub fn cost(price: u64, qty: u64, out: &mut [u8]) -> u32 {
-    unsafe { entry_cost(price, qty, out.as_mut_ptr(), out.len()) }
-}
 
 pub fn hold_of(side: u32, price: u64, leaves: u64, out: &mut [u8]) -> u32 {
     unsafe { entry_hold_of(side, price, leaves, out.as_mut_ptr(), out.len()) }

@@ -107,6 +107,6 @@ pub fn write(file: &str) -> Result<(), String> {
         byte_rows::<Store>(8, 1, 40),
     ]
     .concat();
-    println!("{} rows", rows.len());
+    println!("{:22} {:8} rows", "sample", rows.len());
     std::fs::write(file, to_bytes(rows.as_flattened())).map_err(|error| format!("{file}: {error}"))
 }

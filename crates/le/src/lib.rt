@@ -110,7 +110,7 @@ pub fn put(m: &mut [u8], o: usize, width: usize, v: u64)
     put_u8(m, o, v as u8);
 }
 
-fn is_width(width: usize) -> bool
+pub fn is_width(width: usize) -> bool
     ensures { λ r. ⌜ r ≡ isWidth width ⌝ }
 {
     if width == 8 {
@@ -137,7 +137,7 @@ fn is_inside(len: usize, o: usize, width: usize) -> bool
     is_width(width)
 }
 
-fn is_small(width: usize, v: u64) -> bool
+pub fn is_small(width: usize, v: u64) -> bool
     requires { ⌜ isWidth width ≡ true ⌝ }
     ensures { λ r. ⌜ r ≡ ltb v (256 ^ width) ⌝ }
 {
