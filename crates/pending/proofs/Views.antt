@@ -12,7 +12,7 @@ use Rattle.gateway.specs.Rest.{Rest}
 use Rattle.store.specs.Cells as C
 use Rattle.store.specs.View.{Row, Store, listed, word, write, gateway}
 use Rattle.store.proofs.Listed.{listed-ext, listed-more}
-use Rattle.pending.specs.Pending.{notice}
+use Rattle.pending.specs.Pending.{notice, trade, published, take-off, land}
 
 -- a row behind the others: the first n as they were, and x
 pub listed-push : {A : Type 0} (f g : ℕ → A) (n : ℕ) (x : A) → ((j : ℕ) → j < n → g j ≡ f j) → g n ≡ x → listed g (n + 1) ≡ listed f n ++ (x ∷ [])
