@@ -44,11 +44,11 @@ pub same-write : (s t : Store) (b i k v : ℕ) → Same s t → Same (write b i 
 same-write s t b i k v p d j l c = ap (λ n. cond (eqb d b && (eqb j i && eqb l k)) v n) (p d j l c)
 
 -- what a store leaves, after stores that left s
-pub then-set : {xs ys : List ℕ} {s : Store} {b i k v : ℕ} → Is xs s → Cell b i k → v < 2 ^ 64 → Set xs ys b i k v → Is ys (write b i k v s)
-then-set {xs} {ys} {s} {b} {i} {k} {v} h c f e =
+pub then-set : {xs ys : List ℕ} {s : Store} {b i k v : ℕ} → Is xs s → Cell b i k → Set xs ys b i k v → Is ys (write b i k v s)
+then-set {xs} {ys} {s} {b} {i} {k} {v} h c e =
     record {
       holds = e .holds;
-      same = λ d j l q. ap (λ zs. cell zs d j l) (e .exact) ∙ stored xs v c (h .holds) f d j l q ∙ same-write (cell xs) s b i k v (h .same) d j l q;
+      same = λ d j l q. ap (λ zs. cell zs d j l) (e .exact) ∙ stored xs v c (h .holds) (e .fits) d j l q ∙ same-write (cell xs) s b i k v (h .same) d j l q;
     }
 
 pub is-itself : {xs : List ℕ} → Holds xs → Is xs (cell xs)

@@ -1,5 +1,5 @@
 -- The layout of the lent state: blocks of rows of 64-bit cells, one behind the other. docs/STATE.md says what each cell holds.
-use Prim.Native.Nat.{ℕ, _+_, _*_, _≤_, _<_}
+use Prim.Native.Nat.{ℕ, _+_, _*_, _^_, _≤_, _<_}
 use mathlib.Core.Path.{_≡_}
 use mathlib.Core.List.{List, [], _∷_}
 use lib.ListN.{length, getD}
@@ -56,4 +56,5 @@ store xs b i k v = put 8 xs (8 * spot b i k) v
 -- ys is xs with v in that cell, and holds a state
 pub record Set (xs ys : List ℕ) (b i k v : ℕ) : Type 0 where
   pub holds : Holds ys
+  pub fits : v < 2 ^ 64
   pub exact : ys ≡ store xs b i k v

@@ -1,4 +1,5 @@
-use Rattle.pending.proofs.Laws.{laws}
+use native.Mathlib.Omega.{arith}
+use Rattle.pending.proofs.Laws.{land-is}
 use borrow.Author.Needs.{needs}
 use Rattle.pending.proofs.land.Statement.{statement}
 use Rattle.pending.proofs.land.Tie as tie
@@ -29,7 +30,11 @@ same-length c = search needs
 
 -- src/lib.rt:90:1
 returns : tie.Need-returns
-returns c = search laws
+returns c =
+    let c₁ = c .before .before in
+    let g = c₁ .before .before in
+    let s = g .before .before .before in
+    land-is (s .pre .0) _ _ (g .get .ensures) (c₁ .set .ensures)
 
 pub land-spec : {M : Type 1} → statement M
 land-spec = tie.close (tie.spec get-requires add-set sub-set set-requires same-length returns)

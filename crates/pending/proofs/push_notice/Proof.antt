@@ -1,4 +1,5 @@
-use Rattle.pending.proofs.Laws.{laws}
+use native.Mathlib.Omega.{arith}
+use Rattle.pending.proofs.Laws.{notice-is}
 use borrow.Author.Needs.{needs}
 use Rattle.pending.proofs.push_notice.Statement.{statement}
 use Rattle.pending.proofs.push_notice.Tie as tie
@@ -29,7 +30,7 @@ same-length c = search needs
 
 -- src/lib.rt:11:1
 returns : tie.Need-returns
-returns c = search laws
+returns c = search (notice-is, arith)
 
 pub push-notice-spec : {M : Type 1} → statement M
 push-notice-spec =

@@ -1,4 +1,5 @@
-use Rattle.pending.proofs.Laws.{laws}
+use native.Mathlib.Omega.{arith}
+use Rattle.pending.proofs.Laws.{trade-is}
 use borrow.Author.Needs.{needs}
 use Rattle.pending.proofs.push_trade.Statement.{statement}
 use Rattle.pending.proofs.push_trade.Tie as tie
@@ -30,7 +31,7 @@ same-length c = search needs
 
 -- src/lib.rt:47:1
 returns : tie.Need-returns
-returns c = search laws
+returns c = search (trade-is, arith)
 
 pub push-trade-spec : {M : Type 1} → statement M
 push-trade-spec =

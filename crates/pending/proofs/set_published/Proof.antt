@@ -1,4 +1,5 @@
-use Rattle.pending.proofs.Laws.{laws}
+use native.Mathlib.Omega.{arith}
+use Rattle.pending.proofs.Laws.{published-is}
 use borrow.Author.Needs.{needs}
 use Rattle.pending.proofs.set_published.Statement.{statement}
 use Rattle.pending.proofs.set_published.Tie as tie
@@ -33,7 +34,7 @@ same-length c = search needs
 
 -- src/lib.rt:57:1
 returns : tie.Need-returns
-returns c = search laws
+returns c = search (published-is, arith)
 
 pub set-published-spec : {M : Type 1} → statement M
 set-published-spec =

@@ -1,4 +1,5 @@
-use Rattle.pending.proofs.Laws.{laws}
+use native.Mathlib.Omega.{arith}
+use Rattle.pending.proofs.Laws.{take-off-is}
 use borrow.Author.Needs.{needs}
 use Rattle.pending.proofs.take_off.Statement.{statement}
 use Rattle.pending.proofs.take_off.Tie as tie
@@ -42,7 +43,14 @@ same-length c = search needs
 
 -- src/lib.rt:78:1
 returns : tie.Need-returns
-returns c = search laws
+returns c =
+    let c₃ = c .before .before in
+    let c₂ = c₃ .before .before .before .before in
+    let c₁ = c₂ .before .before .before .before in
+    let g₂ = c₁ .before .before in
+    let g₁ = g₂ .before .before in
+    let s = g₁ .before .before .before in
+    take-off-is (s .pre .0) _ _ _ _ _ (g₁ .get .ensures) (g₂ .get2 .ensures) (c₁ .write-flight .ensures) (c₂ .set .ensures) (c₃ .set2 .ensures)
 
 pub take-off-spec : {M : Type 1} → statement M
 take-off-spec =

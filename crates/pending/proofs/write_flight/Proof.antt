@@ -1,4 +1,5 @@
-use Rattle.pending.proofs.Laws.{laws}
+use native.Mathlib.Omega.{arith}
+use Rattle.pending.proofs.Laws.{flight-row-is}
 use borrow.Author.Needs.{needs}
 use Rattle.pending.proofs.write_flight.Statement.{statement}
 use Rattle.pending.proofs.write_flight.Tie as tie
@@ -24,7 +25,7 @@ same-length c = search needs
 
 -- src/lib.rt:68:1
 returns : tie.Need-returns
-returns c = search laws
+returns c = search (flight-row-is, arith)
 
 pub write-flight-spec : {M : Type 1} → statement M
 write-flight-spec =

@@ -1,4 +1,5 @@
-use Rattle.pending.proofs.Laws.{laws}
+use native.Mathlib.Omega.{arith}
+use Rattle.pending.proofs.Laws.{trade-row-is}
 use borrow.Author.Needs.{needs}
 use Rattle.pending.proofs.write_trade.Statement.{statement}
 use Rattle.pending.proofs.write_trade.Tie as tie
@@ -32,7 +33,14 @@ same-length c = search needs
 
 -- src/lib.rt:35:1
 returns : tie.Need-returns
-returns c = search laws
+returns c =
+    let c₅ = c .before .before in
+    let c₄ = c₅ .before .before .before .before in
+    let c₃ = c₄ .before .before .before .before in
+    let c₂ = c₃ .before .before .before .before in
+    let c₁ = c₂ .before .before .before .before in
+    let s = c₁ .before .before .before in
+    trade-row-is (s .pre .0) (s .args .i) _ _ _ _ _ (s .pre .1) (c₁ .set .ensures) (c₂ .set2 .ensures) (c₃ .set3 .ensures) (c₄ .set4 .ensures) (c₅ .set5 .ensures)
 
 pub write-trade-spec : {M : Type 1} → statement M
 write-trade-spec =

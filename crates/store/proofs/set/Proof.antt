@@ -24,7 +24,7 @@ unfolding store
 returns c =
     let s = c .before .before .before .before .before .before in
     let e = c .before .before .put-u64 .ensures ∙ ap (λ (n : ℕ). put 8 (s .args .m .now) (8 * n) (s .args .v)) (c .before .before .before .spot-of .ensures .0) in
-    record { holds = rw e (rw (length-put 8 (s .args .m .now) _ _) (s .pre .0)); exact = e }
+    record { holds = rw e (rw (length-put 8 (s .args .m .now) _ _) (s .pre .0)); fits = search needs; exact = e }
 
 pub set-spec : {M : Type 1} → statement M
 set-spec = tie.close (tie.spec spot-of-requires mul-put-u64 put-u64-requires same-length returns)
