@@ -245,3 +245,7 @@ pub record Is (ys : List ℕ) (s : Store) : Type 0 where
 pub record Ready (xs : List ℕ) : Type 0 where
   pub holds : Holds xs
   pub bounds : Bounds (cell xs)
+
+-- nothing in any cell
+abbrev pub zeros : Store
+zeros b i k = 0

@@ -3,6 +3,7 @@ pub mod cells;
 
 ghost use mathlib.Core.Path.{_≡_};
 ghost use Prim.Native.Nat.{_<_};
+ghost use Rattle.store.specs.View.{Is, zeros};
 ghost use Rattle.store.specs.Layout.{blocks, cells, start, width, spot, cell, Cell, Holds, Set};
 
 pub const HEADER: usize = 0;
@@ -82,4 +83,16 @@ pub fn set(m: &mut [u8], b: usize, i: usize, k: usize, v: u64)
     ensures { λ r. ⌜ Set (now (m .entry)) (now (m .exit)) b i k v ⌝ }
 {
     le::put_u64(m, 8 * spot_of(b, i, k), v);
+}
+
+// Every cell 0: a gateway with no accounts and no orders.
+pub fn clear(m: &mut [u8])
+    requires { ⌜ Holds (now m) ⌝ }
+    ensures { λ r. ⌜ Is (now (m .exit)) zeros ⌝ }
+{
+    let mut i: usize = 0;
+    while i < 55328 {
+        le::put_u64(m, 8 * i, 0);
+        i += 1;
+    }
 }
