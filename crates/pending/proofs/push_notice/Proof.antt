@@ -3,32 +3,22 @@ use Rattle.pending.proofs.Laws.{notice-is}
 use borrow.Author.Needs.{needs}
 use Rattle.pending.proofs.push_notice.Statement.{statement}
 use Rattle.pending.proofs.push_notice.Tie as tie
-use Rattle.pending.proofs.push_notice.Reads as reads
-use Rattle.pending.proofs.push_notice.Lts as lts
-use Rattle.store.proofs.get.Reads as get-reads
-use Rattle.store.proofs.set.Reads as set-reads
 
--- src/lib.rt:15:9
 get-requires : tie.Need-get-requires
 get-requires c κs = search needs
 
--- src/lib.rt:16:5
 set-requires : tie.Need-set-requires
 set-requires c κs = search needs
 
--- src/lib.rt:23:57
 add-set : tie.Need-add-set
 add-set c = search needs
 
--- src/lib.rt:23:5
 set-requires-2 : tie.Need-set-requires-2
 set-requires-2 c κs = search needs
 
--- src/lib.rt:11:1
 same-length : tie.Need-same-length
 same-length c = search needs
 
--- src/lib.rt:11:1
 returns : tie.Need-returns
 returns c = search (notice-is, arith)
 

@@ -1,47 +1,32 @@
-use native.Mathlib.Omega.{arith}
 use Rattle.pending.proofs.Laws.{take-off-is}
 use borrow.Author.Needs.{needs}
 use Rattle.pending.proofs.take_off.Statement.{statement}
 use Rattle.pending.proofs.take_off.Tie as tie
-use Rattle.pending.proofs.take_off.Reads as reads
-use Rattle.pending.proofs.take_off.Lts as lts
-use Rattle.pending.proofs.write_flight.Reads as write-flight-reads
-use Rattle.store.proofs.get.Reads as get-reads
-use Rattle.store.proofs.set.Reads as set-reads
 
--- src/lib.rt:82:16
 get-requires : tie.Need-get-requires
 get-requires c κs = search needs
 
--- src/lib.rt:82:16
 add-next : tie.Need-add-next
 add-next c = search needs
 
--- src/lib.rt:83:9
 get-requires-2 : tie.Need-get-requires-2
 get-requires-2 c κs = search needs
 
--- src/lib.rt:84:5
 write-flight-requires : tie.Need-write-flight-requires
 write-flight-requires c κs = search needs
 
--- src/lib.rt:85:5
 set-requires : tie.Need-set-requires
 set-requires c κs = search needs
 
--- src/lib.rt:86:52
 add-set : tie.Need-add-set
 add-set c = search needs
 
--- src/lib.rt:86:5
 set-requires-2 : tie.Need-set-requires-2
 set-requires-2 c κs = search needs
 
--- src/lib.rt:78:1
 same-length : tie.Need-same-length
 same-length c = search needs
 
--- src/lib.rt:78:1
 returns : tie.Need-returns
 returns c =
     let c₃ = c .before .before in

@@ -3,27 +3,19 @@ use Rattle.pending.proofs.Laws.{flight-row-is}
 use borrow.Author.Needs.{needs}
 use Rattle.pending.proofs.write_flight.Statement.{statement}
 use Rattle.pending.proofs.write_flight.Tie as tie
-use Rattle.pending.proofs.write_flight.Reads as reads
-use Rattle.pending.proofs.write_flight.Lts as lts
-use Rattle.store.proofs.set.Reads as set-reads
 
--- src/lib.rt:72:5
 set-requires : tie.Need-set-requires
 set-requires c κs = search needs
 
--- src/lib.rt:73:5
 set-requires-2 : tie.Need-set-requires-2
 set-requires-2 c κs = search needs
 
--- src/lib.rt:74:5
 set-requires-3 : tie.Need-set-requires-3
 set-requires-3 c κs = search needs
 
--- src/lib.rt:68:1
 same-length : tie.Need-same-length
 same-length c = search needs
 
--- src/lib.rt:68:1
 returns : tie.Need-returns
 returns c = search (flight-row-is, arith)
 

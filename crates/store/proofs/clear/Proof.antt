@@ -35,9 +35,10 @@ loop-again : tie.Need-loop-again Inv-loop μ-loop
 loop-again c =
     let p = c .before .before in
     let l = p .before .before .before in
-    let e = p .put-u64 .ensures in
-    (omega arith,
-    rw e (length-put 8 (l .loop .m) (8 * l .loop .i) 0 ∙ l .loop .inv .1 .0, cleared-one (l .loop .m) (l .loop .i) (omega arith) (l .loop .inv .1 .1)))
+    let e = p .put-u64 .ensures in (
+      omega arith,
+      rw e (length-put 8 (l .loop .m) (8 * l .loop .i) 0 ∙ l .loop .inv .1 .0, cleared-one (l .loop .m) (l .loop .i) (omega arith) (l .loop .inv .1 .1)),
+    )
 
 same-length : tie.Need-same-length Inv-loop μ-loop
 same-length c = omega arith
