@@ -8,6 +8,7 @@ use lib.IntN.{ℤ}
 use lib.ListN.{length}
 use mir.Syntax.{w64}
 use mir.Val.{ofZ}
+use Rattle.gateway.specs.Limits.{too-short, outside, malformed}
 use Rattle.le.specs.Checked.{isWidth, loaded}
 use Rattle.le.specs.Le.{le, put}
 use Rattle.le.specs.Row.{span, puts}
@@ -30,18 +31,9 @@ pub data Answer : Type 0 where
   answer : ℕ → List ℕ → Answer
   answers : ℕ → List ℕ → List ℕ → Answer
 
--- document 01's codes
+-- accepted
 abbrev pub done : ℕ
 done = 0
-
-abbrev pub short : ℕ
-short = 6
-
-abbrev pub outside : ℕ
-outside = 7
-
-abbrev pub malformed : ℕ
-malformed = 11
 
 abbrev pub flag : Bool → ℕ
 flag true = 1
@@ -63,7 +55,7 @@ four = 8 ∷ 8 ∷ two
 
 -- words at the start of an output, if it has room
 abbrev pub write : List ℕ → List ℕ → List ℕ → Answer
-write ws vs out = cond (ltb (length out) (span ws)) (answer short out) (answer done (puts ws out 0 vs))
+write ws vs out = cond (ltb (length out) (span ws)) (answer too-short out) (answer done (puts ws out 0 vs))
 
 -- a wallet is four words
 abbrev pub wallet-in : List ℕ → Wallet
@@ -133,7 +125,7 @@ took t xs out = answers done (put-bucket (t .bucket) xs) (put 8 out 0 (flag (t .
 abbrev pub take : ℕ → ℕ → List ℕ → List ℕ → Answer
 take rate time xs out =
     cond (eqb (length xs) 16)
-    (cond (ltb (length out) 8) (answers short xs out) (took (take-token rate time (bucket-in xs)) xs out))
+    (cond (ltb (length out) 8) (answers too-short xs out) (took (take-token rate time (bucket-in xs)) xs out))
     (answers malformed xs out)
 
 abbrev pub write-loaded : Loaded → List ℕ → Answer
@@ -146,5 +138,5 @@ load width at xs out = write-loaded (loaded xs at width) out
 abbrev pub store : ℕ → ℕ → ℕ → List ℕ → Answer
 store width at v xs =
     cond (isWidth width)
-    (cond (ltb v (256 ^ width)) (cond (leb (at + width) (length xs)) (answer done (put width xs at v)) (answer short xs)) (answer outside xs))
+    (cond (ltb v (256 ^ width)) (cond (leb (at + width) (length xs)) (answer done (put width xs at v)) (answer too-short xs)) (answer outside xs))
     (answer malformed xs)
