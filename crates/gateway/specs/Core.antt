@@ -1,5 +1,5 @@
 -- The core: the ledger, the commands in flight and the accounts, which live calls and replay move alike; and the checks that replay makes.
-use Prim.Native.Nat.{ℕ, zero, suc, _+_}
+use Prim.Native.Nat.{ℕ, _+_}
 use mathlib.Core.Bool.{Bool, true, false, cond, not, _&&_, _||_}
 use mathlib.Core.Path.{_≡_}
 use mathlib.Core.Option.{Option, none, some}

@@ -1,13 +1,12 @@
 -- Delivering an event: whom it is reported to, which wallets it notices, and what it leaves to be published (`deliver` of exchange.rs).
-use Prim.Native.Nat.{ℕ, zero, suc, _+_}
-use mathlib.Core.Bool.{Bool, true, false, cond, not, _&&_, _||_}
-use mathlib.Core.Option.{Option, none, some}
+use Prim.Native.Nat.{ℕ, _+_}
+use mathlib.Core.Bool.{cond, not}
+use mathlib.Core.Option.{Option, none}
 use mathlib.Core.List.{List, [], _∷_, _++_}
 use lib.IntN.{ℤ, pos, _-ℤ_}
-use lib.ListN.{length, getD}
-use lib.Dec.{eqb, leb}
+use lib.ListN.{length}
+use lib.Dec.{leb}
 use Rattle.orderbook.specs.Types.{oppositeOf}
-use Rattle.orderbook.specs.declared.MaybePrice.{MaybePrice}
 use Rattle.orderbook.specs.declared.MaybePrice.the-variants.{Some}
 use Rattle.orderbook.specs.declared.Event.{Event}
 use Rattle.orderbook.specs.declared.Event.the-variants.{Accepted, Rejected, Trade, Rested, Replenished, Cancelled, Modified, StopPlaced, Triggered, MassCancelled, PhaseChanged}
@@ -15,13 +14,12 @@ use Rattle.protocol.specs.declared.Report.{Report}
 use Rattle.protocol.specs.declared.ReportKind.{ReportKind}
 use Rattle.protocol.specs.declared.ReportKind.the-variants as Kind
 use Rattle.protocol.specs.declared.TradeTick.{TradeTick}
-use Rattle.accounts.specs.declared.Funds.{Funds}
 use Rattle.gateway.specs.Basics.{option, is-some}
 use Rattle.gateway.specs.Limits.{most-trades, most-notices, full, outside, inconsistent}
-use Rattle.gateway.specs.Ledger.{Order, Ledger, Change, mark-by, fill, set-leaves, reprice, retire, change, changes, Item, event, find, wallet-of, hold, order-hold}
+use Rattle.gateway.specs.Ledger.{Order, Ledger, Change, mark-by, fill, set-leaves, reprice, retire, change, changes, event, find, wallet-of, hold, order-hold}
 use Rattle.gateway.specs.Core.{Tests, Flight, Core, system, drop-below, event-tests, fits-after}
-use Rattle.gateway.specs.Depth.{Depth, apply, depth-agrees, levels-fit, depth-few}
-use Rattle.gateway.specs.Rest.{Session, Mail, Rest, with-delivered, pending, session-at, session-of, logged-in, report, report-to, each-session}
+use Rattle.gateway.specs.Depth.{apply, depth-agrees, levels-fit, depth-few}
+use Rattle.gateway.specs.Rest.{Mail, Rest, with-delivered, pending, session-at, session-of, logged-in, report, report-to, each-session}
 use Rattle.gateway.specs.Entry.{Plan, records, is-zero}
 
 -- ---- reports

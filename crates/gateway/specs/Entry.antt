@@ -1,9 +1,9 @@
 -- Sessions and entry: what a received message does (`receive`, `login`, `enter`, `subscribe`, `publish` of exchange.rs).
-use Prim.Native.Nat.{ℕ, zero, suc, _+_, _-_}
-use mathlib.Core.Bool.{Bool, true, false, cond, not, _&&_, _||_}
+use Prim.Native.Nat.{ℕ, _+_, _-_}
+use mathlib.Core.Bool.{Bool, false, cond, not, _&&_}
 use mathlib.Core.Option.{Option, none, some, Option·map}
 use mathlib.Core.List.{List, [], _∷_, _++_, map}
-use lib.IntN.{ℤ, pos, _-ℤ_}
+use lib.IntN.{ℤ, pos}
 use lib.Signed.{leZ}
 use lib.ListN.{length, getD, set}
 use lib.Dec.{eqb, ltb, leb}
@@ -26,23 +26,22 @@ use Rattle.protocol.specs.declared.TradeTick.{TradeTick}
 use Rattle.protocol.specs.declared.ReportKind.the-variants.{Rested}
 use Rattle.protocol.specs.declared.LoginError.{LoginError}
 use Rattle.protocol.specs.declared.LoginError.the-variants.{UnsupportedVersion, BadCredentials, AlreadyLoggedIn, AlreadyInSession}
-use Rattle.protocol.specs.declared.LogoutReason.{LogoutReason}
 use Rattle.protocol.specs.declared.LogoutReason.the-variants.{Requested, ProtocolError}
 use Rattle.protocol.specs.declared.RejectCode.{RejectCode}
 use Rattle.protocol.specs.declared.RejectCode.the-variants.{TooManyOrders, Throttled, Unavailable, InsufficientFunds, NotAllowed, OffMarket}
 use Rattle.accounts.specs.declared.Account.{Account}
 use Rattle.accounts.specs.declared.Funds.{Funds}
 use Rattle.gateway.specs.Basics.{option, each, is-some}
-use Rattle.gateway.specs.Limits.{word, most-orders, most-in-flight, most-in-batch, most-notices}
+use Rattle.gateway.specs.Limits.{word, protocol-version, most-orders, most-in-flight, most-in-batch, most-notices}
 use Rattle.wallet.specs.Wallet as W
 use Rattle.risk.specs.declared.Bucket.{Bucket}
 use Rattle.risk.specs.declared.Taken.{Taken}
 use Rattle.risk.specs.Collar.{near-market}
 use Rattle.risk.specs.Throttle as Throttle
-use Rattle.gateway.specs.Ledger.{Order, Ledger, New, Item, command, price-option, hold, order-of, held, open-of}
+use Rattle.gateway.specs.Ledger.{Order, Item, command, price-option, hold, held, open-of}
 use Rattle.gateway.specs.Core.{Tests, Origin, Core, account-at, fits-after}
-use Rattle.gateway.specs.Depth.{Depth, Level, Key, level, levels}
-use Rattle.gateway.specs.Rest.{Session, Mail, send, close, Rest, with-sessions, with-buckets, with-batch, with-published, pending, session-at, is-open, is-present, is-subscribed, account-of, session-of, update-session, set-received, set-account, set-closing, set-subscribed, each-session}
+use Rattle.gateway.specs.Depth.{Depth, Level, level, levels}
+use Rattle.gateway.specs.Rest.{Mail, send, close, Rest, with-buckets, with-batch, with-published, pending, session-at, is-open, is-present, is-subscribed, account-of, session-of, update-session, set-received, set-account, set-closing, set-subscribed, each-session}
 
 -- ---- plans
 
@@ -93,7 +92,7 @@ token-is t a = option false (λ x. eqb (x .token) t) a
 
 abbrev pub login-tests : ℕ → ℕ → ℕ → Core → Rest → Tests LoginError
 login-tests version a token c r =
-    (UnsupportedVersion, eqb version 1)
+    (UnsupportedVersion, eqb version protocol-version)
     ∷ (BadCredentials, token-is token (account-at a c))
     ∷ (AlreadyLoggedIn, not (is-some (session-of a r)))
     ∷ []

@@ -1,8 +1,7 @@
 -- The numbers of a value fit their Rust types: the calls' arguments are such values.
 use Prim.Native.Nat.{ℕ, _<_}
 use mathlib.Core.Path.{_≡_}
-use mathlib.Core.Bool.{Bool, true, false}
-use mathlib.Core.Option.{Option, none, some}
+use mathlib.Core.Bool.{true}
 use mathlib.Core.List.{List, [], _∷_}
 use lib.IntN.{ℤ}
 use Rattle.orderbook.specs.declared.MaybePrice.{MaybePrice}
@@ -21,7 +20,7 @@ use Rattle.accounts.specs.declared.Account.{Account}
 use Rattle.accounts.specs.declared.Funds.{Funds}
 use Rattle.accounts.specs.declared.MaybeFunds as F
 use Rattle.gateway.specs.Limits.{word}
-use Rattle.gateway.specs.Ledger.{Item, account, command, event, fits}
+use Rattle.gateway.specs.Ledger.{command, event, fits}
 use Rattle.gateway.specs.Calls.{Call, add-account, connect, set-paper-collar, wallet, last-seq, depth-levels, receive-from, tick, publish, end-session, shut-down, disconnect, detach, take-batch, deliver-event, replay-command, replay-event, finish, checkpoint}
 
 abbrev pub Unsigned : ℕ → Type 0

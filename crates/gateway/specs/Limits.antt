@@ -1,5 +1,5 @@
 -- The limits and the refusal codes of document 01, each once.
-use Prim.Native.Nat.{ℕ, _-_, _^_}
+use Prim.Native.Nat.{ℕ, _-_}
 
 abbrev pub owner-slots : ℕ
 owner-slots = 256
@@ -31,6 +31,10 @@ most-changed = 1024
 -- one past the greatest number of 64 bits
 abbrev pub word : ℕ
 word = 18446744073709551616
+
+-- the protocol version that a login names (VERSION)
+abbrev pub protocol-version : ℕ
+protocol-version = 1
 
 -- refusals
 abbrev pub out-of-range : ℕ

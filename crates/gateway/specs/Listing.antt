@@ -1,10 +1,10 @@
 -- A book listing: resting orders and stops, in any order. Set-up takes the live orders and the depth from it, `finish` compares and takes the depth.
-use Prim.Native.Nat.{ℕ, zero, suc}
-use mathlib.Core.Bool.{Bool, true, false, cond, not, _&&_}
+use Prim.Native.Nat.{ℕ, suc}
+use mathlib.Core.Bool.{Bool, true, false, cond, _&&_}
 use mathlib.Core.Option.{Option, none, some}
-use mathlib.Core.List.{List, [], _∷_, _++_}
+use mathlib.Core.List.{List, [], _∷_}
 use lib.ListN.{length}
-use lib.Dec.{eqb, ltb, leb}
+use lib.Dec.{eqb}
 use Rattle.orderbook.specs.declared.MaybePrice.the-variants.{Some}
 use Rattle.orderbook.specs.declared.Listed.{Listed}
 use Rattle.orderbook.specs.declared.Listed.the-variants as L

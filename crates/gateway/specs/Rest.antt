@@ -1,9 +1,9 @@
 -- The rest of the gateway: what no replay needs. Sessions, buckets, the batch, the depth and what waits to be published.
-use Prim.Native.Nat.{ℕ, zero, suc, _+_, _-_}
+use Prim.Native.Nat.{ℕ, suc, _+_, _-_}
 use mathlib.Core.Bool.{Bool, true, false, cond, not, _&&_}
 use mathlib.Core.Option.{Option, none, some, Option·map}
 use mathlib.Core.List.{List, [], _∷_, _++_}
-use lib.ListN.{length, getD, set}
+use lib.ListN.{getD, set}
 use lib.Dec.{eqb}
 use Rattle.orderbook.specs.declared.Command.{Command}
 use Rattle.protocol.specs.declared.Outbound.{Outbound}

@@ -1,6 +1,6 @@
 -- Restart: the record of a list of calls, its replay, the ledger of a checkpoint's bytes and a record, and what demand 3 claims.
-use Prim.Native.Nat.{ℕ, zero, suc, _<_}
-use mathlib.Core.Bool.{Bool, true, false, cond}
+use Prim.Native.Nat.{ℕ, _<_}
+use mathlib.Core.Bool.{cond}
 use mathlib.Core.Path.{_≡_}
 use mathlib.Core.Option.{Option, none, some, Option·map}
 use mathlib.Core.List.{List, [], _∷_, _++_, map}
@@ -10,10 +10,10 @@ use Rattle.accounts.specs.declared.Timing.{Timing}
 use Rattle.gateway.specs.Ledger.{Order, Ledger, Item, account, command, event, order-hold, open-of, replayed}
 use Rattle.gateway.specs.Core.{Core}
 use Rattle.gateway.specs.Entry.{balance}
-use Rattle.gateway.specs.Saved.{Saved, opening}
+use Rattle.gateway.specs.Saved.{opening}
 use Rattle.gateway.specs.Bytes.{decode}
 use Rattle.gateway.specs.Calls.{Gateway, Call, add-account, replay-command, replay-event, Outcome, refused, done, call}
-use Rattle.gateway.specs.Start.{Started, not-started, started, restore}
+use Rattle.gateway.specs.Start.{started, restore}
 
 -- a refused call changes nothing and adds nothing to the record
 abbrev pub next-of : Gateway → Outcome → Gateway

@@ -1,9 +1,9 @@
 -- Set-up and restore: the two ways in which a list of calls begins.
 use Prim.Native.Nat.{ℕ, zero, suc}
-use mathlib.Core.Bool.{Bool, true, false, cond, not, _&&_}
+use mathlib.Core.Bool.{Bool, true, cond, not, _&&_}
 use mathlib.Core.Option.{Option, none, some, Option·getD, Option·map}
 use mathlib.Core.List.{List, [], _∷_, _++_}
-use lib.ListN.{length, getD, set, replicate}
+use lib.ListN.{length, set, replicate}
 use lib.Dec.{eqb, ltb, leb}
 use Rattle.orderbook.specs.declared.MaybePrice.the-variants.{None}
 use Rattle.orderbook.specs.declared.Listed.{Listed}
@@ -15,9 +15,8 @@ use Rattle.gateway.specs.Limits.{owner-slots, session-slots, most-orders
 use Rattle.risk.specs.declared.Bucket.{Bucket}
 use Rattle.risk.specs.Throttle as Throttle
 use Rattle.gateway.specs.Ledger.{Order, Ledger, funds-of, order-hold, wallet-of, holds-fit}
-use Rattle.gateway.specs.Core.{Tests, Core}
+use Rattle.gateway.specs.Core.{Tests}
 use Rattle.gateway.specs.Depth.{Depth, levels-fit, levels-few}
-use Rattle.gateway.specs.Rest.{Rest}
 use Rattle.gateway.specs.Entry.{is-zero}
 use Rattle.gateway.specs.Calls.{Gateway}
 use Rattle.gateway.specs.Listing.{listed-number, listed-owner, listed-orders, listed-depth, listed-times}

@@ -1,10 +1,9 @@
 -- The gateway of the definitions that the cells hold. It forgets the caches: holds, held totals, open counts, levels and hints.
 use Prim.Native.Nat.{ℕ, zero, suc, _+_, _-_, _%_, _≤_}
 use mathlib.Core.Path.{_≡_}
-use mathlib.Core.Bool.{Bool, true, false, cond, not, _&&_}
+use mathlib.Core.Bool.{Bool, cond, not, _&&_}
 use mathlib.Core.Option.{Option, none, some}
 use mathlib.Core.List.{List, [], _∷_, _++_, map}
-use lib.IntN.{ℤ}
 use lib.Dec.{eqb}
 use Rattle.orderbook.specs.declared.Side.{Side}
 use Rattle.orderbook.specs.declared.Side.the-variants.{Buy, Sell}
@@ -18,15 +17,14 @@ use Rattle.protocol.specs.declared.TradeTick.{TradeTick}
 use Rattle.accounts.specs.declared.Account.{Account}
 use Rattle.accounts.specs.declared.Funds.{Funds}
 use Rattle.accounts.specs.declared.MaybeFunds as F
-use Rattle.accounts.specs.declared.Timing.{Timing}
 use Rattle.risk.specs.declared.Bucket.{Bucket}
 use Rattle.words.specs.Words.{int, half, _⊖_}
 use Rattle.table.specs.Live.{live}
 use Rattle.gateway.specs.Limits.{owner-slots, session-slots, most-in-flight, most-in-batch, most-levels, most-trades, most-notices, most-changed}
 use Rattle.gateway.specs.Ledger.{Order, Ledger}
-use Rattle.gateway.specs.Core.{Flight, Core}
+use Rattle.gateway.specs.Core.{Flight}
 use Rattle.gateway.specs.Depth.{Resting, Depth, Level, Key}
-use Rattle.gateway.specs.Rest.{Session, Rest}
+use Rattle.gateway.specs.Rest.{Session}
 use Rattle.gateway.specs.Calls.{Gateway}
 use Rattle.store.specs.Layout.{Cell, Holds, cell}
 use Rattle.store.specs.Cells as C
