@@ -1,45 +1,44 @@
 -- What set-up and restore accept keeps the invariant, so that a list of calls may start with either. Assumes nothing.
 use Prim.Native.Nat.{ℕ, zero, suc, _+_, _<_, _≤_}
-use mathlib.Core.Bool.{Bool, true, false, cond, not, _&&_, and-eq-true-iff}
+use mathlib.Core.Bool.{true, cond, not, _&&_, and-eq-true-iff}
 use mathlib.Core.Path.{_≡_, refl, ap, sym, _∙_, subst}
-use mathlib.Core.Option.{Option, none, some, Option·getD, Option·map}
-use mathlib.Core.List.{List, [], _∷_, _++_}
+use mathlib.Core.Option.{Option, none, some}
+use mathlib.Core.List.{List, [], _∷_}
 use native.Mathlib.Omega.{arith}
-use borrow.Author.Tests.{ltb-true, leb-true, le-leb, eqb-true, eq-eqb}
+use borrow.Author.Tests.{ltb-true, leb-true, eqb-true, eq-eqb}
 use lib.ListN.{length, getD, set, replicate, length-set, length-append, length-replicate}
-use lib.Dec.{eqb, ltb, leb}
+use lib.Dec.{eqb, ltb}
 use Rattle.orderbook.specs.declared.MaybePrice.the-variants.{None}
 use Rattle.orderbook.specs.declared.Listed.{Listed}
 use Rattle.orderbook.specs.declared.Listed.the-variants as L
-use Rattle.protocol.specs.declared.TradeTick.{TradeTick}
 use Rattle.accounts.specs.declared.Account.{Account}
 use Rattle.accounts.specs.declared.Funds.{Funds}
 use Rattle.accounts.specs.declared.MaybeFunds as F
 use Rattle.accounts.specs.declared.Timing.{Timing}
 use Rattle.table.specs.Live.{Each}
 use Rattle.gateway.specs.Basics.{option, each, is-some}
-use Rattle.gateway.specs.Limits.{word, owner-slots, session-slots, most-orders, most-notices, outside, malformed}
+use Rattle.gateway.specs.Limits.{owner-slots, session-slots, most-orders, outside, malformed}
 use Rattle.gateway.specs.Ledger.{Order, Ledger, number-of, funds-of, wallet-of, order-hold, holds-fit}
 use Rattle.gateway.specs.Entry.{is-zero}
 use Rattle.gateway.specs.Saved.{Saved, saved-from, slots, contents}
 use Rattle.gateway.specs.Bytes.{decode}
 use Rattle.gateway.specs.Core.{Tests, Pass, Core}
 use Rattle.gateway.specs.Depth.{Depth, depth-few, levels-few, levels-fit}
-use Rattle.gateway.specs.Rest.{Session, Rest, account-of}
+use Rattle.gateway.specs.Rest.{Session}
 use Rattle.gateway.specs.Calls.{Gateway}
 use Rattle.gateway.specs.Listing.{listed-number, listed-owner, live, listed-orders, listed-depth, listed-times}
-use Rattle.gateway.specs.Start.{Started, not-started, started, start-unless, entered, accounts-of, all-below, bucket-of, by-slot, funds-in, begin, owners-of, listed-tests, listed-ledger, entry-tests, total-tests, set-up-tests, set-up}
+use Rattle.gateway.specs.Start.{Started, not-started, started, start-unless, entered, accounts-of, bucket-of, by-slot, funds-in, begin, owners-of, listed-tests, listed-ledger, entry-tests, total-tests, set-up-tests, set-up}
 use Rattle.gateway.specs.Start.{restored-wallet, restored-wallets, restored-ledger, order-tests, saved-tests, restore-tests, hold-notice-of, empty-depth, restore-saved, restore}
-use Rattle.gateway.specs.Fits.{Unsigned, FundsFit, MaybeFundsFit, AccountFits, AccountsFit, ListedFits, ListingFits, Bytes}
+use Rattle.gateway.specs.Fits.{Unsigned, MaybeFundsFit, AccountsFit, ListedFits, ListingFits, Bytes}
 use Rattle.gateway.proofs.Base.{split}
 use Rattle.gateway.proofs.Sorted.{Rises, rises-from, each-insert}
 use Rattle.gateway.proofs.Bytes.{SavedWallet, SavedOrder, SavedFits, decode-fits}
-use Rattle.gateway.proofs.Invariant.{CoreOk, Rise, All, Keyed, In, Owned, OrderFits, WalletFits, WalletsFit, LedgerFits}
+use Rattle.gateway.proofs.Invariant.{CoreOk, All, Keyed, In, Owned, OrderFits, WalletFits, WalletsFit}
 use Rattle.gateway.proofs.Sessions.{SessionsOk, at, Known}
 use Rattle.gateway.proofs.Feed.{FeedOk}
 use Rattle.gateway.proofs.Listing.{distinct, live-number, live-rises, resting-rises, live-length, each-listed}
 use Rattle.gateway.proofs.Calls.{RestOk, listed-few, pass-append}
-use Rattle.gateway.proofs.Restore.{Accounts, nothing-saved, by-slot-at, by-slot-length, by-slot-owned}
+use Rattle.gateway.proofs.Restore.{Accounts, nothing-saved, by-slot-length, by-slot-owned}
 
 -- the whole gateway's invariant
 pub record Ok (g : Gateway) : Type 0 where

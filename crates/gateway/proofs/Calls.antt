@@ -1,6 +1,6 @@
 -- Every call's plan is good: an item that it records passes replay's checks, and the rest keeps its invariant. Assumes nothing.
 use Prim.Native.Nat.{ℕ, zero, suc, _+_, _-_, _<_, _≤_}
-use mathlib.Core.Bool.{Bool, true, false, cond, not, _&&_, _||_, and-eq-true-iff}
+use mathlib.Core.Bool.{Bool, true, false, cond, not, _||_, and-eq-true-iff}
 use mathlib.Core.Path.{_≡_, refl, ap, sym, _∙_, subst}
 use mathlib.Core.Option.{Option, none, some, Option·map}
 use mathlib.Core.List.{List, [], _∷_, _++_, append-nil}
@@ -8,10 +8,10 @@ use native.Mathlib.Omega.{arith}
 use borrow.Author.Tests.{ltb-true, lt-ltb, leb-true, le-leb, eq-eqb, eqb-true}
 use lib.ListN.{length, getD, set, length-set, length-append}
 use lib.Seq.{getD-set-same}
-use lib.Dec.{eqb, ltb, leb}
+use lib.Dec.{ltb, leb}
 use Rattle.orderbook.specs.declared.Side.{Side}
 use Rattle.orderbook.specs.declared.Command.{Command}
-use Rattle.orderbook.specs.declared.Command.the-variants.{Limit, Market, Cancel, Modify, Stop, CancelAll, SetPhase}
+use Rattle.orderbook.specs.declared.Command.the-variants.{Limit, Market, Cancel, Modify, Stop, CancelAll}
 use Rattle.orderbook.specs.declared.Event.{Event}
 use Rattle.orderbook.specs.declared.Listed.{Listed}
 use Rattle.protocol.specs.declared.Inbound.{Inbound}
@@ -19,26 +19,25 @@ use Rattle.protocol.specs.declared.Inbound.the-variants as In
 use Rattle.protocol.specs.declared.NewOrder.{NewOrder}
 use Rattle.protocol.specs.declared.OrderKind.{OrderKind}
 use Rattle.protocol.specs.declared.OrderKind.the-variants as Kind
-use Rattle.protocol.specs.declared.Outbound.{Outbound}
 use Rattle.protocol.specs.declared.Outbound.the-variants as Out
 use Rattle.protocol.specs.declared.RejectCode.{RejectCode}
-use Rattle.protocol.specs.declared.RejectCode.the-variants.{Throttled, Unavailable, NotAllowed}
+use Rattle.protocol.specs.declared.RejectCode.the-variants.{Unavailable, NotAllowed}
 use Rattle.accounts.specs.declared.Account.{Account}
-use Rattle.gateway.specs.Basics.{option, is-some, is-empty}
-use Rattle.gateway.specs.Limits.{word, owner-slots, session-slots, most-orders, most-in-flight, most-in-batch, most-levels, most-trades, most-notices, sequence, full, too-short, bad-session, not-quiet}
-use Rattle.gateway.specs.Ledger.{Ledger, Item, account, command, event, order-of, owner-of, placed, step, wallets-fit, holds-fit}
-use Rattle.gateway.specs.Core.{Tests, Pass, Origin, system, Flight, Core, account-at, drop-below, is-first, in-flight, first-places, places, own-number, owner-below, numbers-agree, names-below, fits-after, event-tests, tests}
-use Rattle.gateway.specs.Depth.{Depth, depth-agrees, depth-few, levels-few, levels-fit}
-use Rattle.gateway.specs.Rest.{Session, Mail, send, close, Rest, at-time, with-sessions, with-buckets, with-batch, with-delivered, session-at, account-of, is-present, session-of, update-session, set-received, set-account, set-closing, set-subscribed, stamped}
-use Rattle.gateway.specs.Entry.{Plan, refuse, quiet, records, unless, sends, wallet-at, ended, token-is, login-tests, logged-in, greet, reject, next, can-number, queued, numbered, command-of, paper-tests, new-notice, new-tests, noticing, enter-new, enter-other, taken, with-token, published, subscribe, hear, receive}
-use Rattle.gateway.specs.Deliver.{rest-after, feed-tests, deliver-tests, deliver}
-use Rattle.gateway.specs.Listing.{listing-agrees, listed-depth}
+use Rattle.gateway.specs.Basics.{option, is-some}
+use Rattle.gateway.specs.Limits.{word, owner-slots, most-orders, most-in-flight, most-in-batch, most-trades, most-notices, full}
+use Rattle.gateway.specs.Ledger.{account, command, event, order-of, owner-of, placed, step, wallets-fit, holds-fit}
+use Rattle.gateway.specs.Core.{Tests, Pass, system, Flight, Core, account-at, drop-below, is-first, places, own-number, owner-below, fits-after, event-tests, tests}
+use Rattle.gateway.specs.Depth.{depth-few, levels-few}
+use Rattle.gateway.specs.Rest.{Session, Mail, send, close, Rest, at-time, with-sessions, with-buckets, with-delivered, session-at, account-of, is-present, session-of, update-session, set-received, set-account, set-closing, set-subscribed, stamped}
+use Rattle.gateway.specs.Entry.{Plan, refuse, quiet, records, unless, sends, wallet-at, ended, token-is, login-tests, logged-in, greet, reject, next, can-number, queued, numbered, command-of, paper-tests, new-notice, new-tests, noticing, enter-new, enter-other, taken, with-token, published, hear, receive}
+use Rattle.gateway.specs.Deliver.{feed-tests, deliver-tests, deliver}
+use Rattle.gateway.specs.Listing.{listed-depth}
 use Rattle.gateway.specs.Calls.{Call, add-account, connect, set-paper-collar, wallet, last-seq, depth-levels, receive-from, tick, publish, end-session, shut-down, disconnect, detach, take-batch, deliver-event, replay-command, replay-event, finish, checkpoint}
-use Rattle.gateway.specs.Calls.{mail-of, within, ticked, all-ended, is-idle, close-where, fresh-session, without-session, gone, joined, replay-tests, finished, finish-tests, plan}
-use Rattle.gateway.specs.Fits.{Unsigned, Signed, PriceFits, AccountFits, CommandFits, EventFits, KindFits, InboundFits, CallFits}
+use Rattle.gateway.specs.Calls.{within, ticked, all-ended, is-idle, fresh-session, without-session, gone, joined, replay-tests, finished, finish-tests, plan}
+use Rattle.gateway.specs.Fits.{Unsigned, CommandFits, EventFits, KindFits, InboundFits, CallFits}
 use Rattle.gateway.proofs.Base.{split}
 use Rattle.gateway.proofs.Invariant.{CoreOk, Runs, runs-below, ItemFits}
-use Rattle.gateway.proofs.Sessions.{SessionsOk, Known, at, Alike, alike-ok, set-alike, update-alike, closed-alike, stamped-alike, emptied-ok, nobody, taken-ok}
+use Rattle.gateway.proofs.Sessions.{SessionsOk, Known, Alike, alike-ok, set-alike, update-alike, closed-alike, stamped-alike, emptied-ok, nobody, taken-ok}
 use Rattle.gateway.proofs.Feed.{FeedOk, apply-rises, published-ok}
 use Rattle.gateway.proofs.Listing.{agrees-distinct, resting-rises, resting-length}
 

@@ -1,10 +1,9 @@
 -- Short lists of calls with the outcome of each, computed by the checker: one table, one proof. Assumes nothing.
 use Prim.Native.Nat.{ℕ, _^_}
-use mathlib.Core.Bool.{Bool, true, false}
 use mathlib.Core.Path.{_≡_, refl}
-use mathlib.Core.Option.{Option, none, some}
-use mathlib.Core.List.{List, [], _∷_, _++_, map}
-use lib.IntN.{ℤ, pos, negsuc}
+use mathlib.Core.Option.{none, some}
+use mathlib.Core.List.{List, [], _∷_, _++_}
+use lib.IntN.{ℤ, pos}
 use Rattle.orderbook.specs.declared.Side.{Side}
 use Rattle.orderbook.specs.declared.Side.the-variants.{Buy, Sell}
 use Rattle.orderbook.specs.declared.MaybePrice.the-variants.{None, Some}
@@ -29,7 +28,7 @@ use Rattle.protocol.specs.declared.RejectCode.the-variants as Reject
 use Rattle.accounts.specs.declared.Account.{Account}
 use Rattle.accounts.specs.declared.MaybeFunds as F
 use Rattle.accounts.specs.declared.Timing.{Timing}
-use Rattle.gateway.specs.Ledger.{Item, account, command, event, order-of, owner-of, changes, pay, paper, change, step, hold, fits, holds-fit}
+use Rattle.gateway.specs.Ledger.{account, order-of, owner-of, changes, pay, paper, change, step, hold, fits, holds-fit}
 use Rattle.gateway.specs.Bytes.{well-formed, encode, decode}
 use Rattle.gateway.specs.Core.{own-number, owner-below, numbers-agree, names-below, tests}
 use Rattle.gateway.specs.Deliver.{reports, tick-of}
@@ -43,7 +42,7 @@ use Rattle.risk.specs.Throttle.{filled}
 use Rattle.risk.specs.Meter.{green}
 use Rattle.gateway.specs.Rest.{Mail, send, close}
 use Rattle.gateway.specs.Entry.{Answer, nothing, account-was, wallet-is, number-is, levels-are, commands, bytes, unless, greet, hear, receive}
-use Rattle.gateway.specs.Calls.{Gateway, Call, add-account, connect, set-paper-collar, wallet, last-seq, depth-levels, receive-from, tick, publish, end-session, shut-down, disconnect, detach, take-batch, deliver-event, replay-command, replay-event, finish, checkpoint, Outcome, refused, done, call, within, plan}
+use Rattle.gateway.specs.Calls.{Gateway, Call, add-account, connect, set-paper-collar, wallet, last-seq, depth-levels, receive-from, tick, publish, shut-down, disconnect, detach, take-batch, deliver-event, replay-command, replay-event, finish, checkpoint, Outcome, refused, done, call, within, plan}
 use Rattle.gateway.specs.Start.{Started, not-started, started, set-up, restore, start-unless, restore-saved}
 use Rattle.gateway.specs.Restart.{next-of}
 

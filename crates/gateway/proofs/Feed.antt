@@ -1,9 +1,9 @@
 -- The depth's table stays ascending, and what waits to be published stays within its limits. Assumes nothing.
-use Prim.Native.Nat.{ℕ, zero, suc, _-_, _≤_}
+use Prim.Native.Nat.{ℕ, _-_, _≤_}
 use mathlib.Core.Bool.{Bool, true, false, cond, not, _&&_, and-eq-true-iff}
-use mathlib.Core.Path.{_≡_, refl, ap, sym, _∙_}
+use mathlib.Core.Path.{_≡_, refl, sym}
 use mathlib.Core.Option.{Option, none, some}
-use mathlib.Core.List.{List, [], _∷_, _++_}
+use mathlib.Core.List.{List, []}
 use native.Mathlib.Omega.{arith}
 use lib.IntN.{ℤ}
 use lib.ListN.{length}
@@ -11,13 +11,12 @@ use lib.Dec.{eqb, ltb, leb}
 use Rattle.orderbook.specs.declared.Event.{Event}
 use Rattle.orderbook.specs.declared.Event.the-variants.{Accepted, Rejected, Trade, Rested, Replenished, Cancelled, Modified, StopPlaced, Triggered, MassCancelled, PhaseChanged}
 use Rattle.protocol.specs.declared.TradeTick.{TradeTick}
-use Rattle.gateway.specs.Limits.{most-orders, most-levels, most-changed, most-trades, most-notices}
-use Rattle.table.specs.Live.{look}
-use Rattle.gateway.specs.Basics.{option, is-some}
+use Rattle.gateway.specs.Limits.{most-orders, most-trades, most-notices}
+use Rattle.gateway.specs.Basics.{option}
 use Rattle.gateway.specs.Depth.{Resting, Depth, resting-number, find-resting, add, show, take-off, where-resting, filled, modified, showing, lesser, same-price, apply, depth-agrees, levels-fit, levels-few, depth-few}
 use Rattle.gateway.specs.Entry.{settled-depth}
 use Rattle.gateway.proofs.Base.{split}
-use Rattle.gateway.proofs.Sorted.{Rises, Absent, absent-is, rises-insert, rises-replace, rises-without}
+use Rattle.gateway.proofs.Sorted.{Rises, absent-is, rises-insert, rises-replace, rises-without}
 
 abbrev Ascending : Depth → Type 0
 Ascending d = Rises resting-number 0 (d .resting)

@@ -1,13 +1,12 @@
 -- Forgetting client references goes past every step of the ledger, and no check sees it. Assumes nothing.
-use Prim.Native.Nat.{ℕ, zero, suc, _+_, _<_, _≤_}
-use mathlib.Core.Bool.{Bool, true, false, cond, _&&_}
+use Prim.Native.Nat.{ℕ, suc, _+_, _<_}
+use mathlib.Core.Bool.{false, cond, _&&_}
 use mathlib.Core.Path.{_≡_, refl, ap, ap₂, sym, _∙_}
 use mathlib.Core.Option.{Option, none, some}
 use mathlib.Core.List.{List, [], _∷_, _++_, map}
 use borrow.Author.Tests.{lt-leb}
 use lib.IntN.{ℤ, _+ℤ_}
-use lib.ListN.{length, getD, set}
-use lib.Dec.{eqb, leb}
+use lib.Dec.{eqb}
 use Rattle.orderbook.specs.declared.Side.{Side}
 use Rattle.accounts.specs.declared.Funds.{Funds}
 use Rattle.gateway.specs.Ledger.{Order, Ledger, New, Item, account, command, event, order-of, owner-of, placed, number-of, find, remove, with-leaves, with-price, with-orders, left}

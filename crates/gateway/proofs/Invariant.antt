@@ -1,20 +1,19 @@
 -- The core's invariant, which every recorded item keeps. Assumes nothing.
 use Prim.Native.Nat.{ℕ, zero, suc, _+_, _<_, _≤_}
 use mathlib.Core.Bool.{Bool, true, false, cond, not, _&&_, _||_, and-eq-true-iff}
-use mathlib.Core.Path.{_≡_, refl, ap, ap₂, sym, _∙_, subst}
-use mathlib.Core.Logic.{⊎-elim, inl, inr, _⊎_}
+use mathlib.Core.Path.{_≡_, refl, ap, sym, _∙_, subst}
+use mathlib.Core.Logic.{⊎-elim, _⊎_}
 use mathlib.Core.Option.{Option, none, some, Option·map}
 use mathlib.Core.List.{List, [], _∷_, _++_, append-nil}
 use native.Mathlib.Omega.{arith}
 use native.Mathlib.Nat.{add-zero, zero-add}
-use borrow.Author.Tests.{ltb-true, eqb-true, eqb-false}
+use borrow.Author.Tests.{ltb-true, eqb-true}
 use lib.IntN.{ℤ, pos, _+ℤ_, +ℤ-idl}
 use lib.ListN.{length, getD, set, length-set, length-append}
 use lib.Seq.{getD-set-same, getD-set-other}
-use lib.Dec.{eqb, ltb, leb}
+use lib.Dec.{eqb, ltb}
 use Rattle.orderbook.specs.declared.Side.{Side}
 use Rattle.orderbook.specs.declared.Side.the-variants.{Buy, Sell}
-use Rattle.orderbook.specs.declared.MaybePrice.{MaybePrice}
 use Rattle.orderbook.specs.declared.MaybePrice.the-variants.{None, Some}
 use Rattle.orderbook.specs.declared.Command.{Command}
 use Rattle.orderbook.specs.declared.Command.the-variants.{Limit, Market, Cancel, Modify, Stop, CancelAll, SetPhase}
@@ -23,14 +22,14 @@ use Rattle.orderbook.specs.declared.Event.the-variants.{Accepted, Rejected, Tra
 use Rattle.accounts.specs.declared.Account.{Account}
 use Rattle.accounts.specs.declared.Funds.{Funds}
 use Rattle.accounts.specs.declared.MaybeFunds as F
-use Rattle.gateway.specs.Limits.{word, owner-slots, most-orders, most-in-flight}
+use Rattle.gateway.specs.Limits.{owner-slots, most-orders, most-in-flight}
 use Rattle.wallet.specs.Wallet.{settle}
 use Rattle.gateway.specs.Ledger.{Order, Ledger, New, Item, account, command, event, order-of, owner-of, placed, number-of, find, remove, with-leaves, with-price, left}
 use Rattle.gateway.specs.Ledger.{Change, mark-by, fill, set-leaves, reprice, retire, changes, change, changed, pay, paper, funds-of, step, same-side, order-hold, held, fits, wallet-fits, wallets-fit, holds-fit, open-of}
-use Rattle.gateway.specs.Basics.{option, is-some}
+use Rattle.gateway.specs.Basics.{is-some}
 use Rattle.table.specs.Live.{Each, without}
 use Rattle.gateway.specs.Table.{update}
-use Rattle.gateway.specs.Core.{Tests, Pass, Origin, Flight, Core, flight, drop-below, places, owner-below, tests, core-step}
+use Rattle.gateway.specs.Core.{Pass, Origin, Flight, Core, flight, drop-below, places, owner-below, tests, core-step}
 use Rattle.gateway.specs.Start.{funds-in}
 use Rattle.gateway.specs.Fits.{Unsigned, Signed, PriceFits, FundsFit, MaybeFundsFit, AccountFits, CommandFits, EventFits}
 use Rattle.gateway.proofs.Base.{split}

@@ -8,15 +8,15 @@
 -- What it does not say: it does not speak of sessions, the depth, batches or what waits to be published, which a restart loses; and an event of a
 -- command numbered at or before the checkpoint finds no command in the restored gateway, so nothing is claimed then. 01 also excludes checkpoints
 -- followed by an accepted `finish`; here they are included, since `finish` moves nothing that the ledger holds. Assumes nothing.
-use Prim.Native.Nat.{ℕ, zero, suc, _+_, _<_, _≤_}
-use mathlib.Core.Bool.{Bool, true, false, cond, not, _&&_, and-eq-true-iff}
+use Prim.Native.Nat.{ℕ, _+_, _<_, _≤_}
+use mathlib.Core.Bool.{true, cond, not, and-eq-true-iff}
 use mathlib.Core.Path.{_≡_, refl, ap, sym, _∙_, subst}
 use mathlib.Core.Option.{Option, none, some, Option·map}
 use mathlib.Core.List.{List, [], _∷_, _++_, map, append-nil, append-assoc}
 use native.Mathlib.Omega.{arith}
 use borrow.Author.Tests.{ltb-true, lt-ltb, eqb-true}
 use lib.ListN.{length, getD, set, replicate, length-set}
-use lib.Dec.{eqb, ltb}
+use lib.Dec.{ltb}
 use Rattle.orderbook.specs.declared.Side.the-variants.{Buy, Sell}
 use Rattle.orderbook.specs.declared.Listed.{Listed}
 use Rattle.accounts.specs.declared.Account.{Account}
@@ -24,20 +24,20 @@ use Rattle.accounts.specs.declared.Funds.{Funds}
 use Rattle.accounts.specs.declared.Timing.{Timing}
 use Rattle.gateway.specs.Basics.{option}
 use Rattle.gateway.specs.Limits.{malformed}
-use Rattle.gateway.specs.Ledger.{Order, Ledger, Item, account, command, event, order-hold, open-of, step, replayed}
+use Rattle.gateway.specs.Ledger.{Order, Item, account, command, event, order-hold, open-of, step, replayed}
 use Rattle.gateway.specs.Saved.{contents, opening}
 use Rattle.gateway.specs.Bytes.{encode, decode}
 use Rattle.gateway.specs.Core.{Tests, Pass, Origin, system, Core, tests, core-step, accounts-after}
-use Rattle.gateway.specs.Rest.{Session, Rest, no-session, stamped}
-use Rattle.gateway.specs.Entry.{Answer, bytes, Plan, refuse, quiet, records, unless, balance-with}
-use Rattle.gateway.specs.Calls.{Gateway, Call, checkpoint, replay-tests, plan, Outcome, refused, done, carry-out, call}
-use Rattle.gateway.specs.Start.{Started, not-started, started, entered, accounts-of, all-below, set-up, restore, restore-saved}
+use Rattle.gateway.specs.Rest.{Rest, no-session, stamped}
+use Rattle.gateway.specs.Entry.{bytes, Plan, refuse, quiet, records, unless, balance-with}
+use Rattle.gateway.specs.Calls.{Gateway, Call, checkpoint, replay-tests, plan, refused, done, carry-out, call}
+use Rattle.gateway.specs.Start.{Started, not-started, started, entered, all-below, set-up, restore, restore-saved}
 use Rattle.gateway.specs.Fits.{Unsigned, AccountsFit, ListingFits, Bytes, CallFits, CallsFit}
 use Rattle.gateway.specs.Restart.{next-of, items-of, final, record-of, added, as-call, on-done, replay, later, all-later, forget, forgetting, ledger-of, SameBooks, Restarts}
 use Rattle.gateway.proofs.Base.{split}
 use Rattle.gateway.proofs.Forget.{above, step-forget, open-forget, held-forget}
 use Rattle.gateway.proofs.View.{view, step-view, tests-view}
-use Rattle.gateway.proofs.Invariant.{CoreOk, core-ok, last-stays}
+use Rattle.gateway.proofs.Invariant.{core-ok, last-stays}
 use Rattle.gateway.proofs.Calls.{RestOk, Good, plan-good, unless-pass, stamped-rest}
 use Rattle.gateway.proofs.Restore.{Accounts, begun-from, restores, opening-contents, view-now}
 use Rattle.gateway.proofs.Bytes.{decode-encode}

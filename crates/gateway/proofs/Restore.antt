@@ -1,27 +1,26 @@
 -- The contents of a core that keeps the invariant are restored, to what the view shows. Assumes nothing.
 use Prim.Native.Nat.{ℕ, zero, suc, _+_, _<_, _≤_}
-use mathlib.Core.Bool.{Bool, true, false, cond, not, _&&_, and-eq-true-iff}
+use mathlib.Core.Bool.{true}
 use mathlib.Core.Path.{_≡_, refl, ap, ap₂, sym, _∙_, subst}
-use mathlib.Core.Option.{Option, none, some, Option·getD, Option·map}
+use mathlib.Core.Option.{Option, none, some}
 use mathlib.Core.List.{List, [], _∷_, _++_, map}
 use native.Mathlib.Omega.{arith}
 use borrow.Author.Tests.{le-leb, lt-ltb, ltb-true, ltb-false, eq-eqb, ne-eqb}
-use lib.ListN.{length, getD, set, replicate, List·getD-eq-default}
-use lib.Dec.{eqb, ltb, leb}
+use lib.ListN.{length, getD, List·getD-eq-default}
+use lib.Dec.{ltb}
 use Rattle.accounts.specs.declared.Account.{Account}
 use Rattle.accounts.specs.declared.Funds.{Funds}
 use Rattle.accounts.specs.declared.Timing.{Timing}
-use Rattle.gateway.specs.Basics.{option, each, is-some}
-use Rattle.gateway.specs.Limits.{owner-slots, out-of-range, foreign, full, outside}
+use Rattle.gateway.specs.Basics.{each, is-some}
+use Rattle.gateway.specs.Limits.{owner-slots, outside}
 use Rattle.gateway.specs.Ledger.{Order, Ledger, holds-fit}
-use Rattle.gateway.specs.Saved.{Saved, saved-from, slots, contents, opening}
+use Rattle.gateway.specs.Saved.{saved-from, slots, contents, opening}
 use Rattle.gateway.specs.Core.{Tests, Pass, Flight, Core, drop-below}
-use Rattle.gateway.specs.Rest.{Rest}
 use Rattle.gateway.specs.Calls.{Gateway}
-use Rattle.gateway.specs.Start.{Started, not-started, started, start-unless, accounts-of, all-below, by-slot, funds-in, begin, restored-wallet, restored-wallets, restored-ledger, wallets-below, order-tests, saved-tests, restore-tests, hold-notice-of, empty-depth, restore-saved}
-use Rattle.gateway.specs.Restart.{forget, forgetting}
+use Rattle.gateway.specs.Start.{Started, started, start-unless, accounts-of, all-below, by-slot, funds-in, begin, restored-wallet, restored-wallets, restored-ledger, wallets-below, order-tests, saved-tests, restore-tests, hold-notice-of, empty-depth, restore-saved}
+use Rattle.gateway.specs.Restart.{forget}
 use Rattle.gateway.proofs.Base.{split}
-use Rattle.gateway.proofs.View.{view, unsent}
+use Rattle.gateway.proofs.View.{view}
 use Rattle.gateway.proofs.Invariant.{CoreOk, All, Keyed, In, Owned, Runs}
 
 -- ---- wallets: slots, saved and filled again

@@ -1,21 +1,19 @@
 -- Sessions and accounts name each other: each session's account is below the limit, and no two sessions have one account. Assumes nothing.
-use Prim.Native.Nat.{ℕ, zero, suc, _+_, _<_, _≤_}
-use mathlib.Core.Bool.{Bool, true, false, cond, not}
+use Prim.Native.Nat.{ℕ, zero, suc, _<_}
+use mathlib.Core.Bool.{Bool, true, false, cond}
 use mathlib.Core.Path.{_≡_, refl, ap, sym, _∙_, subst}
 use mathlib.Core.Option.{Option, none, some, Option·map}
-use mathlib.Core.List.{List, [], _∷_, _++_}
+use mathlib.Core.List.{List, [], _∷_}
 use mathlib.Core.Logic.{⊎-elim, inl, inr, _⊎_}
 use native.Mathlib.Omega.{arith}
-use native.Mathlib.Nat.{add-zero}
-use borrow.Author.Tests.{eq-eqb, ltb-true}
+use borrow.Author.Tests.{eq-eqb}
 use lib.ListN.{length, getD, set, length-set}
 use lib.Seq.{getD-set-same, getD-set-other}
-use lib.Dec.{eqb, ltb}
+use lib.Dec.{eqb}
 use Rattle.gateway.specs.Limits.{session-slots}
 use Rattle.gateway.specs.Basics.{option, is-some}
-use Rattle.gateway.specs.Rest.{Session, Mail, send, close, Rest, session-at, account-of, logged-in, session-from, session-of, update-session, set-sent, stamp, stamped, with-sessions}
+use Rattle.gateway.specs.Rest.{Session, Mail, send, close, Rest, session-at, account-of, logged-in, session-from, session-of, update-session, set-sent, stamped}
 use Rattle.gateway.specs.Calls.{close-where}
-use Rattle.gateway.proofs.Base.{split}
 use Rattle.table.proofs.Live.{same?}
 
 -- the account of the session in slot i

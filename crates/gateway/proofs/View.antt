@@ -1,18 +1,18 @@
 -- What a restored gateway sees of the core: references forgotten, commands up to N not in flight, senders unknown. Replay moves the view as the
 -- core is moved. Assumes nothing.
-use Prim.Native.Nat.{ℕ, zero, suc, _+_, _<_, _≤_}
-use mathlib.Core.Bool.{Bool, true, false, cond, not, _&&_, _||_}
-use mathlib.Core.Path.{_≡_, refl, ap, ap₂, sym, _∙_}
-use mathlib.Core.Option.{Option, none, some}
+use Prim.Native.Nat.{ℕ, suc, _+_, _<_, _≤_}
+use mathlib.Core.Bool.{true, cond, not}
+use mathlib.Core.Path.{_≡_, refl, ap, sym, _∙_}
+use mathlib.Core.Option.{none}
 use mathlib.Core.List.{List, [], _∷_, _++_, map}
 use native.Mathlib.Omega.{arith}
 use borrow.Author.Tests.{ltb-true, ltb-false, lt-ltb, le-ltb}
 use lib.ListN.{length, length-map}
-use lib.Dec.{eqb, ltb, leb}
+use lib.Dec.{ltb}
 use Rattle.gateway.specs.Limits.{most-in-flight}
-use Rattle.gateway.specs.Ledger.{Item, account, command, event, step, holds-fit, open-of}
-use Rattle.gateway.specs.Core.{Tests, Pass, Origin, system, Flight, Core, drop-below, is-first, first-places, tests, fits-after, flights-after, core-step}
-use Rattle.gateway.specs.Restart.{forget, forgetting}
+use Rattle.gateway.specs.Ledger.{Item, account, command, event, step}
+use Rattle.gateway.specs.Core.{Pass, Origin, system, Flight, Core, drop-below, is-first, first-places, tests, fits-after, flights-after, core-step}
+use Rattle.gateway.specs.Restart.{forgetting}
 use Rattle.gateway.proofs.Base.{split, if-map}
 use Rattle.gateway.proofs.Forget.{above, step-forget, open-forget, holds-forget}
 

@@ -1,12 +1,12 @@
 -- What the operations write: one law for each, over the stores on the way. Assumes nothing.
-use mathlib.Core.Path.{_≡_, refl, sym, ap, _∙_}
+use mathlib.Core.Path.{_≡_}
 use mathlib.Core.List.{List}
-use Prim.Native.Nat.{ℕ, _+_, _-_, _%_, _^_, _≤_, _<_}
+use Prim.Native.Nat.{ℕ, _+_, _-_, _%_, _<_}
 use native.Mathlib.Omega.{arith}
 use Rattle.gateway.specs.Limits.{most-in-flight, most-notices, most-trades}
 use Rattle.store.specs.Cells as C
-use Rattle.store.specs.Layout.{cell, Cell, Holds, Set}
-use Rattle.store.specs.View.{Store, word, Is, Ready}
+use Rattle.store.specs.Layout.{cell, Set}
+use Rattle.store.specs.View.{word, Is, Ready}
 use Rattle.store.proofs.Places.{header-cell, notice-cell, trade-cell, flight-cell}
 use Rattle.store.proofs.Rows.{then-set, is-itself}
 use Rattle.pending.specs.Pending as P

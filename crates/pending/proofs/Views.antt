@@ -1,24 +1,20 @@
 -- What the operations do to the gateway that the cells hold: each changes its own part, and the rest stays by computation. Assumes nothing.
 use mathlib.Core.Path.{_≡_, refl, sym, ap, ap₂, _∙_}
-use mathlib.Core.Bool.{Bool, true, false, cond, _&&_}
-use mathlib.Core.List.{List, [], _∷_, _++_}
-use mathlib.Core.Option.{Option}
+use mathlib.Core.List.{[], _∷_, _++_}
 use Prim.Native.Nat.{ℕ, zero, suc, _+_, _-_, _%_, _≤_, _<_}
 use native.Mathlib.Omega.{arith}
 use native.Mathlib.Nat.{add-zero}
 use borrow.Author.Tests.{eq-eqb, ne-eqb, le-ltb, lt-ltb}
-use lib.Dec.{eqb}
 use Rattle.protocol.specs.declared.TradeTick.{TradeTick}
 use Rattle.words.specs.Words.{int}
 use Rattle.gateway.specs.Limits.{most-in-flight}
 use Rattle.gateway.specs.Core.{Flight, drop-below}
 use Rattle.gateway.specs.Calls.{Gateway}
-use Rattle.gateway.specs.Depth.{Depth}
 use Rattle.gateway.specs.Entry.{noticing}
 use Rattle.gateway.specs.Entry as Entry
 use Rattle.gateway.specs.Rest.{Rest, pending}
 use Rattle.store.specs.Cells as C
-use Rattle.store.specs.View.{Row, Store, listed, flag, optional, side, word, write, in-slot, flights, gateway}
+use Rattle.store.specs.View.{Row, Store, listed, flag, optional, side, word, in-slot, flights, gateway}
 use Rattle.store.proofs.Listed.{listed-ext, listed-more}
 use Rattle.pending.specs.Pending as P
 

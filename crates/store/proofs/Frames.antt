@@ -1,13 +1,12 @@
 -- The view sees the cells of the layout alone: stores with the same cells hold the same gateway. Assumes nothing.
-use mathlib.Core.Path.{_≡_, refl, sym, ap, ap₂, _∙_}
-use mathlib.Core.List.{List, map}
+use mathlib.Core.Path.{_≡_, ap, ap₂, _∙_}
+use mathlib.Core.List.{map}
 use Prim.Native.Nat.{ℕ, _+_, _-_, _%_, _≤_, _<_}
-use native.Mathlib.Nat.{mod-lt}
 use native.Mathlib.Omega.{arith}
 use Rattle.table.specs.Live.{live}
 use Rattle.table.proofs.Live.{live-ext}
 use Rattle.gateway.specs.Limits.{owner-slots, session-slots, most-in-flight}
-use Rattle.store.specs.Layout.{blocks, rows, width, Cell}
+use Rattle.store.specs.Layout.{blocks, rows, width}
 use Rattle.store.specs.Cells as C
 use Rattle.store.specs.View.{Row, Store, Same, listed, optional, maybe-price, word, account, wallet, bucket, session, flight, command, order, resting, trade, changed-key, marked, in-slot, ledger, flights, depth, gateway, Bounds}
 use Rattle.store.proofs.Listed.{listed-ext}

@@ -1,15 +1,14 @@
 -- Cells that are set to 0 one after the other, and the gateway of all zeros. Assumes nothing.
-use mathlib.Core.Path.{_≡_, refl, sym, ap, _∙_}
-use mathlib.Core.Logic.{inl, inr, ⊎-elim}
+use mathlib.Core.Path.{_≡_, refl, _∙_}
+use mathlib.Core.Logic.{inl, ⊎-elim}
 use mathlib.Core.List.{List, []}
-use Prim.Native.Nat.{ℕ, zero, suc, _+_, _*_, _≤_, _<_}
+use Prim.Native.Nat.{ℕ, _+_, _*_, _<_}
 use native.Mathlib.Nat.{not-suc-le-zero, eq-or-lt-of-le, le-of-suc-le-suc}
 use native.Mathlib.Numerals.{add-one}
 use native.Mathlib.Omega.{arith}
-use lib.ListN.{length}
 use Rattle.le.specs.Le.{le, put}
 use Rattle.le.proofs.Laws.{length-put, le-put, le-put-other}
-use Rattle.gateway.specs.Start.{Started, started, set-up, start-unless}
+use Rattle.gateway.specs.Start.{started, set-up, start-unless}
 use Rattle.gateway.specs.Depth.{levels-few, levels-fit}
 use Rattle.gateway.specs.Ledger.{holds-fit}
 use Rattle.table.specs.Live.{live}
