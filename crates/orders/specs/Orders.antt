@@ -1,0 +1,106 @@
+-- The table of orders: what a lookup finds, and what each operation writes, as a store.
+use Prim.Native.Nat.{ℕ, _+_, _-_, _%_, _≤_, _<_}
+use mathlib.Core.Path.{_≡_}
+use mathlib.Core.Bool.{cond}
+use mathlib.Core.List.{List, [], _∷_}
+use lib.Dec.{eqb}
+use Rattle.table.specs.Live.{look, Ascends}
+use Rattle.table.specs.Table.{Finds, found}
+use Rattle.table.specs.declared.Found.{Found}
+use Rattle.store.specs.Cells as C
+use Rattle.store.specs.View.{Row, Store, word, write, marked}
+use Rattle.orders.specs.declared.Live.{Live}
+use Rattle.orders.specs.declared.Resting.{Resting}
+
+-- ---- rows
+
+-- a row whose flags are a and b is kept where one of them is 1
+abbrev pub either : ℕ → ℕ → ℕ
+either a b = cond (eqb a 0) b 1
+
+-- the flags of a row
+pub record Flags (r : Row) : Type 0 where
+  pub live-is : r C.order-live ≤ 1
+  pub resting-is : r C.order-resting ≤ 1
+  pub kept-is : r C.order-kept ≡ either (r C.order-live) (r C.order-resting)
+
+-- numbers ascend, and each row in use has its flags
+pub record Sorted (s : Store) : Type 0 where
+  pub ascends : Ascends (λ k. k) (λ j. s C.orders j C.order-number) (word s C.order-rows)
+  pub flags : (j : ℕ) → j < word s C.order-rows → Flags (s C.orders j)
+
+-- the cell k of a row in use is 0 or 1
+pub record Marks (k : ℕ) (s : Store) : Type 0 where
+  pub inside : k < 16
+  pub small : (j : ℕ) → j < word s C.order-rows → s C.orders j k ≤ 1
+
+-- ---- lookups
+
+-- the two halves of a row, as words
+abbrev pub live-row : Row → Live
+live-row r =
+    record {
+      account = r C.order-account;
+      «client_ref» = r C.order-client-ref;
+      side = r C.order-side;
+      priced = r C.order-priced;
+      price = r C.order-price;
+      leaves = r C.order-leaves;
+      hold = r C.order-hold;
+    }
+
+abbrev pub resting-row : Row → Resting
+resting-row r =
+    record { side = r C.order-rest-side; price = r C.order-rest-price; visible = r C.order-visible; leaves = r C.order-rest-leaves }
+
+-- of the rows in use, the one that bears the number n and whose cell k is not 0
+abbrev pub FindsRow : ℕ → Store → ℕ → Found → Type 0
+FindsRow k s n r = Finds (λ j. s C.orders j C.order-number) (λ j. s C.orders j k) (word s C.order-rows) n r
+
+-- and it is what the list of those rows has at n, as f reads them
+pub record Sees {A : Type 0} (k : ℕ) (f : Row → A) (number : A → ℕ) (s : Store) (n : ℕ) (r : Found) : Type 0 where
+  pub row : FindsRow k s n r
+  pub order : look number n (marked s k f) ≡ found (λ j. f (s C.orders j)) r
+
+-- ---- what is written
+
+-- vs in the cells of a row from k on
+unfoldable pub fill : ℕ → ℕ → ℕ → List ℕ → Store → Store
+fill b i k [] s = s
+fill b i k (v ∷ vs) s = fill b i (k + 1) vs (write b i k v s)
+
+abbrev pub set-leaves : ℕ → ℕ → ℕ → Store → Store
+set-leaves i leaves hold = fill C.orders i C.order-leaves (leaves ∷ hold ∷ [])
+
+abbrev pub set-price : ℕ → ℕ → Store → Store
+set-price i price = fill C.orders i C.order-priced (1 ∷ price ∷ [])
+
+abbrev pub show : ℕ → ℕ → ℕ → Store → Store
+show i visible leaves = fill C.orders i C.order-visible (visible ∷ leaves ∷ [])
+
+-- the flag k of a row goes, and its count c falls; the row is kept where the other flag is 1
+unfoldable pub strike : ℕ → ℕ → ℕ → ℕ → Store → Store
+strike k other c i s =
+    write C.header 0 c (word s c - 1) (write C.orders i C.order-kept (s C.orders i other) (write C.orders i k 0 s))
+
+abbrev pub retire : ℕ → Store → Store
+retire = strike C.order-live C.order-resting C.live-orders
+
+abbrev pub take-off : ℕ → Store → Store
+take-off = strike C.order-resting C.order-live C.resting-orders
+
+-- an order of the table rests
+unfoldable pub rest : ℕ → Resting → Store → Store
+rest i o s =
+    write C.header 0 C.resting-orders (word s C.resting-orders + 1)
+    (fill C.orders i C.order-resting (1 ∷ 1 ∷ [])
+    (fill C.orders i C.order-rest-side (o .side ∷ o .price ∷ o .visible ∷ o .leaves ∷ []) s))
+
+-- a live order behind the others
+unfoldable pub append : ℕ → Live → Store → Store
+append n o s =
+    let i = word s C.order-rows in
+    write C.hints (n % 4096) C.hint-row i
+    (fill C.header 0 C.order-rows ((i + 1) ∷ (word s C.live-orders + 1) ∷ [])
+    (fill C.orders i C.order-number
+    (n ∷ 1 ∷ 0 ∷ 1 ∷ o .account ∷ o .«client_ref» ∷ o .side ∷ o .priced ∷ o .price ∷ o .leaves ∷ o .hold ∷ []) s))
