@@ -1,11 +1,9 @@
 -- What the operations write, and what a lookup finds in the bytes. Assumes nothing.
 use mathlib.Core.Path.{_≡_, refl, sym, ap, _∙_}
-use mathlib.Core.Bool.{cond}
 use mathlib.Core.Option.{Option, none, some, Option·map}
 use mathlib.Core.List.{List, [], _∷_, map}
 use Prim.Native.Nat.{ℕ, _+_, _*_, _-_, _%_, _^_, _≤_, _<_}
 use native.Mathlib.Omega.{arith}
-use lib.Dec.{eqb}
 use Rattle.le.specs.Le.{le}
 use Rattle.le.proofs.Laws.{le-split}
 use Rattle.table.specs.Live.{live, look}
@@ -16,7 +14,6 @@ use Rattle.table.specs.declared.Found.the-variants.{At, Nothing}
 use Rattle.table.proofs.Search.{finds-look}
 use Rattle.gateway.specs.Depth.{resting-number}
 use Rattle.gateway.specs.Ledger.{number-of}
-use Rattle.gateway.proofs.Base.{split}
 use Rattle.store.specs.Cells as C
 use Rattle.store.specs.Layout.{cell, start, spot, Cell, Holds, Set}
 use Rattle.store.specs.View.{Row, Store, Same, word, write, marked, order, resting, order-room, Is, Ready}
@@ -24,6 +21,7 @@ use Rattle.store.proofs.Places.{header-cell, order-cell, hint-cell}
 use Rattle.store.proofs.Rows.{then-set, is-itself, same-write}
 use Rattle.orders.specs.declared.Live.{Live}
 use Rattle.orders.specs.declared.Resting.{Resting}
+use Rattle.orders.proofs.Shown.{look-map}
 use Rattle.orders.specs.Orders.{Sorted, Marks, FindsRow, Sees, fill, strike, rest, append}
 
 -- ---- what is written
@@ -127,13 +125,6 @@ pub resting-marks : {s : Store} → Sorted s → Marks C.order-resting s
 resting-marks s = record { inside = omega arith; small = λ j l. s .flags j l .resting-is }
 
 -- ---- what is found is what the view's list has
-
-look-map : {A B : Type 0} (h : A → B) (key : B → ℕ) (k : ℕ) (l : List A) → look key k (map h l) ≡ Option·map h (look (λ a. key (h a)) k l)
-unfolding look
-look-map h key k [] = refl
-look-map h key k (x ∷ l) =
-    split (λ b. cond b (some (h x)) (look key k (map h l)) ≡ Option·map h (cond b (some x) (look (λ a. key (h a)) k l))) (eqb (key (h x)) k)
-    (λ e. refl) (λ e. look-map h key k l)
 
 found-map : {A B : Type 0} (h : A → B) (f : ℕ → A) (r : Found) → Option·map h (found f r) ≡ found (λ j. h (f j)) r
 found-map h f (At i) = refl

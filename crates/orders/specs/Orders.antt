@@ -4,11 +4,12 @@ use mathlib.Core.Path.{_≡_}
 use mathlib.Core.Bool.{cond}
 use mathlib.Core.List.{List, [], _∷_}
 use lib.Dec.{eqb}
+use lib.ListN.{length}
 use Rattle.table.specs.Live.{look, Ascends}
 use Rattle.table.specs.Table.{Finds, found}
 use Rattle.table.specs.declared.Found.{Found}
 use Rattle.store.specs.Cells as C
-use Rattle.store.specs.View.{Row, Store, word, write, marked}
+use Rattle.store.specs.View.{Row, Store, word, write, order, resting, marked, Bounds}
 use Rattle.orders.specs.declared.Live.{Live}
 use Rattle.orders.specs.declared.Resting.{Resting}
 
@@ -28,6 +29,17 @@ pub record Flags (r : Row) : Type 0 where
 pub record Sorted (s : Store) : Type 0 where
   pub ascends : Ascends (λ k. k) (λ j. s C.orders j C.order-number) (word s C.order-rows)
   pub flags : (j : ℕ) → j < word s C.order-rows → Flags (s C.orders j)
+
+-- the two counts are right
+pub record Counted (s : Store) : Type 0 where
+  pub live-count : word s C.live-orders ≡ length (marked s C.order-live order)
+  pub resting-count : word s C.resting-orders ≡ length (marked s C.order-resting resting)
+
+-- the table is in order
+pub record Ordered (s : Store) : Type 0 where
+  pub bounds : Bounds s
+  pub sorted : Sorted s
+  pub counted : Counted s
 
 -- the cell k of a row in use is 0 or 1
 pub record Marks (k : ℕ) (s : Store) : Type 0 where

@@ -1,0 +1,221 @@
+-- What the operations do to the gateway that the cells hold, and that they keep the table in order. Assumes nothing.
+use mathlib.Core.Path.{_≡_, refl, sym, ap, ap₂, _∙_}
+use mathlib.Core.Logic.{⊎-elim}
+use mathlib.Core.Bool.{cond}
+use mathlib.Core.List.{List, [], _∷_, _++_}
+use Prim.Native.Nat.{ℕ, _+_, _-_, _%_, _≤_, _<_}
+use native.Mathlib.Omega.{arith}
+use borrow.Author.Tests.{eq-eqb, ne-eqb}
+use lib.Dec.{eqb}
+use lib.ListN.{length}
+use lib.IntN.{ℤ}
+use Rattle.words.specs.Words.{int}
+use Rattle.table.specs.Live.{Changed, without, insert, replace, Ascends}
+use Rattle.table.proofs.Live.{same?, ascends-ext, ascends-open, gap-end}
+use Rattle.gateway.specs.Calls.{Gateway}
+use Rattle.gateway.specs.Depth as D
+use Rattle.gateway.specs.Ledger.{Order, number-of, remove, with-leaves, with-price}
+use Rattle.gateway.specs.Ledger as L
+use Rattle.gateway.specs.Table.{update}
+use Rattle.store.specs.Cells as C
+use Rattle.store.specs.View.{Row, Store, word, write, side, maybe-price, order, resting, marked, ledger, depth, gateway, order-room, Bounds}
+use Rattle.orders.specs.declared.Live.{Live}
+use Rattle.orders.specs.declared.Resting.{Resting}
+use Rattle.orders.specs.Orders.{either, Flags, Sorted, Counted, Ordered, fill, set-leaves, set-price, show, strike, retire, take-off, rest, append}
+use Rattle.orders.proofs.Shown.{shown, shown-ext, shown-more, shown-dead, shown-strike, shown-replace, shown-revive, shown-update, shown-length}
+
+-- the gateway with other lists of orders
+abbrev pub with-lists : List Order → List D.Resting → Gateway → Gateway
+with-lists os rs g =
+    let r = g .rest in
+    record {
+      core = record { ledger = L.with-orders os (g .core .ledger); flights = g .core .flights; accounts = g .core .accounts };
+      rest =
+          record {
+            timing = r .timing;
+            clock = r .clock;
+            sessions = r .sessions;
+            buckets = r .buckets;
+            batch = r .batch;
+            delivered = r .delivered;
+            published = r .published;
+            depth = record { resting = rs; changed = r .depth .changed };
+            trades = r .trades;
+            notices = r .notices;
+            collar = r .collar;
+          };
+    }
+
+-- r with v in the cell k, and with vs in the cells from k on
+abbrev put-cell : ℕ → ℕ → Row → Row
+put-cell k v r l = cond (eqb l k) v (r l)
+
+abbrev put-cells : ℕ → List ℕ → Row → Row
+put-cells k [] r = r
+put-cells k (v ∷ vs) r = put-cells (k + 1) vs (put-cell k v r)
+
+-- t is s but for the row i, which is r, the hints and three words
+pub record Touched (i : ℕ) (r : Row) (s t : Store) : Type 0 where
+  pub here : t C.orders i ≡ r
+  pub others : (j : ℕ) → (j ≡ i → ⊥) → t C.orders j ≡ s C.orders j
+  pub words : (k : ℕ) → (k ≡ C.order-rows → ⊥) → (k ≡ C.live-orders → ⊥) → (k ≡ C.resting-orders → ⊥) → word t k ≡ word s k
+
+write-touched : (i k v : ℕ) (r : Row) (s t : Store) → Touched i r s t → Touched i (put-cell k v r) s (write C.orders i k v t)
+write-touched i k v r s t c =
+    record {
+      here = λ z l. cell-here l z;
+      others = λ j ne. (λ z l. cell-other j ne l z) ∙ c .others j ne;
+      words = c .words;
+    }
+  where
+    cell-here : (l : ℕ) → write C.orders i k v t C.orders i l ≡ put-cell k v r l
+    cell-here l = rw (eq-eqb i i refl) (ap (λ (q : Row). cond (eqb l k) v (q l)) (c .here))
+
+    cell-other : (j : ℕ) → (j ≡ i → ⊥) → (l : ℕ) → write C.orders i k v t C.orders j l ≡ t C.orders j l
+    cell-other j ne l = rw (ne-eqb j i ne) refl
+
+fill-touched : (i k : ℕ) (vs : List ℕ) (r : Row) (s t : Store) → Touched i r s t → Touched i (put-cells k vs r) s (fill C.orders i k vs t)
+unfolding fill
+fill-touched i k [] r s t c = c
+fill-touched i k (v ∷ vs) r s t c = fill-touched i (k + 1) vs (put-cell k v r) s (write C.orders i k v t) (write-touched i k v r s t c)
+
+untouched : (i : ℕ) (s : Store) → Touched i (s C.orders i) s s
+untouched i s = record { here = refl; others = λ j ne. refl; words = λ k x y z. refl }
+
+-- what is read of a row, behind its flag
+abbrev read : {A : Type 0} → ℕ → (Row → A) → Row → ℕ × A
+read k f r = (r k, f r)
+
+-- a row's number and flags
+abbrev head : Row → ℕ × ℕ × ℕ × ℕ
+head r = (r C.order-number, r C.order-live, r C.order-resting, r C.order-kept)
+
+same-flags : (q r : Row) → head r ≡ head q → Flags q → Flags r
+same-flags q r e f =
+    record {
+      live-is = rw (ap (λ x. x .1) e) (f .live-is);
+      resting-is = rw (ap (λ x. x .2) e) (f .resting-is);
+      kept-is = ap (λ x. x .3) e ∙ f .kept-is ∙ ap (λ x. either (x .1) (x .2)) (sym e);
+    }
+
+-- how many rows are in use, are live, and rest
+abbrev counts : Store → ℕ × ℕ × ℕ
+counts s = (word s C.order-rows, word s C.live-orders, word s C.resting-orders)
+
+module _ (i : ℕ) (r : Row) (s t : Store) (c : Touched i r s t) where
+  pub bounds-kept : word t C.order-rows ≤ order-room → Bounds s → Bounds t
+  bounds-kept h b =
+      record {
+        accounts-fit = rw (w C.owner-limit (λ e. omega arith) (λ e. omega arith) (λ e. omega arith)) (b .accounts-fit);
+        flights-fit = rw (w C.flying (λ e. omega arith) (λ e. omega arith) (λ e. omega arith)) (b .flights-fit);
+        batch-fits = rw (w C.waiting (λ e. omega arith) (λ e. omega arith) (λ e. omega arith)) (b .batch-fits);
+        orders-fit = h;
+        bids-fit = rw (w C.bid-levels (λ e. omega arith) (λ e. omega arith) (λ e. omega arith)) (b .bids-fit);
+        asks-fit = rw (w C.ask-levels (λ e. omega arith) (λ e. omega arith) (λ e. omega arith)) (b .asks-fit);
+        trades-fit = rw (w C.trade-rows (λ e. omega arith) (λ e. omega arith) (λ e. omega arith)) (b .trades-fit);
+        notices-fit = rw (w C.notice-rows (λ e. omega arith) (λ e. omega arith) (λ e. omega arith)) (b .notices-fit);
+        changed-fit = rw (w C.changed-rows (λ e. omega arith) (λ e. omega arith) (λ e. omega arith)) (b .changed-fit);
+      }
+    where
+      w : (k : ℕ) → (k ≡ C.order-rows → ⊥) → (k ≡ C.live-orders → ⊥) → (k ≡ C.resting-orders → ⊥) → word t k ≡ word s k
+      w = c .words
+
+  -- what is the same in the row i is the same in every row
+  same-rows : {B : Type 0} (f : Row → B) → f r ≡ f (s C.orders i) → (j : ℕ) → f (t C.orders j) ≡ f (s C.orders j)
+  same-rows f e j = ⊎-elim (λ (q : j ≡ i). rw q (ap f (c .here) ∙ e)) (λ q. ap f (c .others j q)) (same? j i)
+
+  changed : {A : Type 0} (k : ℕ) (f : Row → A) (n : ℕ) → i < n → Changed (λ j. read k f (s C.orders j)) (λ j. read k f (t C.orders j)) n i
+  changed k f n l = record { inside = l; other = λ j h ne. ap (read k f) (c .others j ne) }
+
+  sorted-kept : word t C.order-rows ≡ word s C.order-rows → r C.order-number ≡ s C.orders i C.order-number → Flags r → Sorted s → Sorted t
+  sorted-kept w e f d =
+      record {
+        ascends = rw w (ascends-ext (λ k. k) (λ j. s C.orders j C.order-number) (λ j. t C.orders j C.order-number) (word s C.order-rows) (λ j l. same-rows (λ r. r C.order-number) e j) (d .ascends));
+        flags = λ j l. ⊎-elim (λ (q : j ≡ i). rw (q, c .here) f) (λ q. rw (c .others j q) (d .flags j (rw w at l))) (same? j i);
+      }
+
+-- t is in order and holds the gateway of s, but for the lists of orders
+pub record Did (s t : Store) (os : List Order) (rs : List D.Resting) : Type 0 where
+  pub view : gateway t ≡ with-lists os rs (gateway s)
+  pub ordered : Ordered t
+
+-- a row in use is changed
+module _ (s : Store) (i : ℕ) (d : Ordered s) (l : i < word s C.order-rows) where
+  abbrev was : Row
+  was = s C.orders i
+
+  module _ {A : Type 0} (k : ℕ) (f : Row → A) (number : A → ℕ) (e : (r : Row) → number (f r) ≡ r C.order-number) where
+    rising : Ascends (λ (x : ℕ × A). number (x .1)) (λ j. read k f (s C.orders j)) (word s C.order-rows)
+    rising a b h m = rw (e (s C.orders a), e (s C.orders b)) (d .sorted .ascends a b h m)
+
+    module _ (r : Row) (t : Store) (c : Touched i r s t) where
+      -- a count that moves with the row's flag stays right
+      count-kept : (w v : ℕ) → word t C.order-rows ≡ word s C.order-rows → was k ≤ 1 → r k ≤ 1 → v ≡ length (marked s k f) → w + was k ≡ v + r k → w ≡ length (marked t k f)
+      count-kept w v n a b p q =
+          let x = shown-length number (changed i r s t c k f (word s C.order-rows) l) rising a (rw (c .here) b) in
+          let y = ap (λ m. length (shown (λ j. read k f (t C.orders j)) m)) n in
+          let z = ap (λ (q : Row). q k) (c .here) in
+          omega arith
+
+  module _ (r : Row) (t : Store) (c : Touched i r s t) (g : gateway t ≡ with-lists (marked t C.order-live order) (marked t C.order-resting resting) (gateway s)) where
+    row-did : (os : List Order) (rs : List D.Resting) → word t C.order-rows ≡ word s C.order-rows → r C.order-number ≡ was C.order-number → Flags r →
+        word t C.live-orders + was C.order-live ≡ word s C.live-orders + r C.order-live →
+        word t C.resting-orders + was C.order-resting ≡ word s C.resting-orders + r C.order-resting →
+        marked t C.order-live order ≡ os → marked t C.order-resting resting ≡ rs → Did s t os rs
+    row-did os rs w e f p q a b =
+        let h = d .sorted .flags i l in
+        record {
+          view = g ∙ ap₂ (λ x y. with-lists x y (gateway s)) a b;
+          ordered =
+              record {
+                bounds = bounds-kept i r s t c (rw w (d .bounds .orders-fit)) (d .bounds);
+                sorted = sorted-kept i r s t c w e f (d .sorted);
+                counted =
+                    record {
+                      live-count = count-kept C.order-live order number-of (λ r. refl) r t c (word t C.live-orders) (word s C.live-orders) w (h .live-is) (f .live-is) (d .counted .live-count) p;
+                      resting-count = count-kept C.order-resting resting D.resting-number (λ r. refl) r t c (word t C.resting-orders) (word s C.resting-orders) w (h .resting-is) (f .resting-is) (d .counted .resting-count) q;
+                    };
+              };
+        }
+
+    still : {A : Type 0} (k : ℕ) (f : Row → A) → word t C.order-rows ≡ word s C.order-rows → read k f r ≡ read k f was → marked t k f ≡ marked s k f
+    still k f w e = rw w (shown-ext _ _ (word s C.order-rows) (λ j m. same-rows i r s t c (read k f) e j))
+
+    -- a half is changed, and the flags stay
+    half-did : (os : List Order) (rs : List D.Resting) → counts t ≡ counts s → head r ≡ head was → marked t C.order-live order ≡ os → marked t C.order-resting resting ≡ rs → Did s t os rs
+    half-did os rs w h a b =
+        row-did os rs (ap (λ x. x .0) w) (ap (λ x. x .0) h) (same-flags was r h (d .sorted .flags i l))
+        (ap₂ (λ x y. x .1 + y .1) w (sym h)) (ap₂ (λ x y. x .2 + y .2) w (sym h)) a b
+
+    live-did : (f : Order → Order) → counts t ≡ counts s → head r ≡ head was → f (order was) ≡ order r → resting r ≡ resting was → 0 < was C.order-live →
+        Did s t (update number-of (was C.order-number) f (ledger s .orders)) (depth s .resting)
+    live-did f w h e u m =
+        half-did _ _ w h
+        (rw (ap (λ x. x .0) w)
+        (shown-update number-of (changed i r s t c C.order-live order (word s C.order-rows) l) (rising C.order-live order number-of (λ r. refl)) f
+        (e ∙ ap order (sym (c .here))) (ap (λ (q : Row). q C.order-number) (c .here) ∙ ap (λ x. x .0) h) m (rw (c .here, ap (λ x. x .1) h) m)))
+        (still C.order-resting resting (ap (λ x. x .0) w) (ap₂ (λ x y. (x, y)) (ap (λ x. x .2) h) u))
+
+    resting-did : counts t ≡ counts s → head r ≡ head was → order r ≡ order was → 0 < was C.order-resting →
+        Did s t (ledger s .orders) (replace D.resting-number (resting r) (depth s .resting))
+    resting-did w h u m =
+        half-did _ _ w h
+        (still C.order-live order (ap (λ x. x .0) w) (ap₂ (λ x y. (x, y)) (ap (λ x. x .1) h) u))
+        (rw (ap (λ x. x .0) w, ← c .here)
+        (shown-replace D.resting-number (changed i r s t c C.order-resting resting (word s C.order-rows) l) (rising C.order-resting resting D.resting-number (λ r. refl))
+        (ap (λ (q : Row). q C.order-number) (c .here) ∙ ap (λ x. x .0) h) m (rw (c .here, ap (λ x. x .2) h) m)))
+
+  pub set-leaves-does : (v h : ℕ) → 0 < was C.order-live → Did s (set-leaves i v h s) (update number-of (was C.order-number) (with-leaves v) (ledger s .orders)) (depth s .resting)
+  unfolding fill
+  set-leaves-does v h m =
+      live-did _ (set-leaves i v h s) (fill-touched i C.order-leaves (v ∷ h ∷ []) was s s (untouched i s)) refl (with-leaves v) refl refl refl refl m
+
+  pub set-price-does : (p : ℕ) → 0 < was C.order-live → Did s (set-price i p s) (update number-of (was C.order-number) (with-price (int p)) (ledger s .orders)) (depth s .resting)
+  unfolding fill
+  set-price-does p m =
+      live-did _ (set-price i p s) (fill-touched i C.order-priced (1 ∷ p ∷ []) was s s (untouched i s)) refl (with-price (int p)) refl refl refl refl m
+
+  pub show-does : (v w : ℕ) → 0 < was C.order-resting → Did s (show i v w s) (ledger s .orders) (replace D.resting-number (D.showing v w (resting was)) (depth s .resting))
+  unfolding fill
+  show-does v w m =
+      resting-did _ (show i v w s) (fill-touched i C.order-visible (v ∷ w ∷ []) was s s (untouched i s)) refl refl refl refl m
