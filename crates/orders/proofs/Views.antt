@@ -3,11 +3,11 @@ use mathlib.Core.Path.{_≡_, refl, sym, ap, ap₂, _∙_}
 use mathlib.Core.Logic.{⊎-elim}
 use mathlib.Core.Bool.{cond}
 use mathlib.Core.List.{List, [], _∷_, _++_}
-use Prim.Native.Nat.{ℕ, _+_, _-_, _%_, _≤_, _<_}
+use Prim.Native.Nat.{ℕ, zero, suc, _+_, _-_, _%_, _≤_, _<_}
 use native.Mathlib.Omega.{arith}
 use borrow.Author.Tests.{eq-eqb, ne-eqb}
 use lib.Dec.{eqb}
-use lib.ListN.{length}
+use lib.ListN.{length, length-append}
 use lib.IntN.{ℤ}
 use Rattle.words.specs.Words.{int}
 use Rattle.table.specs.Live.{Changed, without, insert, replace, Ascends}
@@ -79,6 +79,15 @@ unfolding fill
 fill-touched i k [] r s t c = c
 fill-touched i k (v ∷ vs) r s t c = fill-touched i (k + 1) vs (put-cell k v r) s (write C.orders i k v t) (write-touched i k v r s t c)
 
+-- one of the three words is set
+count-touched : (i k v : ℕ) (r : Row) (s t : Store) → ((j : ℕ) → (j ≡ C.order-rows → ⊥) → (j ≡ C.live-orders → ⊥) → (j ≡ C.resting-orders → ⊥) → j ≡ k → ⊥) → Touched i r s t →
+    Touched i r s (write C.header 0 k v t)
+count-touched i k v r s t h c =
+    record { here = c .here; others = c .others; words = λ j x y z. rw (ne-eqb j k (h j x y z)) (c .words j x y z) }
+
+hint-touched : (i k v : ℕ) (r : Row) (s t : Store) → Touched i r s t → Touched i r s (write C.hints k C.hint-row v t)
+hint-touched i k v r s t c = record { here = c .here; others = c .others; words = c .words }
+
 untouched : (i : ℕ) (s : Store) → Touched i (s C.orders i) s s
 untouched i s = record { here = refl; others = λ j ne. refl; words = λ k x y z. refl }
 
@@ -97,6 +106,16 @@ same-flags q r e f =
       resting-is = rw (ap (λ x. x .2) e) (f .resting-is);
       kept-is = ap (λ x. x .3) e ∙ f .kept-is ∙ ap (λ x. either (x .1) (x .2)) (sym e);
     }
+
+-- the other flag where one is 0 or 1
+either-zero : (a : ℕ) → a ≤ 1 → a ≡ either a 0
+either-zero zero h = refl
+either-zero (suc zero) h = refl
+either-zero (suc (suc a)) h = absurd (omega arith)
+
+either-one : (a : ℕ) → 1 ≡ either a 1
+either-one zero = refl
+either-one (suc a) = refl
 
 -- how many rows are in use, are live, and rest
 abbrev counts : Store → ℕ × ℕ × ℕ
@@ -134,6 +153,21 @@ module _ (i : ℕ) (r : Row) (s t : Store) (c : Touched i r s t) where
         flags = λ j l. ⊎-elim (λ (q : j ≡ i). rw (q, c .here) f) (λ q. rw (c .others j q) (d .flags j (rw w at l))) (same? j i);
       }
 
+-- the order and the resting order of a number, with these words
+abbrev pub order-of : ℕ → Live → Order
+order-of n o =
+    record {
+      number = n;
+      account = o .account;
+      client-ref = o .«client_ref»;
+      side = side (o .side);
+      price = maybe-price (o .priced) (o .price);
+      leaves = o .leaves;
+    }
+
+abbrev pub resting-of : ℕ → Resting → D.Resting
+resting-of n o = record { number = n; side = side (o .side); price = int (o .price); visible = o .visible; leaves = o .leaves }
+
 -- t is in order and holds the gateway of s, but for the lists of orders
 pub record Did (s t : Store) (os : List Order) (rs : List D.Resting) : Type 0 where
   pub view : gateway t ≡ with-lists os rs (gateway s)
@@ -156,6 +190,15 @@ module _ (s : Store) (i : ℕ) (d : Ordered s) (l : i < word s C.order-rows) whe
           let y = ap (λ m. length (shown (λ j. read k f (t C.orders j)) m)) n in
           let z = ap (λ (q : Row). q k) (c .here) in
           omega arith
+
+    -- where the row is marked, there is one to count
+    marked-some : was k ≤ 1 → 0 < was k → 0 < length (marked s k f)
+    marked-some a m =
+        let t = write C.orders i k 0 s in
+        let c = write-touched i k 0 was s s (untouched i s) in
+        let z : t C.orders i k ≡ 0 = ap (λ (q : Row). q k) (c .here) ∙ rw (eq-eqb k k refl) refl in
+        let x = shown-length number (changed i (put-cell k 0 was) s t c k f (word s C.order-rows) l) rising a (rw z (omega arith)) in
+        omega arith
 
   module _ (r : Row) (t : Store) (c : Touched i r s t) (g : gateway t ≡ with-lists (marked t C.order-live order) (marked t C.order-resting resting) (gateway s)) where
     row-did : (os : List Order) (rs : List D.Resting) → word t C.order-rows ≡ word s C.order-rows → r C.order-number ≡ was C.order-number → Flags r →
@@ -219,3 +262,118 @@ module _ (s : Store) (i : ℕ) (d : Ordered s) (l : i < word s C.order-rows) whe
   unfolding fill
   show-does v w m =
       resting-did _ (show i v w s) (fill-touched i C.order-visible (v ∷ w ∷ []) was s s (untouched i s)) refl refl refl refl m
+
+  pub live-some : 0 < was C.order-live → 0 < word s C.live-orders
+  live-some m = rw (d .counted .live-count) (marked-some C.order-live order number-of (λ r. refl) (d .sorted .flags i l .live-is) m)
+
+  pub resting-some : 0 < was C.order-resting → 0 < word s C.resting-orders
+  resting-some m = rw (d .counted .resting-count) (marked-some C.order-resting resting D.resting-number (λ r. refl) (d .sorted .flags i l .resting-is) m)
+
+  pub retire-does : 0 < was C.order-live → Did s (retire i s) (remove (was C.order-number) (ledger s .orders)) (depth s .resting)
+  unfolding strike
+  retire-does m =
+      let f = d .sorted .flags i l in
+      let t = retire i s in
+      let c =
+      count-touched i C.live-orders (word s C.live-orders - 1) _ s _ (λ j x y z. y)
+      (write-touched i C.order-kept (was C.order-resting) _ s _ (write-touched i C.order-live 0 was s s (untouched i s)))
+      in
+      row-did _ t c refl _ _ refl refl
+      (record { live-is = omega arith; resting-is = f .resting-is; kept-is = refl })
+      (omega (arith, live-some m, f .live-is)) refl
+      (shown-strike number-of (changed i _ s t c C.order-live order (word s C.order-rows) l) (rising C.order-live order number-of (λ r. refl)) (ap (λ (q : Row). q C.order-live) (c .here)))
+      (still _ t c refl C.order-resting resting refl refl)
+
+  pub take-off-does : 0 < was C.order-resting → Did s (take-off i s) (ledger s .orders) (without D.resting-number (was C.order-number) (depth s .resting))
+  unfolding strike
+  take-off-does m =
+      let f = d .sorted .flags i l in
+      let t = take-off i s in
+      let c =
+      count-touched i C.resting-orders (word s C.resting-orders - 1) _ s _ (λ j x y z. z)
+      (write-touched i C.order-kept (was C.order-live) _ s _ (write-touched i C.order-resting 0 was s s (untouched i s)))
+      in
+      row-did _ t c refl _ _ refl refl
+      (record { live-is = f .live-is; resting-is = omega arith; kept-is = either-zero (was C.order-live) (f .live-is) })
+      refl (omega (arith, resting-some m, f .resting-is))
+      (still _ t c refl C.order-live order refl refl)
+      (shown-strike D.resting-number (changed i _ s t c C.order-resting resting (word s C.order-rows) l) (rising C.order-resting resting D.resting-number (λ r. refl)) (ap (λ (q : Row). q C.order-resting) (c .here)))
+
+  pub rest-does : (o : Resting) → was C.order-resting ≡ 0 → Did s (rest i o s) (ledger s .orders) (insert D.resting-number (resting-of (was C.order-number) o) (depth s .resting))
+  unfolding rest fill
+  rest-does o m =
+      let f = d .sorted .flags i l in
+      let t = rest i o s in
+      let c =
+      count-touched i C.resting-orders (word s C.resting-orders + 1) _ s _ (λ j x y z. z)
+      (fill-touched i C.order-resting (1 ∷ 1 ∷ []) _ s _ (fill-touched i C.order-rest-side (o .side ∷ o .price ∷ o .visible ∷ o .leaves ∷ []) was s s (untouched i s)))
+      in
+      row-did _ t c refl _ _ refl refl
+      (record { live-is = f .live-is; resting-is = omega arith; kept-is = either-one (was C.order-live) })
+      refl (omega (arith, m))
+      (still _ t c refl C.order-live order refl refl)
+      (shown-revive D.resting-number (changed i _ s t c C.order-resting resting (word s C.order-rows) l) (rising C.order-resting resting D.resting-number (λ r. refl))
+      (ap (λ (q : Row). q C.order-number) (c .here)) m (omega (arith, ap (λ (q : Row). q C.order-resting) (c .here)))
+      ∙ ap (λ q. insert D.resting-number (resting q) (depth s .resting)) (c .here))
+
+-- ---- a row more
+
+module _ (s : Store) (n : ℕ) (o : Live) where
+  abbrev next : ℕ
+  next = word s C.order-rows
+
+  abbrev new-row : Row
+  new-row = put-cells C.order-number (n ∷ 1 ∷ 0 ∷ 1 ∷ o .account ∷ o .«client_ref» ∷ o .side ∷ o .priced ∷ o .price ∷ o .leaves ∷ o .hold ∷ []) (s C.orders next)
+
+  append-touched : Touched next new-row s (append n o s)
+  unfolding append fill
+  append-touched =
+      hint-touched next (n % 4096) next _ s _
+      (count-touched next C.live-orders (word s C.live-orders + 1) _ s _ (λ j x y z. y)
+      (count-touched next C.order-rows (next + 1) _ s _ (λ j x y z. x)
+      (fill-touched next C.order-number (n ∷ 1 ∷ 0 ∷ 1 ∷ o .account ∷ o .«client_ref» ∷ o .side ∷ o .priced ∷ o .price ∷ o .leaves ∷ o .hold ∷ []) (s C.orders next) s s (untouched next s))))
+
+  -- the rows before the new one
+  before : (j : ℕ) → j < next → append n o s C.orders j ≡ s C.orders j
+  before j l = append-touched .others j (λ e. omega arith)
+
+  append-sorted : Sorted s → ((j : ℕ) → j < next → s C.orders j C.order-number < n) → Sorted (append n o s)
+  unfolding append fill
+  append-sorted d h =
+      record {
+        ascends =
+            ascends-open (λ k. k) (gap-end (λ k. k) (λ j. s C.orders j C.order-number) (λ j. append n o s C.orders j C.order-number) next (λ j l. ap (λ (q : Row). q C.order-number) (before j l)))
+            (d .ascends) (λ j l. rw (ap (λ (q : Row). q C.order-number) (append-touched .here)) (h j l)) (λ j a b. absurd (omega arith));
+        flags = λ j l.
+            ⊎-elim
+            (λ (q : j ≡ next). rw (q, append-touched .here) (record { live-is = omega arith; resting-is = omega arith; kept-is = refl }))
+            (λ q. rw (append-touched .others j q) (d .flags j (omega (arith, q))))
+            (same? j next);
+      }
+
+  pub append-does : Ordered s → next < order-room → ((j : ℕ) → j < next → s C.orders j C.order-number < n) →
+      Did s (append n o s) (ledger s .orders ++ (order-of n o ∷ [])) (depth s .resting)
+  unfolding append fill
+  append-does d m h =
+      let t = append n o s in
+      let c = append-touched in
+      let a : marked t C.order-live order ≡ marked s C.order-live order ++ (order-of n o ∷ []) =
+      shown-more (λ j. read C.order-live order (s C.orders j)) (λ j. read C.order-live order (t C.orders j)) next (λ j l. ap (read C.order-live order) (before j l))
+      (omega (arith, ap (λ (q : Row). q C.order-live) (c .here)))
+      ∙ ap (λ q. marked s C.order-live order ++ (order q ∷ [])) (c .here) in
+      let b : marked t C.order-resting resting ≡ marked s C.order-resting resting =
+      shown-dead (λ j. read C.order-resting resting (s C.orders j)) (λ j. read C.order-resting resting (t C.orders j)) next (λ j l. ap (read C.order-resting resting) (before j l))
+      (ap (λ (q : Row). q C.order-resting) (c .here)) in
+      record {
+        view = ap₂ (λ x y. with-lists x y (gateway s)) a b;
+        ordered =
+            record {
+              bounds = bounds-kept next new-row s t c (omega arith) (d .bounds);
+              sorted = append-sorted (d .sorted) h;
+              counted =
+                  record {
+                    live-count = rw (a, length-append (marked s C.order-live order) (order-of n o ∷ []), d .counted .live-count) refl;
+                    resting-count = rw b (d .counted .resting-count);
+                  };
+            };
+      }

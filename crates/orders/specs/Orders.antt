@@ -1,9 +1,7 @@
 -- The table of orders: what a lookup finds, and what each operation writes, as a store.
-use Prim.Native.Nat.{ℕ, _+_, _-_, _%_, _≤_, _<_}
+use Prim.Native.Nat.{ℕ, zero, suc, _+_, _-_, _%_, _≤_, _<_}
 use mathlib.Core.Path.{_≡_}
-use mathlib.Core.Bool.{cond}
 use mathlib.Core.List.{List, [], _∷_}
-use lib.Dec.{eqb}
 use lib.ListN.{length}
 use Rattle.table.specs.Live.{look, Ascends}
 use Rattle.table.specs.Table.{Finds, found}
@@ -17,7 +15,8 @@ use Rattle.orders.specs.declared.Resting.{Resting}
 
 -- a row whose flags are a and b is kept where one of them is 1
 abbrev pub either : ℕ → ℕ → ℕ
-either a b = cond (eqb a 0) b 1
+either zero b = b
+either (suc a) b = 1
 
 -- the flags of a row
 pub record Flags (r : Row) : Type 0 where
