@@ -18,7 +18,10 @@ use Rattle.gateway.specs.Ledger.{Order, number-of, remove, with-leaves, with-pr
 use Rattle.gateway.specs.Ledger as L
 use Rattle.gateway.specs.Table.{update}
 use Rattle.store.specs.Cells as C
-use Rattle.store.specs.View.{Row, Store, word, write, side, maybe-price, order, resting, marked, ledger, depth, gateway, order-room, Bounds}
+use Rattle.store.specs.Layout.{cell}
+use Rattle.store.specs.View.{Row, Store, Same, Is, word, write, side, maybe-price, order, resting, marked, ledger, depth, gateway, order-room, Bounds}
+use Rattle.store.proofs.Places.{header-cell, order-cell}
+use Rattle.store.proofs.Frames.{gateway-same}
 use Rattle.orders.specs.declared.Live.{Live}
 use Rattle.orders.specs.declared.Resting.{Resting}
 use Rattle.orders.specs.Orders.{either, Flags, Sorted, Counted, Ordered, fill, set-leaves, set-price, show, strike, retire, take-off, rest, append}
@@ -121,23 +124,25 @@ either-one (suc a) = refl
 abbrev counts : Store → ℕ × ℕ × ℕ
 counts s = (word s C.order-rows, word s C.live-orders, word s C.resting-orders)
 
+-- a state is in bounds where its words are those of one that is, but for three
+pub bounds-from : (s t : Store) → ((k : ℕ) → k < 32 → (k ≡ C.order-rows → ⊥) → (k ≡ C.live-orders → ⊥) → (k ≡ C.resting-orders → ⊥) → word t k ≡ word s k) →
+    word t C.order-rows ≤ order-room → Bounds s → Bounds t
+bounds-from s t w h b =
+    record {
+      accounts-fit = rw (w C.owner-limit (omega arith) (λ e. omega arith) (λ e. omega arith) (λ e. omega arith)) (b .accounts-fit);
+      flights-fit = rw (w C.flying (omega arith) (λ e. omega arith) (λ e. omega arith) (λ e. omega arith)) (b .flights-fit);
+      batch-fits = rw (w C.waiting (omega arith) (λ e. omega arith) (λ e. omega arith) (λ e. omega arith)) (b .batch-fits);
+      orders-fit = h;
+      bids-fit = rw (w C.bid-levels (omega arith) (λ e. omega arith) (λ e. omega arith) (λ e. omega arith)) (b .bids-fit);
+      asks-fit = rw (w C.ask-levels (omega arith) (λ e. omega arith) (λ e. omega arith) (λ e. omega arith)) (b .asks-fit);
+      trades-fit = rw (w C.trade-rows (omega arith) (λ e. omega arith) (λ e. omega arith) (λ e. omega arith)) (b .trades-fit);
+      notices-fit = rw (w C.notice-rows (omega arith) (λ e. omega arith) (λ e. omega arith) (λ e. omega arith)) (b .notices-fit);
+      changed-fit = rw (w C.changed-rows (omega arith) (λ e. omega arith) (λ e. omega arith) (λ e. omega arith)) (b .changed-fit);
+    }
+
 module _ (i : ℕ) (r : Row) (s t : Store) (c : Touched i r s t) where
-  pub bounds-kept : word t C.order-rows ≤ order-room → Bounds s → Bounds t
-  bounds-kept h b =
-      record {
-        accounts-fit = rw (w C.owner-limit (λ e. omega arith) (λ e. omega arith) (λ e. omega arith)) (b .accounts-fit);
-        flights-fit = rw (w C.flying (λ e. omega arith) (λ e. omega arith) (λ e. omega arith)) (b .flights-fit);
-        batch-fits = rw (w C.waiting (λ e. omega arith) (λ e. omega arith) (λ e. omega arith)) (b .batch-fits);
-        orders-fit = h;
-        bids-fit = rw (w C.bid-levels (λ e. omega arith) (λ e. omega arith) (λ e. omega arith)) (b .bids-fit);
-        asks-fit = rw (w C.ask-levels (λ e. omega arith) (λ e. omega arith) (λ e. omega arith)) (b .asks-fit);
-        trades-fit = rw (w C.trade-rows (λ e. omega arith) (λ e. omega arith) (λ e. omega arith)) (b .trades-fit);
-        notices-fit = rw (w C.notice-rows (λ e. omega arith) (λ e. omega arith) (λ e. omega arith)) (b .notices-fit);
-        changed-fit = rw (w C.changed-rows (λ e. omega arith) (λ e. omega arith) (λ e. omega arith)) (b .changed-fit);
-      }
-    where
-      w : (k : ℕ) → (k ≡ C.order-rows → ⊥) → (k ≡ C.live-orders → ⊥) → (k ≡ C.resting-orders → ⊥) → word t k ≡ word s k
-      w = c .words
+  bounds-kept : word t C.order-rows ≤ order-room → Bounds s → Bounds t
+  bounds-kept = bounds-from s t (λ k l. c .words k)
 
   -- what is the same in the row i is the same in every row
   same-rows : {B : Type 0} (f : Row → B) → f r ≡ f (s C.orders i) → (j : ℕ) → f (t C.orders j) ≡ f (s C.orders j)
@@ -172,6 +177,46 @@ resting-of n o = record { number = n; side = side (o .side); price = int (o .pri
 pub record Did (s t : Store) (os : List Order) (rs : List D.Resting) : Type 0 where
   pub view : gateway t ≡ with-lists os rs (gateway s)
   pub ordered : Ordered t
+
+-- ---- from the program to the bytes
+
+module _ (s t : Store) (e : Same s t) (d : Ordered s) where
+  word-same : (k : ℕ) → k < 32 → word t k ≡ word s k
+  word-same k l = sym (e C.header 0 k (header-cell k l))
+
+  cell-same : (j k : ℕ) → j < word s C.order-rows → k < 16 → t C.orders j k ≡ s C.orders j k
+  cell-same j k h l = sym (e C.orders j k (order-cell j k (omega (arith, d .bounds .orders-fit)) l))
+
+  view-same : gateway t ≡ gateway s
+  view-same = sym (gateway-same s t (d .bounds) e)
+
+  ordered-same : Ordered t
+  ordered-same =
+      let w = word-same C.order-rows (omega arith) in
+      record {
+        bounds = bounds-from s t (λ k l x y z. word-same k l) (rw w (d .bounds .orders-fit)) (d .bounds);
+        sorted =
+            record {
+              ascends =
+                  rw w (ascends-ext (λ k. k) (λ j. s C.orders j C.order-number) (λ j. t C.orders j C.order-number) (word s C.order-rows) (λ j l. cell-same j C.order-number l (omega arith)) (d .sorted .ascends));
+              flags = λ j l.
+                  let h : j < word s C.order-rows = rw w at l in
+                  same-flags (s C.orders j) (t C.orders j)
+                  (λ z. (cell-same j C.order-number h (omega arith) z, cell-same j C.order-live h (omega arith) z, cell-same j C.order-resting h (omega arith) z, cell-same j C.order-kept h (omega arith) z))
+                  (d .sorted .flags j h);
+            };
+        counted =
+            record {
+              live-count = word-same C.live-orders (omega arith) ∙ d .counted .live-count ∙ sym (ap (λ g. length (g .core .ledger .orders)) view-same);
+              resting-count = word-same C.resting-orders (omega arith) ∙ d .counted .resting-count ∙ sym (ap (λ g. length (g .rest .depth .resting)) view-same);
+            };
+      }
+
+-- what a function's contract says and what its program does, together: the bytes hold the new gateway, in order
+pub did-bytes : (s t : Store) (os : List Order) (rs : List D.Resting) (ys : List ℕ) → Is ys t → Did s t os rs → Did s (cell ys) os rs
+did-bytes s t os rs ys h d =
+    let e : Same t (cell ys) = λ b i k c. sym (h .same b i k c) in
+    record { view = view-same t (cell ys) e (d .ordered) ∙ d .view; ordered = ordered-same t (cell ys) e (d .ordered) }
 
 -- a row in use is changed
 module _ (s : Store) (i : ℕ) (d : Ordered s) (l : i < word s C.order-rows) where
