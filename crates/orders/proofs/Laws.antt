@@ -1,16 +1,20 @@
 -- What the operations write, and what a lookup finds in the bytes. Assumes nothing.
-use mathlib.Core.Path.{_≡_, refl, sym, ap, _∙_}
+use mathlib.Core.Path.{_≡_, refl, sym, ap, ap₂, _∙_}
+use mathlib.Core.Logic.{_⊎_, inl, inr, ⊎-elim}
 use mathlib.Core.Option.{Option, none, some, Option·map}
-use mathlib.Core.List.{List, [], _∷_, map}
-use Prim.Native.Nat.{ℕ, _+_, _*_, _-_, _%_, _^_, _≤_, _<_}
+use mathlib.Core.List.{List, [], _∷_, _++_, map}
+use Prim.Native.Nat.{ℕ, zero, suc, _+_, _*_, _-_, _%_, _^_, _≤_, _<_}
 use native.Mathlib.Omega.{arith}
 use Rattle.le.specs.Le.{le}
-use Rattle.le.proofs.Laws.{le-split}
-use Rattle.table.specs.Live.{live, look}
-use Rattle.table.specs.Table.{keyAt, markAt, Finds, found}
+use lib.ListN.{length, getD}
+use borrow.Author.Tests.{ne-eqb, lt-ltb, le-ltb}
+use Rattle.le.proofs.Laws.{lt-or-le, le-split, le-local, le-outside, same-part}
+use Rattle.table.specs.Live.{pick, live, kept, look}
+use Rattle.table.specs.Table.{keyAt, markAt, Room, Finds, found, Compacted}
 use Rattle.table.specs.Table as T
 use Rattle.table.specs.declared.Found.{Found}
 use Rattle.table.specs.declared.Found.the-variants.{At, Nothing}
+use Rattle.table.proofs.Live.{same?}
 use Rattle.table.proofs.Search.{finds-look}
 use Rattle.gateway.specs.Depth.{resting-number}
 use Rattle.gateway.specs.Ledger.{number-of}
@@ -22,7 +26,7 @@ use Rattle.store.proofs.Rows.{then-set, is-itself, same-write}
 use Rattle.orders.specs.declared.Live.{Live}
 use Rattle.orders.specs.declared.Resting.{Resting}
 use Rattle.orders.proofs.Shown.{look-map}
-use Rattle.orders.specs.Orders.{Sorted, Marks, FindsRow, Sees, fill, strike, rest, append}
+use Rattle.orders.specs.Orders.{either, Sorted, Marks, FindsRow, Sees, fill, strike, rest, append, places, packed, compact, make-room}
 
 -- ---- what is written
 
@@ -118,6 +122,97 @@ find-is xs k n number r m e h =
     rw (← e)
     (finds-ext n number (λ j l. key-cell xs j) (λ j l. mark-cell xs k j (omega (arith, m .small j (rw e at l)))) r h)
 
+-- ---- the tombstones squeezed out
+
+pub room-bytes : {xs : List ℕ} (n : ℕ) → Ready xs → n ≡ cell xs C.header 0 C.order-rows → Room 69888 128 n xs
+room-bytes n r e = record { fits = omega (arith, r .holds, r .bounds .orders-fit); wide = omega arith; words = refl }
+
+-- a cell of another block lies before the rows or behind them
+aside : (b i k : ℕ) → Cell b i k → (b ≡ C.orders → ⊥) → (8 * spot b i k + 8 ≤ 69888) ⊎ (332032 ≤ 8 * spot b i k)
+unfolding spot start
+aside zero i k c ne = inl (omega (arith, c .row-is, c .cell-is))
+aside (suc zero) i k c ne = inl (omega (arith, c .row-is, c .cell-is))
+aside (suc (suc zero)) i k c ne = inl (omega (arith, c .row-is, c .cell-is))
+aside (suc (suc (suc zero))) i k c ne = inl (omega (arith, c .row-is, c .cell-is))
+aside (suc (suc (suc (suc zero)))) i k c ne = inl (omega (arith, c .row-is, c .cell-is))
+aside (suc (suc (suc (suc (suc zero))))) i k c ne = absurd (ne refl)
+aside (suc (suc (suc (suc (suc (suc zero)))))) i k c ne = inr (omega arith)
+aside (suc (suc (suc (suc (suc (suc (suc zero))))))) i k c ne = inr (omega arith)
+aside (suc (suc (suc (suc (suc (suc (suc (suc zero)))))))) i k c ne = inr (omega arith)
+aside (suc (suc (suc (suc (suc (suc (suc (suc (suc zero))))))))) i k c ne = inr (omega arith)
+aside (suc (suc (suc (suc (suc (suc (suc (suc (suc (suc zero)))))))))) i k c ne = inr (omega arith)
+aside (suc (suc (suc (suc (suc (suc (suc (suc (suc (suc (suc zero))))))))))) i k c ne = inr (omega arith)
+aside (suc (suc (suc (suc (suc (suc (suc (suc (suc (suc (suc (suc b)))))))))))) i k c ne = absurd (omega (arith, c .block-is))
+
+order-cell-at : (xs : List ℕ) (i k : ℕ) → cell xs C.orders i k ≡ le 8 xs (69888 + 128 * i + 8 * k)
+unfolding cell spot start
+order-cell-at xs i k = let e : 8 * (8736 + (16 * i + k)) ≡ 69888 + 128 * i + 8 * k = omega arith in ap (le 8 xs) e
+
+either-small : (a b : ℕ) → a ≤ 1 → b ≤ 1 → either a b ≤ 1
+either-small zero b h l = l
+either-small (suc a) b h l = omega arith
+
+kept-ext : (ms ms′ : ℕ → ℕ) (n : ℕ) → ((j : ℕ) → j < n → ms j ≡ ms′ j) → kept ms n ≡ kept ms′ n
+unfolding live
+kept-ext ms ms′ zero h = refl
+kept-ext ms ms′ (suc n) h = ap₂ (λ l m. l ++ pick m n) (kept-ext ms ms′ n (λ j l. h j (omega arith))) (h n (omega arith))
+
+module _ (xs ys : List ℕ) (n w : ℕ) (r : Ready xs) (o : Sorted (cell xs)) (e : n ≡ cell xs C.header 0 C.order-rows) (c : Compacted 69888 128 24 n w xs ys) where
+  places-are : kept (markAt 69888 128 24 xs) n ≡ places (cell xs)
+  places-are =
+      kept-ext (markAt 69888 128 24 xs) (λ j. cell xs C.orders j C.order-kept) n (λ j l. mark-cell xs C.order-kept j (kept-small j (rw e at l)))
+      ∙ ap (kept (λ j. cell xs C.orders j C.order-kept)) e
+    where
+      kept-small : (j : ℕ) → j < word (cell xs) C.order-rows → cell xs C.orders j C.order-kept < 256
+      kept-small j l = let f = o .flags j l in omega (arith, f .kept-is, either-small _ _ (f .live-is) (f .resting-is))
+
+  size-is : w ≡ length (places (cell xs))
+  size-is = c .count ∙ ap length places-are
+
+  -- a row's cell, of a row that moved and of one behind them
+  cell-moved : (i k : ℕ) → i < w → k < 16 → cell ys C.orders i k ≡ cell xs C.orders (getD (places (cell xs)) i 0) k
+  cell-moved i k h l =
+      order-cell-at ys i k
+      ∙ le-local 8 .same (same-part (8 * k) 8 (omega arith) (rw places-are at (c .rows i h)))
+      ∙ sym (order-cell-at xs (getD (places (cell xs)) i 0) k)
+
+  cell-behind : (i k : ℕ) → w ≤ i → cell ys C.orders i k ≡ cell xs C.orders i k
+  cell-behind i k h =
+      order-cell-at ys i k ∙ le-outside 8 (69888 + 128 * i + 8 * k) (c .frame) (inr (omega arith)) ∙ sym (order-cell-at xs i k)
+
+  cell-aside : (b i k : ℕ) → Cell b i k → (b ≡ C.orders → ⊥) → cell ys b i k ≡ cell xs b i k
+  unfolding cell
+  cell-aside b i k q ne =
+      le-outside 8 (8 * spot b i k) (c .frame) (⊎-elim (λ h. inl h) (λ h. inr (omega (arith, c .fewer, r .bounds .orders-fit, e))) (aside b i k q ne))
+
+  packed-same : Same (cell ys) (packed (cell xs))
+  unfolding packed
+  packed-same b i k q =
+      ⊎-elim
+      (λ (f : b ≡ C.orders).
+      let l : k < 16 = rw f at (q .cell-is) in
+      rw (f, ← size-is)
+      (⊎-elim
+      (λ (h : i < w). rw (lt-ltb i w h) (cell-moved i k h l))
+      (λ (h : w ≤ i). rw (le-ltb i w h) (cell-behind i k h))
+      (lt-or-le i w)))
+      (λ ne. rw (ne-eqb b C.orders ne) (cell-aside b i k q ne))
+      (same? b C.orders)
+
+  pub compact-is : (zs : List ℕ) → w < 2 ^ 64 → Set ys zs C.header 0 C.order-rows w → Is zs (compact (cell xs))
+  unfolding compact
+  compact-is zs f p =
+      rw (← size-is)
+      (then-set (record { holds = omega (arith, c .frame .len, r .holds); same = packed-same }) (header-cell C.order-rows (omega arith)) f p)
+
+pub room-there : (xs : List ℕ) (n : ℕ) → Holds xs → n ≡ cell xs C.header 0 C.order-rows → n < order-room → Is xs (make-room (cell xs))
+unfolding make-room
+room-there xs n h e l = rw (← e, lt-ltb n order-room l) (is-itself h)
+
+pub room-made : (xs ys : List ℕ) (n : ℕ) → n ≡ cell xs C.header 0 C.order-rows → order-room ≤ n → Is ys (compact (cell xs)) → Is ys (make-room (cell xs))
+unfolding make-room
+room-made xs ys n e l h = rw (← e, le-ltb n order-room l) h
+
 pub live-marks : {s : Store} → Sorted s → Marks C.order-live s
 live-marks s = record { inside = omega arith; small = λ j l. s .flags j l .live-is }
 
@@ -149,4 +244,4 @@ sees-live s n r = sees C.order-live order number-of s n r (λ q. refl)
 pub sees-resting : (s : Store) (n : ℕ) (r : Found) → Sorted s → FindsRow C.order-resting s n r → Sees C.order-resting resting resting-number s n r
 sees-resting s n r = sees C.order-resting resting resting-number s n r (λ q. refl)
 
-pub ruleset laws = (sees-live, sees-resting, set-two-is, set-four-is, strike-is, rest-is, put-row-is, append-is, sorted-bytes, find-is, live-marks, resting-marks, header-cell, order-cell, hint-cell, arith)
+pub ruleset laws = (sees-live, sees-resting, set-two-is, set-four-is, strike-is, rest-is, put-row-is, append-is, sorted-bytes, room-bytes, compact-is, room-there, room-made, find-is, live-marks, resting-marks, header-cell, order-cell, hint-cell, arith)

@@ -1,13 +1,15 @@
 -- The table of orders: what a lookup finds, and what each operation writes, as a store.
 use Prim.Native.Nat.{ℕ, zero, suc, _+_, _-_, _%_, _≤_, _<_}
 use mathlib.Core.Path.{_≡_}
+use mathlib.Core.Bool.{cond}
 use mathlib.Core.List.{List, [], _∷_}
-use lib.ListN.{length}
-use Rattle.table.specs.Live.{look, Ascends}
+use lib.Dec.{eqb, ltb}
+use lib.ListN.{length, getD}
+use Rattle.table.specs.Live.{look, kept, Ascends}
 use Rattle.table.specs.Table.{Finds, found}
 use Rattle.table.specs.declared.Found.{Found}
 use Rattle.store.specs.Cells as C
-use Rattle.store.specs.View.{Row, Store, word, write, order, resting, marked, Bounds}
+use Rattle.store.specs.View.{Row, Store, word, write, order, resting, marked, order-room, Bounds}
 use Rattle.orders.specs.declared.Live.{Live}
 use Rattle.orders.specs.declared.Resting.{Resting}
 
@@ -115,3 +117,19 @@ append n o s =
     (fill C.header 0 C.order-rows ((i + 1) ∷ (word s C.live-orders + 1) ∷ [])
     (fill C.orders i C.order-number
     (n ∷ 1 ∷ 0 ∷ 1 ∷ o .account ∷ o .«client_ref» ∷ o .side ∷ o .priced ∷ o .price ∷ o .leaves ∷ o .hold ∷ []) s))
+
+-- the places of the rows that are kept
+abbrev pub places : Store → List ℕ
+places s = kept (λ j. s C.orders j C.order-kept) (word s C.order-rows)
+
+-- the rows at those places, from the first row on
+unfoldable pub packed : Store → Store
+packed s b i k = cond (eqb b C.orders) (s C.orders (cond (ltb i (length (places s))) (getD (places s) i 0) i) k) (s b i k)
+
+-- the tombstones are squeezed out
+unfoldable pub compact : Store → Store
+compact s = write C.header 0 C.order-rows (length (places s)) (packed s)
+
+-- room for one row more: a table that is full is compacted
+unfoldable pub make-room : Store → Store
+make-room s = cond (ltb (word s C.order-rows) order-room) s (compact s)

@@ -27,7 +27,7 @@ ghost use Rattle.gateway.specs.Ledger.{number-of};
 ghost use Rattle.store.specs.Cells as C;
 ghost use Rattle.store.specs.Layout.{cell, Cell, Holds};
 ghost use Rattle.store.specs.View.{word, order, resting, order-room, Is, Ready};
-ghost use Rattle.orders.specs.Orders.{Sorted, Marks, FindsRow, Sees, live-row, resting-row, fill, set-leaves, set-price, show, strike, retire, take-off, rest, append};
+ghost use Rattle.orders.specs.Orders.{Sorted, Marks, FindsRow, Sees, live-row, resting-row, fill, set-leaves, set-price, show, strike, retire, take-off, rest, append, compact, make-room};
 
 // The live half of a row.
 pub struct Live {
@@ -212,4 +212,25 @@ pub fn append(m: &mut [u8], number: u64, o: Live)
     put_row(m, i as usize, number, o);
     set_two(m, store::HEADER, 0, ORDER_ROWS, i + 1, n + 1);
     store::set(m, store::HINTS, (number % 4096) as usize, HINT_ROW, i);
+}
+
+// The tombstones are squeezed out. Hints of rows that moved are wrong from then on.
+fn compact(m: &mut [u8])
+    requires { ⌜ Ready (now m) × Sorted (cell (now m)) ⌝ }
+    ensures { λ r. ⌜ Is (now (m .exit)) (compact (cell (now (m .entry)))) ⌝ }
+{
+    let n = store::get(m, store::HEADER, 0, ORDER_ROWS);
+    let w = table::compact(m, BASE, STRIDE, 8 * ORDER_KEPT, n as usize);
+    store::set(m, store::HEADER, 0, ORDER_ROWS, w as u64);
+}
+
+// Room for one row more, where not all rows are kept.
+pub fn make_room(m: &mut [u8])
+    requires { ⌜ Ready (now m) × Sorted (cell (now m)) ⌝ }
+    ensures { λ r. ⌜ Is (now (m .exit)) (make-room (cell (now (m .entry)))) ⌝ }
+{
+    if store::get(m, store::HEADER, 0, ORDER_ROWS) < 2048 {
+        return;
+    }
+    compact(m);
 }
