@@ -1,0 +1,247 @@
+-- What the operations write, and what a lookup finds in the bytes. Assumes nothing.
+use mathlib.Core.Path.{_≡_, refl, sym, ap, ap₂, _∙_}
+use mathlib.Core.Logic.{_⊎_, inl, inr, ⊎-elim}
+use mathlib.Core.Option.{Option·map}
+use mathlib.Core.List.{List, [], _∷_, _++_}
+use Prim.Native.Nat.{ℕ, zero, suc, _+_, _*_, _-_, _%_, _≤_, _<_}
+use native.Mathlib.Omega.{arith}
+use Rattle.le.specs.Le.{le}
+use lib.ListN.{length, getD}
+use borrow.Author.Tests.{ne-eqb, lt-ltb, le-ltb}
+use Rattle.le.proofs.Laws.{lt-or-le, le-split, le-local, le-outside, same-part}
+use Rattle.table.specs.Live.{pick, live, kept}
+use Rattle.table.specs.Table.{keyAt, markAt, Room, Finds, found, Compacted}
+use Rattle.table.specs.Table as T
+use Rattle.table.specs.declared.Found.{Found}
+use Rattle.table.specs.declared.Found.the-variants.{At, Nothing}
+use Rattle.table.proofs.Live.{same?}
+use Rattle.table.proofs.Search.{finds-look}
+use Rattle.gateway.specs.Depth.{resting-number}
+use Rattle.gateway.specs.Ledger.{number-of}
+use Rattle.store.specs.Cells as C
+use Rattle.store.specs.Layout.{cell, start, spot, Cell, Holds, Set}
+use Rattle.store.specs.View.{Row, Store, Same, word, write, order, resting, order-room, Is, Ready}
+use Rattle.store.proofs.Places.{header-cell, order-cell, hint-cell}
+use Rattle.store.proofs.Rows.{then-set, is-itself, same-write}
+use Rattle.orders.specs.declared.Live.{Live}
+use Rattle.orders.specs.declared.Resting.{Resting}
+use Rattle.orders.proofs.Shown.{look-map}
+use Rattle.orders.specs.Orders.{either, Sorted, Marks, FindsRow, Sees, fill, strike, rest, append, places, packed, compact, make-room}
+
+-- ---- what is written
+
+same-fill : (s t : Store) (b i k : ℕ) (vs : List ℕ) → Same s t → Same (fill b i k vs s) (fill b i k vs t)
+unfolding fill
+same-fill s t b i k [] p = p
+same-fill s t b i k (v ∷ vs) p = same-fill (write b i k v s) (write b i k v t) b i (k + 1) vs (same-write s t b i k v p)
+
+-- what is filled in after writes that left s
+then-fill : {ys zs : List ℕ} {s : Store} (b i k : ℕ) (vs : List ℕ) → Is ys s → Is zs (fill b i k vs (cell ys)) → Is zs (fill b i k vs s)
+then-fill {ys} {zs} {s} b i k vs p q =
+    record { holds = q .holds; same = λ d j l c. q .same d j l c ∙ same-fill (cell ys) s b i k vs (p .same) d j l c }
+
+pub set-two-is : {xs ys zs : List ℕ} (b i k v w : ℕ) → Holds xs → Cell b i (k + 1) → Set xs ys b i k v → Set ys zs b i (k + 1) w →
+    Is zs (fill b i k (v ∷ w ∷ []) (cell xs))
+unfolding fill
+set-two-is b i k v w h c p q =
+    let d : Cell b i k = record { block-is = c .block-is; row-is = c .row-is; cell-is = omega (arith, c .cell-is) } in
+    then-set (then-set (is-itself h) d p) c q
+
+pub set-four-is : (xs : List ℕ) {ys zs : List ℕ} (i k u v w x : ℕ) → Is ys (fill C.orders i k (u ∷ v ∷ []) (cell xs)) → Is zs (fill C.orders i (k + 1 + 1) (w ∷ x ∷ []) (cell ys)) →
+    Is zs (fill C.orders i k (u ∷ v ∷ w ∷ x ∷ []) (cell xs))
+unfolding fill
+set-four-is xs i k u v w x p q = then-fill C.orders i (k + 1 + 1) (w ∷ x ∷ []) p q
+
+pub strike-is : {xs ys zs us : List ℕ} (k other c i kept n : ℕ) → Holds xs → i < order-room → k < 16 → c < 32 →
+    kept ≡ cell xs C.orders i other → n ≡ cell xs C.header 0 c →
+    Set xs ys C.orders i k 0 → Set ys zs C.orders i C.order-kept kept → Set zs us C.header 0 c (n - 1) → Is us (strike k other c i (cell xs))
+unfolding strike
+strike-is k other c i kept n h l kl cl ke ne p q r =
+    rw (← ke, ← ne)
+    (then-set (then-set (then-set (is-itself h) (order-cell i k l kl) p) (order-cell i C.order-kept l (omega arith)) q)
+    (header-cell c cl) r)
+
+pub rest-is : (xs : List ℕ) {ys zs us : List ℕ} (i n : ℕ) (o : Resting) → n ≡ cell xs C.header 0 C.resting-orders →
+    Is ys (fill C.orders i C.order-rest-side (o .side ∷ o .price ∷ o .visible ∷ o .leaves ∷ []) (cell xs)) →
+    Is zs (fill C.orders i C.order-resting (1 ∷ 1 ∷ []) (cell ys)) →
+    Set zs us C.header 0 C.resting-orders (n + 1) → Is us (rest i o (cell xs))
+unfolding rest
+rest-is xs i n o e p q r =
+    rw (← e) (then-set (then-fill C.orders i C.order-resting (1 ∷ 1 ∷ []) p q) (header-cell C.resting-orders (omega arith)) r)
+
+pub put-row-is : (xs : List ℕ) {ys zs us vs : List ℕ} (i n : ℕ) (o : Live) → i < order-room →
+    Is ys (fill C.orders i C.order-number (n ∷ 1 ∷ 0 ∷ 1 ∷ []) (cell xs)) →
+    Is zs (fill C.orders i C.order-account (o .account ∷ o .«client_ref» ∷ o .side ∷ o .priced ∷ []) (cell ys)) →
+    Is us (fill C.orders i C.order-price (o .price ∷ o .leaves ∷ []) (cell zs)) →
+    Set us vs C.orders i C.order-hold (o .hold) →
+    Is vs (fill C.orders i C.order-number (n ∷ 1 ∷ 0 ∷ 1 ∷ o .account ∷ o .«client_ref» ∷ o .side ∷ o .priced ∷ o .price ∷ o .leaves ∷ o .hold ∷ []) (cell xs))
+unfolding fill
+put-row-is xs i n o l p q r t =
+    then-set
+    (then-fill C.orders i C.order-price (o .price ∷ o .leaves ∷ [])
+    (then-fill C.orders i C.order-account (o .account ∷ o .«client_ref» ∷ o .side ∷ o .priced ∷ []) p q) r)
+    (order-cell i C.order-hold l (omega arith)) t
+
+pub append-is : (xs : List ℕ) {ys zs us : List ℕ} (n i c : ℕ) (o : Live) → i ≡ cell xs C.header 0 C.order-rows → c ≡ cell xs C.header 0 C.live-orders →
+    Is ys (fill C.orders i C.order-number (n ∷ 1 ∷ 0 ∷ 1 ∷ o .account ∷ o .«client_ref» ∷ o .side ∷ o .priced ∷ o .price ∷ o .leaves ∷ o .hold ∷ []) (cell xs)) →
+    Is zs (fill C.header 0 C.order-rows ((i + 1) ∷ (c + 1) ∷ []) (cell ys)) →
+    Set zs us C.hints (n % 4096) C.hint-row i → Is us (append n o (cell xs))
+unfolding append
+append-is xs n i c o ie ce p q r =
+    rw (← ie, ← ce) (then-set (then-fill C.header 0 C.order-rows ((i + 1) ∷ (c + 1) ∷ []) p q) (hint-cell (n % 4096) C.hint-row (omega arith) (omega arith)) r)
+
+-- ---- what is found
+
+-- the key and the mark that `table` reads are cells; a cell below 256 is its low byte
+key-cell : (xs : List ℕ) (j : ℕ) → keyAt 69888 128 xs j ≡ cell xs C.orders j C.order-number
+unfolding cell spot start
+key-cell xs j = let e : 69888 + 128 * j ≡ 8 * (8736 + (16 * j + 0)) = omega arith in ap (le 8 xs) e
+
+low-byte : (xs : List ℕ) (o : ℕ) → le 8 xs o < 256 → le 1 xs o ≡ le 8 xs o
+low-byte xs o h = omega (arith, le-split 1 7 xs o)
+
+mark-cell : (xs : List ℕ) (k j : ℕ) → cell xs C.orders j k < 256 → markAt 69888 128 (8 * k) xs j ≡ cell xs C.orders j k
+unfolding cell spot start
+mark-cell xs k j h =
+    let e : 69888 + 128 * j + 8 * k ≡ 8 * (8736 + (16 * j + k)) = omega arith in ap (le 1 xs) e ∙ low-byte xs (8 * (8736 + (16 * j + k))) h
+
+finds-ext : {ks ms ks′ ms′ : ℕ → ℕ} (n k : ℕ) → ((j : ℕ) → j < n → ks j ≡ ks′ j) → ((j : ℕ) → j < n → ms j ≡ ms′ j) → (r : Found) → Finds ks ms n k r → Finds ks′ ms′ n k r
+finds-ext n k ke me (At i) h = (h .0, sym (ke i (h .0)) ∙ h .1, rw (← me i (h .0)) (h .2))
+finds-ext n k ke me Nothing h = λ j l e. sym (me j l) ∙ h j l (ke j l ∙ e)
+
+pub sorted-bytes : {xs : List ℕ} (n : ℕ) → Ready xs → Sorted (cell xs) → n ≡ cell xs C.header 0 C.order-rows → T.Sorted 69888 128 n xs
+sorted-bytes {xs} n r s e =
+    record {
+      room = record { fits = omega (arith, r .holds, r .bounds .orders-fit); wide = omega arith; words = refl };
+      asc = λ i j h l. rw (key-cell xs i, key-cell xs j) (s .ascends i j h (rw e at l));
+    }
+
+pub find-is : (xs : List ℕ) (k n number : ℕ) (r : Found) → Marks k (cell xs) → n ≡ cell xs C.header 0 C.order-rows →
+    Finds (keyAt 69888 128 xs) (markAt 69888 128 (8 * k) xs) n number r → FindsRow k (cell xs) number r
+find-is xs k n number r m e h =
+    rw (← e)
+    (finds-ext n number (λ j l. key-cell xs j) (λ j l. mark-cell xs k j (omega (arith, m .small j (rw e at l)))) r h)
+
+-- ---- the tombstones squeezed out
+
+pub room-bytes : {xs : List ℕ} (n : ℕ) → Ready xs → n ≡ cell xs C.header 0 C.order-rows → Room 69888 128 n xs
+room-bytes n r e = record { fits = omega (arith, r .holds, r .bounds .orders-fit); wide = omega arith; words = refl }
+
+-- a cell of another block lies before the rows or behind them
+aside : (b i k : ℕ) → Cell b i k → (b ≡ C.orders → ⊥) → (8 * spot b i k + 8 ≤ 69888) ⊎ (332032 ≤ 8 * spot b i k)
+unfolding spot start
+aside zero i k c ne = inl (omega (arith, c .row-is, c .cell-is))
+aside (suc zero) i k c ne = inl (omega (arith, c .row-is, c .cell-is))
+aside (suc (suc zero)) i k c ne = inl (omega (arith, c .row-is, c .cell-is))
+aside (suc (suc (suc zero))) i k c ne = inl (omega (arith, c .row-is, c .cell-is))
+aside (suc (suc (suc (suc zero)))) i k c ne = inl (omega (arith, c .row-is, c .cell-is))
+aside (suc (suc (suc (suc (suc zero))))) i k c ne = absurd (ne refl)
+aside (suc (suc (suc (suc (suc (suc zero)))))) i k c ne = inr (omega arith)
+aside (suc (suc (suc (suc (suc (suc (suc zero))))))) i k c ne = inr (omega arith)
+aside (suc (suc (suc (suc (suc (suc (suc (suc zero)))))))) i k c ne = inr (omega arith)
+aside (suc (suc (suc (suc (suc (suc (suc (suc (suc zero))))))))) i k c ne = inr (omega arith)
+aside (suc (suc (suc (suc (suc (suc (suc (suc (suc (suc zero)))))))))) i k c ne = inr (omega arith)
+aside (suc (suc (suc (suc (suc (suc (suc (suc (suc (suc (suc zero))))))))))) i k c ne = inr (omega arith)
+aside (suc (suc (suc (suc (suc (suc (suc (suc (suc (suc (suc (suc b)))))))))))) i k c ne = absurd (omega (arith, c .block-is))
+
+order-cell-at : (xs : List ℕ) (i k : ℕ) → cell xs C.orders i k ≡ le 8 xs (69888 + 128 * i + 8 * k)
+unfolding cell spot start
+order-cell-at xs i k = let e : 8 * (8736 + (16 * i + k)) ≡ 69888 + 128 * i + 8 * k = omega arith in ap (le 8 xs) e
+
+either-small : (a b : ℕ) → a ≤ 1 → b ≤ 1 → either a b ≤ 1
+either-small zero b h l = l
+either-small (suc a) b h l = omega arith
+
+kept-ext : (ms ms′ : ℕ → ℕ) (n : ℕ) → ((j : ℕ) → j < n → ms j ≡ ms′ j) → kept ms n ≡ kept ms′ n
+unfolding live
+kept-ext ms ms′ zero h = refl
+kept-ext ms ms′ (suc n) h = ap₂ (λ l m. l ++ pick m n) (kept-ext ms ms′ n (λ j l. h j (omega arith))) (h n (omega arith))
+
+module _ (xs ys : List ℕ) (n w : ℕ) (r : Ready xs) (o : Sorted (cell xs)) (e : n ≡ cell xs C.header 0 C.order-rows) (c : Compacted 69888 128 24 n w xs ys) where
+  places-are : kept (markAt 69888 128 24 xs) n ≡ places (cell xs)
+  places-are =
+      kept-ext (markAt 69888 128 24 xs) (λ j. cell xs C.orders j C.order-kept) n (λ j l. mark-cell xs C.order-kept j (kept-small j (rw e at l)))
+      ∙ ap (kept (λ j. cell xs C.orders j C.order-kept)) e
+    where
+      kept-small : (j : ℕ) → j < word (cell xs) C.order-rows → cell xs C.orders j C.order-kept < 256
+      kept-small j l = let f = o .flags j l in omega (arith, f .kept-is, either-small _ _ (f .live-is) (f .resting-is))
+
+  size-is : w ≡ length (places (cell xs))
+  size-is = c .count ∙ ap length places-are
+
+  -- a row's cell, of a row that moved and of one behind them
+  cell-moved : (i k : ℕ) → i < w → k < 16 → cell ys C.orders i k ≡ cell xs C.orders (getD (places (cell xs)) i 0) k
+  cell-moved i k h l =
+      order-cell-at ys i k
+      ∙ le-local 8 .same (same-part (8 * k) 8 (omega arith) (rw places-are at (c .rows i h)))
+      ∙ sym (order-cell-at xs (getD (places (cell xs)) i 0) k)
+
+  cell-behind : (i k : ℕ) → w ≤ i → cell ys C.orders i k ≡ cell xs C.orders i k
+  cell-behind i k h =
+      order-cell-at ys i k ∙ le-outside 8 (69888 + 128 * i + 8 * k) (c .frame) (inr (omega arith)) ∙ sym (order-cell-at xs i k)
+
+  cell-aside : (b i k : ℕ) → Cell b i k → (b ≡ C.orders → ⊥) → cell ys b i k ≡ cell xs b i k
+  unfolding cell
+  cell-aside b i k q ne =
+      le-outside 8 (8 * spot b i k) (c .frame) (⊎-elim (λ h. inl h) (λ h. inr (omega (arith, c .fewer, r .bounds .orders-fit, e))) (aside b i k q ne))
+
+  packed-same : Same (cell ys) (packed (cell xs))
+  unfolding packed
+  packed-same b i k q =
+      ⊎-elim
+      (λ (f : b ≡ C.orders).
+      let l : k < 16 = rw f at (q .cell-is) in
+      rw (f, ← size-is)
+      (⊎-elim
+      (λ (h : i < w). rw (lt-ltb i w h) (cell-moved i k h l))
+      (λ (h : w ≤ i). rw (le-ltb i w h) (cell-behind i k h))
+      (lt-or-le i w)))
+      (λ ne. rw (ne-eqb b C.orders ne) (cell-aside b i k q ne))
+      (same? b C.orders)
+
+  pub compact-is : (zs : List ℕ) → Set ys zs C.header 0 C.order-rows w → Is zs (compact (cell xs))
+  unfolding compact
+  compact-is zs p =
+      rw (← size-is)
+      (then-set (record { holds = omega (arith, c .frame .len, r .holds); same = packed-same }) (header-cell C.order-rows (omega arith)) p)
+
+pub room-there : (xs : List ℕ) (n : ℕ) → Holds xs → n ≡ cell xs C.header 0 C.order-rows → n < order-room → Is xs (make-room (cell xs))
+unfolding make-room
+room-there xs n h e l = rw (← e, lt-ltb n order-room l) (is-itself h)
+
+pub room-made : (xs ys : List ℕ) (n : ℕ) → n ≡ cell xs C.header 0 C.order-rows → order-room ≤ n → Is ys (compact (cell xs)) → Is ys (make-room (cell xs))
+unfolding make-room
+room-made xs ys n e l h = rw (← e, le-ltb n order-room l) h
+
+pub live-marks : {s : Store} → Sorted s → Marks C.order-live s
+live-marks s = record { inside = omega arith; small = λ j l. s .flags j l .live-is }
+
+pub resting-marks : {s : Store} → Sorted s → Marks C.order-resting s
+resting-marks s = record { inside = omega arith; small = λ j l. s .flags j l .resting-is }
+
+-- ---- what is found is what the view's list has
+
+found-map : {A B : Type 0} (h : A → B) (f : ℕ → A) (r : Found) → Option·map h (found f r) ≡ found (λ j. h (f j)) r
+found-map h f (At i) = refl
+found-map h f Nothing = refl
+
+sees : {A : Type 0} (k : ℕ) (f : Row → A) (number : A → ℕ) (s : Store) (n : ℕ) (r : Found) → ((q : Row) → number (f q) ≡ q C.order-number) → Sorted s → FindsRow k s n r →
+    Sees k f number s n r
+sees {A} k f number s n r e t h =
+    record {
+      row = h;
+      order =
+          look-map (λ (p : ℕ × A). p .1) number n (live (λ (p : ℕ × A). p .0) (λ j. (s C.orders j k, f (s C.orders j))) (word s C.order-rows))
+          ∙ ap (Option·map (λ (p : ℕ × A). p .1))
+          (finds-look (λ (p : ℕ × A). p .0) (λ (p : ℕ × A). number (p .1)) (λ j. (s C.orders j k, f (s C.orders j))) (word s C.order-rows) n (λ j l. e (s C.orders j)) (λ j l. refl)
+          (λ i j a b. rw (e (s C.orders i), e (s C.orders j)) (t .ascends i j a b)) r h)
+          ∙ found-map (λ (p : ℕ × A). p .1) (λ j. (s C.orders j k, f (s C.orders j))) r;
+    }
+
+pub sees-live : (s : Store) (n : ℕ) (r : Found) → Sorted s → FindsRow C.order-live s n r → Sees C.order-live order number-of s n r
+sees-live s n r = sees C.order-live order number-of s n r (λ q. refl)
+
+pub sees-resting : (s : Store) (n : ℕ) (r : Found) → Sorted s → FindsRow C.order-resting s n r → Sees C.order-resting resting resting-number s n r
+sees-resting s n r = sees C.order-resting resting resting-number s n r (λ q. refl)
+
+pub ruleset laws = (sees-live, sees-resting, set-two-is, set-four-is, strike-is, rest-is, put-row-is, append-is, sorted-bytes, room-bytes, compact-is, room-there, room-made, find-is, live-marks, resting-marks, header-cell, order-cell, hint-cell, arith)

@@ -1,0 +1,423 @@
+-- What the operations do to the gateway that the cells hold, and that they keep the table in order. Assumes nothing.
+use mathlib.Core.Path.{_≡_, refl, sym, ap, ap₂, _∙_}
+use mathlib.Core.Logic.{⊎-elim}
+use mathlib.Core.Bool.{cond}
+use mathlib.Core.List.{List, [], _∷_, _++_}
+use Prim.Native.Nat.{ℕ, zero, suc, _+_, _-_, _%_, _≤_, _<_}
+use native.Mathlib.Omega.{arith}
+use borrow.Author.Tests.{eq-eqb, ne-eqb}
+use lib.Dec.{eqb}
+use lib.ListN.{length, length-append}
+use Rattle.words.specs.Words.{int}
+use Rattle.table.specs.Live.{Changed, without, insert, replace, Ascends}
+use Rattle.table.proofs.Live.{same?, ascends-ext, ascends-open, gap-end}
+use Rattle.gateway.specs.Calls.{Gateway}
+use Rattle.gateway.specs.Depth as D
+use Rattle.gateway.specs.Ledger.{Order, number-of, remove, with-leaves, with-price}
+use Rattle.gateway.specs.Ledger as L
+use Rattle.gateway.specs.Table.{update}
+use Rattle.store.specs.Cells as C
+use Rattle.store.specs.Layout.{cell}
+use Rattle.store.specs.View.{Row, Store, Same, Is, word, write, side, maybe-price, order, resting, marked, ledger, depth, gateway, order-room, Bounds}
+use Rattle.store.proofs.Places.{header-cell, order-cell}
+use Rattle.store.proofs.Frames.{gateway-same}
+use Rattle.orders.specs.declared.Live.{Live}
+use Rattle.orders.specs.declared.Resting.{Resting}
+use Rattle.orders.specs.Orders.{either, Flags, Sorted, Ordered, fill, set-leaves, set-price, show, strike, retire, take-off, rest, append}
+use Rattle.orders.proofs.Shown.{shown, shown-ext, shown-more, shown-dead, shown-strike, shown-replace, shown-revive, shown-update, shown-length}
+
+-- the gateway with other lists of orders
+abbrev pub with-lists : List Order → List D.Resting → Gateway → Gateway
+with-lists os rs g =
+    let r = g .rest in
+    record {
+      core = record { ledger = L.with-orders os (g .core .ledger); flights = g .core .flights; accounts = g .core .accounts };
+      rest =
+          record {
+            timing = r .timing;
+            clock = r .clock;
+            sessions = r .sessions;
+            buckets = r .buckets;
+            batch = r .batch;
+            delivered = r .delivered;
+            published = r .published;
+            depth = record { resting = rs; changed = r .depth .changed };
+            trades = r .trades;
+            notices = r .notices;
+            collar = r .collar;
+          };
+    }
+
+-- r with v in the cell k, and with vs in the cells from k on
+abbrev put-cell : ℕ → ℕ → Row → Row
+put-cell k v r l = cond (eqb l k) v (r l)
+
+abbrev put-cells : ℕ → List ℕ → Row → Row
+put-cells k [] r = r
+put-cells k (v ∷ vs) r = put-cells (k + 1) vs (put-cell k v r)
+
+-- t is s but for the row i, which is r, the hints and three words
+pub record Touched (i : ℕ) (r : Row) (s t : Store) : Type 0 where
+  pub here : t C.orders i ≡ r
+  pub others : (j : ℕ) → (j ≡ i → ⊥) → t C.orders j ≡ s C.orders j
+  pub words : (k : ℕ) → (k ≡ C.order-rows → ⊥) → (k ≡ C.live-orders → ⊥) → (k ≡ C.resting-orders → ⊥) → word t k ≡ word s k
+
+write-touched : (i k v : ℕ) (r : Row) (s t : Store) → Touched i r s t → Touched i (put-cell k v r) s (write C.orders i k v t)
+write-touched i k v r s t c =
+    record {
+      here = λ z l. cell-here l z;
+      others = λ j ne. (λ z l. cell-other j ne l z) ∙ c .others j ne;
+      words = c .words;
+    }
+  where
+    cell-here : (l : ℕ) → write C.orders i k v t C.orders i l ≡ put-cell k v r l
+    cell-here l = rw (eq-eqb i i refl) (ap (λ (q : Row). cond (eqb l k) v (q l)) (c .here))
+
+    cell-other : (j : ℕ) → (j ≡ i → ⊥) → (l : ℕ) → write C.orders i k v t C.orders j l ≡ t C.orders j l
+    cell-other j ne l = rw (ne-eqb j i ne) refl
+
+fill-touched : (i k : ℕ) (vs : List ℕ) (r : Row) (s t : Store) → Touched i r s t → Touched i (put-cells k vs r) s (fill C.orders i k vs t)
+unfolding fill
+fill-touched i k [] r s t c = c
+fill-touched i k (v ∷ vs) r s t c = fill-touched i (k + 1) vs (put-cell k v r) s (write C.orders i k v t) (write-touched i k v r s t c)
+
+-- one of the three words is set
+count-touched : (i k v : ℕ) (r : Row) (s t : Store) → ((j : ℕ) → (j ≡ C.order-rows → ⊥) → (j ≡ C.live-orders → ⊥) → (j ≡ C.resting-orders → ⊥) → j ≡ k → ⊥) → Touched i r s t →
+    Touched i r s (write C.header 0 k v t)
+count-touched i k v r s t h c =
+    record { here = c .here; others = c .others; words = λ j x y z. rw (ne-eqb j k (h j x y z)) (c .words j x y z) }
+
+hint-touched : (i k v : ℕ) (r : Row) (s t : Store) → Touched i r s t → Touched i r s (write C.hints k C.hint-row v t)
+hint-touched i k v r s t c = record { here = c .here; others = c .others; words = c .words }
+
+untouched : (i : ℕ) (s : Store) → Touched i (s C.orders i) s s
+untouched i s = record { here = refl; others = λ j ne. refl; words = λ k x y z. refl }
+
+-- what is read of a row, behind its flag
+abbrev read : {A : Type 0} → ℕ → (Row → A) → Row → ℕ × A
+read k f r = (r k, f r)
+
+-- a row's number and flags
+abbrev head : Row → ℕ × ℕ × ℕ × ℕ
+head r = (r C.order-number, r C.order-live, r C.order-resting, r C.order-kept)
+
+same-flags : (q r : Row) → head r ≡ head q → Flags q → Flags r
+same-flags q r e f =
+    record {
+      live-is = rw (ap (λ x. x .1) e) (f .live-is);
+      resting-is = rw (ap (λ x. x .2) e) (f .resting-is);
+      kept-is = ap (λ x. x .3) e ∙ f .kept-is ∙ ap (λ x. either (x .1) (x .2)) (sym e);
+    }
+
+-- the other flag where one is 0 or 1
+either-zero : (a : ℕ) → a ≤ 1 → a ≡ either a 0
+either-zero zero h = refl
+either-zero (suc zero) h = refl
+either-zero (suc (suc a)) h = absurd (omega arith)
+
+either-one : (a : ℕ) → 1 ≡ either a 1
+either-one zero = refl
+either-one (suc a) = refl
+
+-- how many rows are in use, are live, and rest
+abbrev counts : Store → ℕ × ℕ × ℕ
+counts s = (word s C.order-rows, word s C.live-orders, word s C.resting-orders)
+
+-- a state is in bounds where its words are those of one that is, but for three
+pub bounds-from : (s t : Store) → ((k : ℕ) → k < 32 → (k ≡ C.order-rows → ⊥) → (k ≡ C.live-orders → ⊥) → (k ≡ C.resting-orders → ⊥) → word t k ≡ word s k) →
+    word t C.order-rows ≤ order-room → Bounds s → Bounds t
+bounds-from s t w h b =
+    record {
+      accounts-fit = rw (w C.owner-limit (omega arith) (λ e. omega arith) (λ e. omega arith) (λ e. omega arith)) (b .accounts-fit);
+      flights-fit = rw (w C.flying (omega arith) (λ e. omega arith) (λ e. omega arith) (λ e. omega arith)) (b .flights-fit);
+      batch-fits = rw (w C.waiting (omega arith) (λ e. omega arith) (λ e. omega arith) (λ e. omega arith)) (b .batch-fits);
+      orders-fit = h;
+      bids-fit = rw (w C.bid-levels (omega arith) (λ e. omega arith) (λ e. omega arith) (λ e. omega arith)) (b .bids-fit);
+      asks-fit = rw (w C.ask-levels (omega arith) (λ e. omega arith) (λ e. omega arith) (λ e. omega arith)) (b .asks-fit);
+      trades-fit = rw (w C.trade-rows (omega arith) (λ e. omega arith) (λ e. omega arith) (λ e. omega arith)) (b .trades-fit);
+      notices-fit = rw (w C.notice-rows (omega arith) (λ e. omega arith) (λ e. omega arith) (λ e. omega arith)) (b .notices-fit);
+      changed-fit = rw (w C.changed-rows (omega arith) (λ e. omega arith) (λ e. omega arith) (λ e. omega arith)) (b .changed-fit);
+    }
+
+module _ (i : ℕ) (r : Row) (s t : Store) (c : Touched i r s t) where
+  bounds-kept : word t C.order-rows ≤ order-room → Bounds s → Bounds t
+  bounds-kept = bounds-from s t (λ k l. c .words k)
+
+  -- what is the same in the row i is the same in every row
+  same-rows : {B : Type 0} (f : Row → B) → f r ≡ f (s C.orders i) → (j : ℕ) → f (t C.orders j) ≡ f (s C.orders j)
+  same-rows f e j = ⊎-elim (λ (q : j ≡ i). rw q (ap f (c .here) ∙ e)) (λ q. ap f (c .others j q)) (same? j i)
+
+  changed : {A : Type 0} (k : ℕ) (f : Row → A) (n : ℕ) → i < n → Changed (λ j. read k f (s C.orders j)) (λ j. read k f (t C.orders j)) n i
+  changed k f n l = record { inside = l; other = λ j h ne. ap (read k f) (c .others j ne) }
+
+  sorted-kept : word t C.order-rows ≡ word s C.order-rows → r C.order-number ≡ s C.orders i C.order-number → Flags r → Sorted s → Sorted t
+  sorted-kept w e f d =
+      record {
+        ascends = rw w (ascends-ext (λ k. k) (λ j. s C.orders j C.order-number) (λ j. t C.orders j C.order-number) (word s C.order-rows) (λ j l. same-rows (λ r. r C.order-number) e j) (d .ascends));
+        flags = λ j l. ⊎-elim (λ (q : j ≡ i). rw (q, c .here) f) (λ q. rw (c .others j q) (d .flags j (rw w at l))) (same? j i);
+      }
+
+-- the order and the resting order of a number, with these words
+abbrev pub order-of : ℕ → Live → Order
+order-of n o =
+    record {
+      number = n;
+      account = o .account;
+      client-ref = o .«client_ref»;
+      side = side (o .side);
+      price = maybe-price (o .priced) (o .price);
+      leaves = o .leaves;
+    }
+
+abbrev pub resting-of : ℕ → Resting → D.Resting
+resting-of n o = record { number = n; side = side (o .side); price = int (o .price); visible = o .visible; leaves = o .leaves }
+
+-- t is in order and holds the gateway of s, but for the lists of orders
+pub record Did (s t : Store) (os : List Order) (rs : List D.Resting) : Type 0 where
+  pub view : gateway t ≡ with-lists os rs (gateway s)
+  pub ordered : Ordered t
+
+-- ---- from the program to the bytes
+
+module _ (s t : Store) (e : Same s t) (d : Ordered s) where
+  word-same : (k : ℕ) → k < 32 → word t k ≡ word s k
+  word-same k l = sym (e C.header 0 k (header-cell k l))
+
+  cell-same : (j k : ℕ) → j < word s C.order-rows → k < 16 → t C.orders j k ≡ s C.orders j k
+  cell-same j k h l = sym (e C.orders j k (order-cell j k (omega (arith, d .bounds .orders-fit)) l))
+
+  view-same : gateway t ≡ gateway s
+  view-same = sym (gateway-same s t (d .bounds) e)
+
+  ordered-same : Ordered t
+  ordered-same =
+      let w = word-same C.order-rows (omega arith) in
+      record {
+        bounds = bounds-from s t (λ k l x y z. word-same k l) (rw w (d .bounds .orders-fit)) (d .bounds);
+        sorted =
+            record {
+              ascends =
+                  rw w (ascends-ext (λ k. k) (λ j. s C.orders j C.order-number) (λ j. t C.orders j C.order-number) (word s C.order-rows) (λ j l. cell-same j C.order-number l (omega arith)) (d .sorted .ascends));
+              flags = λ j l.
+                  let h : j < word s C.order-rows = rw w at l in
+                  same-flags (s C.orders j) (t C.orders j)
+                  (λ z. (cell-same j C.order-number h (omega arith) z, cell-same j C.order-live h (omega arith) z, cell-same j C.order-resting h (omega arith) z, cell-same j C.order-kept h (omega arith) z))
+                  (d .sorted .flags j h);
+            };
+        counted =
+            record {
+              live-count = word-same C.live-orders (omega arith) ∙ d .counted .live-count ∙ sym (ap (λ g. length (g .core .ledger .orders)) view-same);
+              resting-count = word-same C.resting-orders (omega arith) ∙ d .counted .resting-count ∙ sym (ap (λ g. length (g .rest .depth .resting)) view-same);
+            };
+      }
+
+-- what a function's contract says and what its program does, together: the bytes hold the new gateway, in order
+pub did-bytes : (s t : Store) (os : List Order) (rs : List D.Resting) (ys : List ℕ) → Is ys t → Did s t os rs → Did s (cell ys) os rs
+did-bytes s t os rs ys h d =
+    let e : Same t (cell ys) = λ b i k c. sym (h .same b i k c) in
+    record { view = view-same t (cell ys) e (d .ordered) ∙ d .view; ordered = ordered-same t (cell ys) e (d .ordered) }
+
+-- a row in use is changed
+module _ (s : Store) (i : ℕ) (d : Ordered s) (l : i < word s C.order-rows) where
+  abbrev was : Row
+  was = s C.orders i
+
+  module _ {A : Type 0} (k : ℕ) (f : Row → A) (number : A → ℕ) (e : (r : Row) → number (f r) ≡ r C.order-number) where
+    rising : Ascends (λ (x : ℕ × A). number (x .1)) (λ j. read k f (s C.orders j)) (word s C.order-rows)
+    rising a b h m = rw (e (s C.orders a), e (s C.orders b)) (d .sorted .ascends a b h m)
+
+    module _ (r : Row) (t : Store) (c : Touched i r s t) where
+      -- a count that moves with the row's flag stays right
+      count-kept : (w v : ℕ) → word t C.order-rows ≡ word s C.order-rows → was k ≤ 1 → r k ≤ 1 → v ≡ length (marked s k f) → w + was k ≡ v + r k → w ≡ length (marked t k f)
+      count-kept w v n a b p q =
+          let x = shown-length number (changed i r s t c k f (word s C.order-rows) l) rising a (rw (c .here) b) in
+          let y = ap (λ m. length (shown (λ j. read k f (t C.orders j)) m)) n in
+          let z = ap (λ (q : Row). q k) (c .here) in
+          omega arith
+
+    -- where the row is marked, there is one to count
+    marked-some : was k ≤ 1 → 0 < was k → 0 < length (marked s k f)
+    marked-some a m =
+        let t = write C.orders i k 0 s in
+        let c = write-touched i k 0 was s s (untouched i s) in
+        let z : t C.orders i k ≡ 0 = ap (λ (q : Row). q k) (c .here) ∙ rw (eq-eqb k k refl) refl in
+        let x = shown-length number (changed i (put-cell k 0 was) s t c k f (word s C.order-rows) l) rising a (rw z (omega arith)) in
+        omega arith
+
+  module _ (r : Row) (t : Store) (c : Touched i r s t) (g : gateway t ≡ with-lists (marked t C.order-live order) (marked t C.order-resting resting) (gateway s)) where
+    row-did : (os : List Order) (rs : List D.Resting) → word t C.order-rows ≡ word s C.order-rows → r C.order-number ≡ was C.order-number → Flags r →
+        word t C.live-orders + was C.order-live ≡ word s C.live-orders + r C.order-live →
+        word t C.resting-orders + was C.order-resting ≡ word s C.resting-orders + r C.order-resting →
+        marked t C.order-live order ≡ os → marked t C.order-resting resting ≡ rs → Did s t os rs
+    row-did os rs w e f p q a b =
+        let h = d .sorted .flags i l in
+        record {
+          view = g ∙ ap₂ (λ x y. with-lists x y (gateway s)) a b;
+          ordered =
+              record {
+                bounds = bounds-kept i r s t c (rw w (d .bounds .orders-fit)) (d .bounds);
+                sorted = sorted-kept i r s t c w e f (d .sorted);
+                counted =
+                    record {
+                      live-count = count-kept C.order-live order number-of (λ r. refl) r t c (word t C.live-orders) (word s C.live-orders) w (h .live-is) (f .live-is) (d .counted .live-count) p;
+                      resting-count = count-kept C.order-resting resting D.resting-number (λ r. refl) r t c (word t C.resting-orders) (word s C.resting-orders) w (h .resting-is) (f .resting-is) (d .counted .resting-count) q;
+                    };
+              };
+        }
+
+    still : {A : Type 0} (k : ℕ) (f : Row → A) → word t C.order-rows ≡ word s C.order-rows → read k f r ≡ read k f was → marked t k f ≡ marked s k f
+    still k f w e = rw w (shown-ext _ _ (word s C.order-rows) (λ j m. same-rows i r s t c (read k f) e j))
+
+    -- a half is changed, and the flags stay
+    half-did : (os : List Order) (rs : List D.Resting) → counts t ≡ counts s → head r ≡ head was → marked t C.order-live order ≡ os → marked t C.order-resting resting ≡ rs → Did s t os rs
+    half-did os rs w h a b =
+        row-did os rs (ap (λ x. x .0) w) (ap (λ x. x .0) h) (same-flags was r h (d .sorted .flags i l))
+        (ap₂ (λ x y. x .1 + y .1) w (sym h)) (ap₂ (λ x y. x .2 + y .2) w (sym h)) a b
+
+    live-did : (f : Order → Order) → counts t ≡ counts s → head r ≡ head was → f (order was) ≡ order r → resting r ≡ resting was → 0 < was C.order-live →
+        Did s t (update number-of (was C.order-number) f (ledger s .orders)) (depth s .resting)
+    live-did f w h e u m =
+        half-did _ _ w h
+        (rw (ap (λ x. x .0) w)
+        (shown-update number-of (changed i r s t c C.order-live order (word s C.order-rows) l) (rising C.order-live order number-of (λ r. refl)) f
+        (e ∙ ap order (sym (c .here))) (ap (λ (q : Row). q C.order-number) (c .here) ∙ ap (λ x. x .0) h) m (rw (c .here, ap (λ x. x .1) h) m)))
+        (still C.order-resting resting (ap (λ x. x .0) w) (ap₂ (λ x y. (x, y)) (ap (λ x. x .2) h) u))
+
+    resting-did : counts t ≡ counts s → head r ≡ head was → order r ≡ order was → 0 < was C.order-resting →
+        Did s t (ledger s .orders) (replace D.resting-number (resting r) (depth s .resting))
+    resting-did w h u m =
+        half-did _ _ w h
+        (still C.order-live order (ap (λ x. x .0) w) (ap₂ (λ x y. (x, y)) (ap (λ x. x .1) h) u))
+        (rw (ap (λ x. x .0) w, ← c .here)
+        (shown-replace D.resting-number (changed i r s t c C.order-resting resting (word s C.order-rows) l) (rising C.order-resting resting D.resting-number (λ r. refl))
+        (ap (λ (q : Row). q C.order-number) (c .here) ∙ ap (λ x. x .0) h) m (rw (c .here, ap (λ x. x .2) h) m)))
+
+  pub set-leaves-does : (v h : ℕ) → 0 < was C.order-live → Did s (set-leaves i v h s) (update number-of (was C.order-number) (with-leaves v) (ledger s .orders)) (depth s .resting)
+  unfolding fill
+  set-leaves-does v h m =
+      live-did _ (set-leaves i v h s) (fill-touched i C.order-leaves (v ∷ h ∷ []) was s s (untouched i s)) refl (with-leaves v) refl refl refl refl m
+
+  pub set-price-does : (p : ℕ) → 0 < was C.order-live → Did s (set-price i p s) (update number-of (was C.order-number) (with-price (int p)) (ledger s .orders)) (depth s .resting)
+  unfolding fill
+  set-price-does p m =
+      live-did _ (set-price i p s) (fill-touched i C.order-priced (1 ∷ p ∷ []) was s s (untouched i s)) refl (with-price (int p)) refl refl refl refl m
+
+  pub show-does : (v w : ℕ) → 0 < was C.order-resting → Did s (show i v w s) (ledger s .orders) (replace D.resting-number (D.showing v w (resting was)) (depth s .resting))
+  unfolding fill
+  show-does v w m =
+      resting-did _ (show i v w s) (fill-touched i C.order-visible (v ∷ w ∷ []) was s s (untouched i s)) refl refl refl refl m
+
+  pub live-some : 0 < was C.order-live → 0 < word s C.live-orders
+  live-some m = rw (d .counted .live-count) (marked-some C.order-live order number-of (λ r. refl) (d .sorted .flags i l .live-is) m)
+
+  pub resting-some : 0 < was C.order-resting → 0 < word s C.resting-orders
+  resting-some m = rw (d .counted .resting-count) (marked-some C.order-resting resting D.resting-number (λ r. refl) (d .sorted .flags i l .resting-is) m)
+
+  pub retire-does : 0 < was C.order-live → Did s (retire i s) (remove (was C.order-number) (ledger s .orders)) (depth s .resting)
+  unfolding strike
+  retire-does m =
+      let f = d .sorted .flags i l in
+      let t = retire i s in
+      let c =
+      count-touched i C.live-orders (word s C.live-orders - 1) _ s _ (λ j x y z. y)
+      (write-touched i C.order-kept (was C.order-resting) _ s _ (write-touched i C.order-live 0 was s s (untouched i s)))
+      in
+      row-did _ t c refl _ _ refl refl
+      (record { live-is = omega arith; resting-is = f .resting-is; kept-is = refl })
+      (omega (arith, live-some m, f .live-is)) refl
+      (shown-strike number-of (changed i _ s t c C.order-live order (word s C.order-rows) l) (rising C.order-live order number-of (λ r. refl)) (ap (λ (q : Row). q C.order-live) (c .here)))
+      (still _ t c refl C.order-resting resting refl refl)
+
+  pub take-off-does : 0 < was C.order-resting → Did s (take-off i s) (ledger s .orders) (without D.resting-number (was C.order-number) (depth s .resting))
+  unfolding strike
+  take-off-does m =
+      let f = d .sorted .flags i l in
+      let t = take-off i s in
+      let c =
+      count-touched i C.resting-orders (word s C.resting-orders - 1) _ s _ (λ j x y z. z)
+      (write-touched i C.order-kept (was C.order-live) _ s _ (write-touched i C.order-resting 0 was s s (untouched i s)))
+      in
+      row-did _ t c refl _ _ refl refl
+      (record { live-is = f .live-is; resting-is = omega arith; kept-is = either-zero (was C.order-live) (f .live-is) })
+      refl (omega (arith, resting-some m, f .resting-is))
+      (still _ t c refl C.order-live order refl refl)
+      (shown-strike D.resting-number (changed i _ s t c C.order-resting resting (word s C.order-rows) l) (rising C.order-resting resting D.resting-number (λ r. refl)) (ap (λ (q : Row). q C.order-resting) (c .here)))
+
+  pub rest-does : (o : Resting) → was C.order-resting ≡ 0 → Did s (rest i o s) (ledger s .orders) (insert D.resting-number (resting-of (was C.order-number) o) (depth s .resting))
+  unfolding rest fill
+  rest-does o m =
+      let f = d .sorted .flags i l in
+      let t = rest i o s in
+      let c =
+      count-touched i C.resting-orders (word s C.resting-orders + 1) _ s _ (λ j x y z. z)
+      (fill-touched i C.order-resting (1 ∷ 1 ∷ []) _ s _ (fill-touched i C.order-rest-side (o .side ∷ o .price ∷ o .visible ∷ o .leaves ∷ []) was s s (untouched i s)))
+      in
+      row-did _ t c refl _ _ refl refl
+      (record { live-is = f .live-is; resting-is = omega arith; kept-is = either-one (was C.order-live) })
+      refl (omega (arith, m))
+      (still _ t c refl C.order-live order refl refl)
+      (shown-revive D.resting-number (changed i _ s t c C.order-resting resting (word s C.order-rows) l) (rising C.order-resting resting D.resting-number (λ r. refl))
+      (ap (λ (q : Row). q C.order-number) (c .here)) m (omega (arith, ap (λ (q : Row). q C.order-resting) (c .here)))
+      ∙ ap (λ q. insert D.resting-number (resting q) (depth s .resting)) (c .here))
+
+-- ---- a row more
+
+module _ (s : Store) (n : ℕ) (o : Live) where
+  abbrev next : ℕ
+  next = word s C.order-rows
+
+  abbrev new-row : Row
+  new-row = put-cells C.order-number (n ∷ 1 ∷ 0 ∷ 1 ∷ o .account ∷ o .«client_ref» ∷ o .side ∷ o .priced ∷ o .price ∷ o .leaves ∷ o .hold ∷ []) (s C.orders next)
+
+  append-touched : Touched next new-row s (append n o s)
+  unfolding append fill
+  append-touched =
+      hint-touched next (n % 4096) next _ s _
+      (count-touched next C.live-orders (word s C.live-orders + 1) _ s _ (λ j x y z. y)
+      (count-touched next C.order-rows (next + 1) _ s _ (λ j x y z. x)
+      (fill-touched next C.order-number (n ∷ 1 ∷ 0 ∷ 1 ∷ o .account ∷ o .«client_ref» ∷ o .side ∷ o .priced ∷ o .price ∷ o .leaves ∷ o .hold ∷ []) (s C.orders next) s s (untouched next s))))
+
+  -- the rows before the new one
+  before : (j : ℕ) → j < next → append n o s C.orders j ≡ s C.orders j
+  before j l = append-touched .others j (λ e. omega arith)
+
+  append-sorted : Sorted s → ((j : ℕ) → j < next → s C.orders j C.order-number < n) → Sorted (append n o s)
+  unfolding append fill
+  append-sorted d h =
+      record {
+        ascends =
+            ascends-open (λ k. k) (gap-end (λ k. k) (λ j. s C.orders j C.order-number) (λ j. append n o s C.orders j C.order-number) next (λ j l. ap (λ (q : Row). q C.order-number) (before j l)))
+            (d .ascends) (λ j l. rw (ap (λ (q : Row). q C.order-number) (append-touched .here)) (h j l)) (λ j a b. absurd (omega arith));
+        flags = λ j l.
+            ⊎-elim
+            (λ (q : j ≡ next). rw (q, append-touched .here) (record { live-is = omega arith; resting-is = omega arith; kept-is = refl }))
+            (λ q. rw (append-touched .others j q) (d .flags j (omega (arith, q))))
+            (same? j next);
+      }
+
+  pub append-does : Ordered s → next < order-room → ((j : ℕ) → j < next → s C.orders j C.order-number < n) →
+      Did s (append n o s) (ledger s .orders ++ (order-of n o ∷ [])) (depth s .resting)
+  unfolding append fill
+  append-does d m h =
+      let t = append n o s in
+      let c = append-touched in
+      let a : marked t C.order-live order ≡ marked s C.order-live order ++ (order-of n o ∷ []) =
+      shown-more (λ j. read C.order-live order (s C.orders j)) (λ j. read C.order-live order (t C.orders j)) next (λ j l. ap (read C.order-live order) (before j l))
+      (omega (arith, ap (λ (q : Row). q C.order-live) (c .here)))
+      ∙ ap (λ q. marked s C.order-live order ++ (order q ∷ [])) (c .here) in
+      let b : marked t C.order-resting resting ≡ marked s C.order-resting resting =
+      shown-dead (λ j. read C.order-resting resting (s C.orders j)) (λ j. read C.order-resting resting (t C.orders j)) next (λ j l. ap (read C.order-resting resting) (before j l))
+      (ap (λ (q : Row). q C.order-resting) (c .here)) in
+      record {
+        view = ap₂ (λ x y. with-lists x y (gateway s)) a b;
+        ordered =
+            record {
+              bounds = bounds-kept next new-row s t c (omega arith) (d .bounds);
+              sorted = append-sorted (d .sorted) h;
+              counted =
+                  record {
+                    live-count = rw (a, length-append (marked s C.order-live order) (order-of n o ∷ []), d .counted .live-count) refl;
+                    resting-count = rw b (d .counted .resting-count);
+                  };
+            };
+      }

@@ -1,0 +1,23 @@
+use Rattle.orders.proofs.Laws.{laws}
+use borrow.Author.Needs.{needs}
+use Rattle.orders.proofs.find.Statement.{statement}
+use Rattle.orders.proofs.find.Tie as tie
+
+get-requires : tie.Need-get-requires
+get-requires c κs = search needs
+
+get-requires-2 : tie.Need-get-requires-2
+get-requires-2 c κs = search needs
+
+mul-find-hinted : tie.Need-mul-find-hinted
+mul-find-hinted c = search needs
+
+find-hinted-requires : tie.Need-find-hinted-requires
+find-hinted-requires c κs = search laws
+
+returns : tie.Need-returns
+returns c = search laws
+
+pub find-spec : {M : Type 1} → statement M
+find-spec =
+    tie.close (tie.spec get-requires get-requires-2 mul-find-hinted find-hinted-requires returns)

@@ -1,0 +1,236 @@
+// The table of orders: rows ascending by number, each with a live half and a resting half. docs/STATE.md has the cells.
+use store::cells::HINT_ROW;
+use store::cells::LIVE_ORDERS;
+use store::cells::ORDER_ACCOUNT;
+use store::cells::ORDER_CLIENT_REF;
+use store::cells::ORDER_HOLD;
+use store::cells::ORDER_KEPT;
+use store::cells::ORDER_LEAVES;
+use store::cells::ORDER_LIVE;
+use store::cells::ORDER_NUMBER;
+use store::cells::ORDER_PRICE;
+use store::cells::ORDER_PRICED;
+use store::cells::ORDER_REST_LEAVES;
+use store::cells::ORDER_REST_PRICE;
+use store::cells::ORDER_REST_SIDE;
+use store::cells::ORDER_RESTING;
+use store::cells::ORDER_ROWS;
+use store::cells::ORDER_SIDE;
+use store::cells::ORDER_VISIBLE;
+use store::cells::RESTING_ORDERS;
+use table::Found;
+ghost use mathlib.Core.List.{[], _∷_};
+ghost use mathlib.Core.Path.{_≡_};
+ghost use Prim.Native.Nat.{_+_, _<_};
+ghost use Rattle.gateway.specs.Depth.{resting-number};
+ghost use Rattle.gateway.specs.Ledger.{number-of};
+ghost use Rattle.store.specs.Cells as C;
+ghost use Rattle.store.specs.Layout.{cell, Cell, Holds};
+ghost use Rattle.store.specs.View.{word, order, resting, order-room, Is, Ready};
+ghost use Rattle.orders.specs.Orders.{Sorted, Marks, FindsRow, Sees, live-row, resting-row, fill, set-leaves, set-price, show, strike, retire, take-off, rest, append, compact, make-room};
+
+// The live half of a row.
+pub struct Live {
+    pub account: u64,
+    pub client_ref: u64,
+    pub side: u64,
+    pub priced: u64,
+    pub price: u64,
+    pub leaves: u64,
+    pub hold: u64,
+}
+
+// The resting half of a row.
+pub struct Resting {
+    pub side: u64,
+    pub price: u64,
+    pub visible: u64,
+    pub leaves: u64,
+}
+
+// Where the rows start, and the bytes of a row.
+const BASE: usize = 69_888;
+
+const STRIDE: usize = 128;
+
+// The row of a number whose flag stands in the cell k.
+fn find(m: &[u8], k: usize, number: u64) -> Found
+    requires { ⌜ Ready (now m) × Sorted (cell (now m)) × Marks k (cell (now m)) ⌝ }
+    ensures { λ r. ⌜ FindsRow k (cell (now (m .entry))) number r ⌝ }
+{
+    let n = store::get(m, store::HEADER, 0, ORDER_ROWS);
+    let hint = store::get(m, store::HINTS, (number % 4096) as usize, HINT_ROW);
+    table::find_hinted(m, BASE, STRIDE, 8 * k, n as usize, number, hint as usize)
+}
+
+pub fn find_live(m: &[u8], number: u64) -> Found
+    requires { ⌜ Ready (now m) × Sorted (cell (now m)) ⌝ }
+    ensures { λ r. ⌜ Sees C.order-live order number-of (cell (now (m .entry))) number r ⌝ }
+{
+    find(m, ORDER_LIVE, number)
+}
+
+pub fn find_resting(m: &[u8], number: u64) -> Found
+    requires { ⌜ Ready (now m) × Sorted (cell (now m)) ⌝ }
+    ensures { λ r. ⌜ Sees C.order-resting resting resting-number (cell (now (m .entry))) number r ⌝ }
+{
+    find(m, ORDER_RESTING, number)
+}
+
+pub fn live_at(m: &[u8], i: usize) -> Live
+    requires { ⌜ Holds (now m) × (i < order-room) ⌝ }
+    ensures { λ r. ⌜ r ≡ live-row (cell (now (m .entry)) C.orders i) ⌝ }
+{
+    Live {
+        account: store::get(m, store::ORDERS, i, ORDER_ACCOUNT),
+        client_ref: store::get(m, store::ORDERS, i, ORDER_CLIENT_REF),
+        side: store::get(m, store::ORDERS, i, ORDER_SIDE),
+        priced: store::get(m, store::ORDERS, i, ORDER_PRICED),
+        price: store::get(m, store::ORDERS, i, ORDER_PRICE),
+        leaves: store::get(m, store::ORDERS, i, ORDER_LEAVES),
+        hold: store::get(m, store::ORDERS, i, ORDER_HOLD),
+    }
+}
+
+pub fn resting_at(m: &[u8], i: usize) -> Resting
+    requires { ⌜ Holds (now m) × (i < order-room) ⌝ }
+    ensures { λ r. ⌜ r ≡ resting-row (cell (now (m .entry)) C.orders i) ⌝ }
+{
+    Resting {
+        side: store::get(m, store::ORDERS, i, ORDER_REST_SIDE),
+        price: store::get(m, store::ORDERS, i, ORDER_REST_PRICE),
+        visible: store::get(m, store::ORDERS, i, ORDER_VISIBLE),
+        leaves: store::get(m, store::ORDERS, i, ORDER_REST_LEAVES),
+    }
+}
+
+// Two cells of a row, from k on.
+fn set_two(m: &mut [u8], b: usize, i: usize, k: usize, v: u64, w: u64)
+    requires { ⌜ Holds (now m) × Cell b i (k + 1) × (k < 32) ⌝ }
+    ensures { λ r. ⌜ Is (now (m .exit)) (fill b i k (v ∷ w ∷ []) (cell (now (m .entry)))) ⌝ }
+{
+    store::set(m, b, i, k, v);
+    store::set(m, b, i, k + 1, w);
+}
+
+// Four cells of an order's row, from k on.
+fn set_four(m: &mut [u8], i: usize, k: usize, u: u64, v: u64, w: u64, x: u64)
+    requires { ⌜ Holds (now m) × (i < order-room) × (k < 13) ⌝ }
+    ensures { λ r. ⌜ Is (now (m .exit)) (fill C.orders i k (u ∷ v ∷ w ∷ x ∷ []) (cell (now (m .entry)))) ⌝ }
+{
+    let l = k + 1 + 1;
+    set_two(m, store::ORDERS, i, k, u, v);
+    set_two(m, store::ORDERS, i, l, w, x);
+}
+
+pub fn set_leaves(m: &mut [u8], i: usize, leaves: u64, hold: u64)
+    requires { ⌜ Holds (now m) × (i < order-room) ⌝ }
+    ensures { λ r. ⌜ Is (now (m .exit)) (set-leaves i leaves hold (cell (now (m .entry)))) ⌝ }
+{
+    set_two(m, store::ORDERS, i, ORDER_LEAVES, leaves, hold);
+}
+
+pub fn set_price(m: &mut [u8], i: usize, price: u64)
+    requires { ⌜ Holds (now m) × (i < order-room) ⌝ }
+    ensures { λ r. ⌜ Is (now (m .exit)) (set-price i price (cell (now (m .entry)))) ⌝ }
+{
+    set_two(m, store::ORDERS, i, ORDER_PRICED, 1, price);
+}
+
+pub fn show(m: &mut [u8], i: usize, visible: u64, leaves: u64)
+    requires { ⌜ Holds (now m) × (i < order-room) ⌝ }
+    ensures { λ r. ⌜ Is (now (m .exit)) (show i visible leaves (cell (now (m .entry)))) ⌝ }
+{
+    set_two(m, store::ORDERS, i, ORDER_VISIBLE, visible, leaves);
+}
+
+// The flag in the cell k goes; `count` has how many rows bear it.
+fn strike(m: &mut [u8], k: usize, other: usize, count: usize, i: usize)
+    requires { ⌜ Holds (now m) × (i < order-room) × (k < 16) × (other < 16) × (count < 32) × (0 < word (cell (now m)) count) ⌝ }
+    ensures { λ r. ⌜ Is (now (m .exit)) (strike k other count i (cell (now (m .entry)))) ⌝ }
+{
+    let kept = store::get(m, store::ORDERS, i, other);
+    let n = store::get(m, store::HEADER, 0, count);
+    store::set(m, store::ORDERS, i, k, 0);
+    store::set(m, store::ORDERS, i, ORDER_KEPT, kept);
+    store::set(m, store::HEADER, 0, count, n - 1);
+}
+
+// The order is live no more.
+pub fn retire(m: &mut [u8], i: usize)
+    requires { ⌜ Holds (now m) × (i < order-room) × (0 < word (cell (now m)) C.live-orders) ⌝ }
+    ensures { λ r. ⌜ Is (now (m .exit)) (retire i (cell (now (m .entry)))) ⌝ }
+{
+    strike(m, ORDER_LIVE, ORDER_RESTING, LIVE_ORDERS, i);
+}
+
+// The order rests no more.
+pub fn take_off(m: &mut [u8], i: usize)
+    requires { ⌜ Holds (now m) × (i < order-room) × (0 < word (cell (now m)) C.resting-orders) ⌝ }
+    ensures { λ r. ⌜ Is (now (m .exit)) (take-off i (cell (now (m .entry)))) ⌝ }
+{
+    strike(m, ORDER_RESTING, ORDER_LIVE, RESTING_ORDERS, i);
+}
+
+// An order of the table rests.
+pub fn rest(m: &mut [u8], i: usize, o: Resting)
+    requires { ⌜ Holds (now m) × (i < order-room) × (word (cell (now m)) C.resting-orders < order-room) ⌝ }
+    ensures { λ r. ⌜ Is (now (m .exit)) (rest i o (cell (now (m .entry)))) ⌝ }
+{
+    let n = store::get(m, store::HEADER, 0, RESTING_ORDERS);
+    set_four(m, i, ORDER_REST_SIDE, o.side, o.price, o.visible, o.leaves);
+    set_two(m, store::ORDERS, i, ORDER_RESTING, 1, 1);
+    store::set(m, store::HEADER, 0, RESTING_ORDERS, n + 1);
+}
+
+// A row for a live order that does not rest.
+fn put_row(m: &mut [u8], i: usize, number: u64, o: Live)
+    requires { ⌜ Holds (now m) × (i < order-room) ⌝ }
+    ensures { λ r. ⌜ Is (now (m .exit)) (fill C.orders i C.order-number (number ∷ 1 ∷ 0 ∷ 1 ∷ o .account ∷ o .«client_ref» ∷ o .side ∷ o .priced ∷ o .price ∷ o .leaves ∷ o .hold ∷ []) (cell (now (m .entry)))) ⌝ }
+{
+    set_four(m, i, ORDER_NUMBER, number, 1, 0, 1);
+    set_four(
+        m,
+        i,
+        ORDER_ACCOUNT,
+        o.account,
+        o.client_ref,
+        o.side,
+        o.priced,
+    );
+    set_two(m, store::ORDERS, i, ORDER_PRICE, o.price, o.leaves);
+    store::set(m, store::ORDERS, i, ORDER_HOLD, o.hold);
+}
+
+// An order comes, with a number above those in the table.
+pub fn append(m: &mut [u8], number: u64, o: Live)
+    requires { ⌜ Holds (now m) × (word (cell (now m)) C.order-rows < order-room) × (word (cell (now m)) C.live-orders < order-room) ⌝ }
+    ensures { λ r. ⌜ Is (now (m .exit)) (append number o (cell (now (m .entry)))) ⌝ }
+{
+    let i = store::get(m, store::HEADER, 0, ORDER_ROWS);
+    let n = store::get(m, store::HEADER, 0, LIVE_ORDERS);
+    put_row(m, i as usize, number, o);
+    set_two(m, store::HEADER, 0, ORDER_ROWS, i + 1, n + 1);
+    store::set(m, store::HINTS, (number % 4096) as usize, HINT_ROW, i);
+}
+
+// The tombstones are squeezed out. Hints of rows that moved are wrong from then on.
+fn compact(m: &mut [u8])
+    requires { ⌜ Ready (now m) × Sorted (cell (now m)) ⌝ }
+    ensures { λ r. ⌜ Is (now (m .exit)) (compact (cell (now (m .entry)))) ⌝ }
+{
+    let n = store::get(m, store::HEADER, 0, ORDER_ROWS);
+    let w = table::compact(m, BASE, STRIDE, 8 * ORDER_KEPT, n as usize);
+    store::set(m, store::HEADER, 0, ORDER_ROWS, w as u64);
+}
+
+// Room for one row more, where not all rows are kept.
+pub fn make_room(m: &mut [u8])
+    requires { ⌜ Ready (now m) × Sorted (cell (now m)) ⌝ }
+    ensures { λ r. ⌜ Is (now (m .exit)) (make-room (cell (now (m .entry)))) ⌝ }
+{
+    if store::get(m, store::HEADER, 0, ORDER_ROWS) < 2048 {
+        return;
+    }
+    compact(m);
+}
