@@ -62,13 +62,13 @@ less-or (pos a) (negsuc b) h k = refl
 less-or (negsuc a) (pos b) h k = absurd (true≢false k)
 less-or (negsuc a) (negsuc b) h k = other b a h k
 
-and-comm : (x y : Bool) → x && y ≡ y && x
+pub and-comm : (x y : Bool) → x && y ≡ y && x
 and-comm true true = refl
 and-comm true false = refl
 and-comm false true = refl
 and-comm false false = refl
 
-better-trans : (s : Side) (a b c : ℤ) → better s a b ≡ true → better s b c ≡ true → better s a c ≡ true
+pub better-trans : (s : Side) (a b c : ℤ) → better s a b ≡ true → better s b c ≡ true → better s a c ≡ true
 better-trans Buy a b c h k = less-trans c b a k h
 better-trans Sell a b c h k = less-trans a b c h k
 
@@ -78,7 +78,7 @@ better-or Sell a b h k = less-or a b h k
 
 module _ (s : Side) (p : ℤ) (v : ℕ) where
   -- the three ways in which an order joins: at its price, before a worse level, further on
-  joins : (P : List Level → Type 0) (l : Level) (ls : List Level) →
+  pub joins : (P : List Level → Type 0) (l : Level) (ls : List Level) →
       (p ≡ l .price → P (record { price = p; qty = l .qty + v; orders = suc (l .orders) } ∷ ls)) → (better s p (l .price) ≡ true → P (record { price = p; qty = v; orders = 1 } ∷ l ∷ ls)) →
       (better s (l .price) p ≡ true → P (l ∷ joined s p v ls)) → P (joined s p v (l ∷ ls))
   joins P l ls f g h =

@@ -18,3 +18,4 @@ pub mod Rejected
 pub mod Roomy
 pub mod Settled
 pub mod Counted
+pub mod Levels
