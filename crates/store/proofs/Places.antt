@@ -9,7 +9,8 @@ use native.Mathlib.Omega.{arith}
 use borrow.Author.Tests.{eqb-true}
 use lib.ListN.{length}
 use lib.Dec.{eqb}
-use Rattle.le.proofs.Laws.{length-put, le-put, le-put-other, lt-or-le}
+use Rattle.le.specs.Le.{Outside}
+use Rattle.le.proofs.Laws.{length-put, le-put, le-put-other, le-outside, lt-or-le}
 use Rattle.table.proofs.Live.{same?}
 use Rattle.table.proofs.Moves.{step}
 use Rattle.store.specs.Cells as C
@@ -70,6 +71,14 @@ same-block {b} l c h = let t = step (width b) h in omega (arith, c .cell-is)
 
 two-blocks : {b i k c j l : ℕ} → Cell b i k → Cell c j l → b < c → spot b i k < spot c j l
 two-blocks {b} {c = c} p q h = omega (arith, in-block p .1, in-block q .0, later b c h (omega (arith, q .block-is)))
+
+-- what changes in the bytes of one block is not seen in another
+pub cell-block : (b : ℕ) {xs ys : List ℕ} {d j l : ℕ} → b < blocks → Outside (8 * start b) (8 * start (suc b)) xs ys → Cell d j l → (d ≡ b → ⊥) → cell ys d j l ≡ cell xs d j l
+unfolding cell
+cell-block b {d = d} {j} {l} h p q ne =
+    le-outside 8 (8 * spot d j l) p
+    (⊎-elim (λ g. inl (omega (arith, in-block q .1, later d b g (omega arith)))) (λ g. inr (omega (arith, in-block q .0, later b d g (omega (arith, q .block-is)))))
+    (apart d b ne))
 
 one-side : {b i k c j l : ℕ} → Cell b i k → Cell c j l → Other b i k c j l → (spot b i k < spot c j l) ⊎ (spot c j l < spot b i k)
 one-side {b} {i} {k} {c} {j} {l} p q ne =

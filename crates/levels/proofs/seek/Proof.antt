@@ -1,0 +1,19 @@
+use borrow.Author.Needs.{needs}
+use Rattle.levels.proofs.Laws.{laws}
+use Rattle.levels.proofs.seek.Statement.{statement}
+use Rattle.levels.proofs.seek.Tie as tie
+
+size-requires : tie.Need-size-requires
+size-requires c κs = search needs
+
+base-of-requires : tie.Need-base-of-requires
+base-of-requires c κs = search needs
+
+lower-bound-requires : tie.Need-lower-bound-requires
+lower-bound-requires c κs = search laws
+
+returns : tie.Need-returns
+returns c = search laws
+
+pub seek-spec : {M : Type 1} → statement M
+seek-spec = tie.close (tie.spec size-requires base-of-requires lower-bound-requires returns)

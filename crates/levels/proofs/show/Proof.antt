@@ -1,0 +1,57 @@
+use borrow.Author.Needs.{needs}
+use mathlib.Core.Path.{ap}
+use native.Mathlib.Omega.{arith}
+use Rattle.levels.specs.declared.Row.{Row}
+use Rattle.levels.proofs.Laws.{show-in}
+use Rattle.levels.proofs.Laws.{laws}
+use Rattle.levels.proofs.show.Statement.{statement}
+use Rattle.levels.proofs.show.Tie as tie
+
+seek-requires : tie.Need-seek-requires
+seek-requires c κs = search needs
+
+read-row-requires : tie.Need-read-row-requires
+read-row-requires c κs =
+    let k = c .before in
+    let s = k .before .before .before in
+    let h = show-in _ (s .pre .0) _ _ _ _ (k .seek .ensures) (s .pre .1) in
+    (s .pre .0 .holds, omega (arith, h .0, s .pre .0 .few))
+
+sub-t15 : tie.Need-sub-t15
+sub-t15 c =
+    let r = c .before .before in
+    let k = r .before .before in
+    let s = k .before .before .before in
+    omega (arith, ap (λ (x : Row). x .qty) (r .read-row .ensures), show-in _ (s .pre .0) _ _ _ _ (k .seek .ensures) (s .pre .1) .2 .0)
+
+add-t16 : tie.Need-add-t16
+add-t16 c =
+    let r = c .before .before in
+    let k = r .before .before in
+    let s = k .before .before .before in
+    omega (arith, ap (λ (x : Row). x .qty) (r .read-row .ensures), show-in _ (s .pre .0) _ _ _ _ (k .seek .ensures) (s .pre .1) .2 .1)
+
+write-row-requires : tie.Need-write-row-requires
+write-row-requires c κs =
+    let k = c .before .before .before .before in
+    let s = k .before .before .before in
+    let h = show-in _ (s .pre .0) _ _ _ _ (k .seek .ensures) (s .pre .1) in
+    (s .pre .0 .holds, omega (arith, h .0, s .pre .0 .few))
+
+same-length : tie.Need-same-length
+same-length c = search needs
+
+returns : tie.Need-returns
+returns c = search laws
+
+pub show-spec : {M : Type 1} → statement M
+show-spec =
+    tie.close
+    (tie.spec
+    seek-requires
+    read-row-requires
+    sub-t15
+    add-t16
+    write-row-requires
+    same-length
+    returns)

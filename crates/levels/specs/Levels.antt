@@ -1,0 +1,121 @@
+-- The stored levels of a side: rows ascending by key, and what each operation makes of their list.
+use mathlib.Core.Path.{_≡_}
+use mathlib.Core.Bool.{Bool, true, false, cond}
+use mathlib.Core.List.{List}
+use mathlib.Core.Option.{Option, none, some}
+use Prim.Native.Nat.{ℕ, _+_, _-_, _^_, _≤_, _<_}
+use lib.Dec.{eqb}
+use Rattle.orderbook.specs.declared.Side.{Side}
+use Rattle.orderbook.specs.declared.Side.the-variants.{Buy, Sell}
+use Rattle.table.specs.Live.{live, look, insert, replace, without, Ascends}
+use Rattle.table.specs.Table.{Between}
+use Rattle.gateway.specs.Basics.{option}
+use Rattle.gateway.specs.Limits.{most-levels}
+use Rattle.store.specs.Cells as C
+use Rattle.store.specs.Layout.{cell, Cell, Holds}
+use Rattle.store.specs.View.{Store, word}
+use Rattle.levels.specs.declared.Row.{Row}
+
+-- ---- where they stand
+
+abbrev pub block : Side → ℕ
+block Buy = C.bids
+block Sell = C.asks
+
+-- the header's cell with their number
+abbrev pub count : Side → ℕ
+count Buy = C.bid-levels
+count Sell = C.ask-levels
+
+-- the block's first byte
+abbrev pub base : Side → ℕ
+base Buy = 332032
+base Sell = 348416
+
+abbrev pub key : Row → ℕ
+key r = r .key
+
+abbrev pub row : Side → Store → ℕ → Row
+row s t i =
+    record { key = t (block s) i C.level-price; qty = t (block s) i C.level-qty; orders = t (block s) i C.level-orders }
+
+unfoldable pub size : Side → Store → ℕ
+size s t = word t (count s)
+
+-- no row is dead
+unfoldable pub entries : Side → Store → List Row
+entries s t = live (λ r. 1) (row s t) (size s t)
+
+-- ---- what is known before and after
+
+pub record Table (s : Side) (xs : List ℕ) : Type 0 where
+  pub holds : Holds xs
+  pub few : size s (cell xs) ≤ most-levels
+  pub asc : Ascends key (row s (cell xs)) (size s (cell xs))
+
+-- every cell but those of the side's block and its count is as before
+abbrev pub Kept : Side → List ℕ → List ℕ → Type 0
+Kept s xs ys =
+    (b i k : ℕ) → Cell b i k → (b ≡ block s → ⊥) → (b ≡ C.header → k ≡ count s → ⊥) → cell ys b i k ≡ cell xs b i k
+
+-- the side's rows are l now
+pub record Did (s : Side) (xs ys : List ℕ) (l : List Row) : Type 0 where
+  pub table : Table s ys
+  pub list : entries s (cell ys) ≡ l
+  pub kept : Kept s xs ys
+
+-- i is the first row whose key is not below k
+abbrev pub Sought : Side → List ℕ → ℕ → ℕ → Type 0
+Sought s xs k i = Between (λ j. row s (cell xs) j .key) (size s (cell xs)) k i i
+
+-- what is found of the level k at i, by the answer
+abbrev pub IsAt : Side → List ℕ → ℕ → ℕ → Bool → Type 0
+IsAt s xs i k true = (i < size s (cell xs)) × (look key k (entries s (cell xs)) ≡ some (row s (cell xs) i))
+IsAt s xs i k false = look key k (entries s (cell xs)) ≡ none
+
+-- the level k is not there, and i is its place
+pub record Place (s : Side) (xs : List ℕ) (k i : ℕ) : Type 0 where
+  pub table : Table s xs
+  pub room : size s (cell xs) < most-levels
+  pub sought : Sought s xs k i
+  pub absent : look key k (entries s (cell xs)) ≡ none
+
+-- ---- what the operations make of a list
+
+abbrev pub opened : ℕ → ℕ → Row
+opened k v = record { key = k; qty = v; orders = 1 }
+
+abbrev pub one-more : ℕ → Row → Row
+one-more v r = record { key = r .key; qty = r .qty + v; orders = r .orders + 1 }
+
+abbrev pub changed : ℕ → ℕ → Row → Row
+changed v w r = record { key = r .key; qty = r .qty - v + w; orders = r .orders }
+
+abbrev pub one-less : ℕ → Row → Row
+one-less v r = record { key = r .key; qty = r .qty - v; orders = r .orders - 1 }
+
+abbrev pub added : ℕ → ℕ → List Row → List Row
+added k v l = option (insert key (opened k v) l) (λ r. replace key (one-more v r) l) (look key k l)
+
+abbrev pub shown : ℕ → ℕ → ℕ → List Row → List Row
+shown k v w l = option l (λ r. replace key (changed v w r) l) (look key k l)
+
+abbrev pub removed : ℕ → ℕ → List Row → List Row
+removed k v l = option l (λ r. cond (eqb (r .orders) 1) (without key k l) (replace key (one-less v r) l)) (look key k l)
+
+-- ---- what the judging establishes: room for a new level, and numbers in range
+
+abbrev pub Joins : ℕ → Row → Type 0
+Joins v r = (r .qty + v < 2 ^ 64) × (r .orders + 1 < 2 ^ 64)
+
+abbrev pub CanAdd : ℕ → ℕ → Option Row → Type 0
+CanAdd n v none = n < most-levels
+CanAdd n v (some r) = Joins v r
+
+abbrev pub CanShow : ℕ → ℕ → Option Row → Type 0
+CanShow v w none = ⊥
+CanShow v w (some r) = (v ≤ r .qty) × (r .qty - v + w < 2 ^ 64)
+
+abbrev pub CanRemove : ℕ → Option Row → Type 0
+CanRemove v none = ⊥
+CanRemove v (some r) = (v ≤ r .qty) × (0 < r .orders)
