@@ -1,16 +1,16 @@
 -- What the operations write, and what a lookup finds in the bytes. Assumes nothing.
 use mathlib.Core.Path.{_≡_, refl, sym, ap, ap₂, _∙_}
 use mathlib.Core.Logic.{_⊎_, inl, inr, ⊎-elim}
-use mathlib.Core.Option.{Option, none, some, Option·map}
-use mathlib.Core.List.{List, [], _∷_, _++_, map}
+use mathlib.Core.Option.{Option·map}
+use mathlib.Core.List.{List, [], _∷_, _++_}
 use Prim.Native.Nat.{ℕ, zero, suc, _+_, _*_, _-_, _%_, _^_, _≤_, _<_}
 use native.Mathlib.Omega.{arith}
 use Rattle.le.specs.Le.{le}
 use lib.ListN.{length, getD}
 use borrow.Author.Tests.{ne-eqb, lt-ltb, le-ltb}
 use Rattle.le.proofs.Laws.{lt-or-le, le-split, le-local, le-outside, same-part}
-use Rattle.table.specs.Live.{pick, live, kept, look}
-use Rattle.table.specs.Table.{keyAt, markAt, Room, Finds, found, Compacted}
+use Rattle.table.specs.Live.{pick, live, kept}
+use Rattle.table.specs.Table.{keyAt, markAt, Room, Finds, found, Between, Opened, Compacted}
 use Rattle.table.specs.Table as T
 use Rattle.table.specs.declared.Found.{Found}
 use Rattle.table.specs.declared.Found.the-variants.{At, Nothing}
@@ -20,13 +20,13 @@ use Rattle.gateway.specs.Depth.{resting-number}
 use Rattle.gateway.specs.Ledger.{number-of}
 use Rattle.store.specs.Cells as C
 use Rattle.store.specs.Layout.{cell, start, spot, Cell, Holds, Set}
-use Rattle.store.specs.View.{Row, Store, Same, word, write, marked, order, resting, order-room, Is, Ready}
+use Rattle.store.specs.View.{Row, Store, Same, word, write, order, resting, order-room, Is, Ready}
 use Rattle.store.proofs.Places.{header-cell, order-cell, hint-cell}
 use Rattle.store.proofs.Rows.{then-set, is-itself, same-write}
 use Rattle.orders.specs.declared.Live.{Live}
 use Rattle.orders.specs.declared.Resting.{Resting}
 use Rattle.orders.proofs.Shown.{look-map}
-use Rattle.orders.specs.Orders.{either, Sorted, Marks, FindsRow, Sees, fill, strike, rest, append, places, packed, compact, make-room}
+use Rattle.orders.specs.Orders.{either, Sorted, Marks, FindsRow, Sees, fill, strike, rest, append, places, packed, compact, make-room, opened, open-row}
 
 -- ---- what is written
 
@@ -213,6 +213,67 @@ pub room-made : (xs ys : List ℕ) (n : ℕ) → n ≡ cell xs C.header 0 C.orde
 unfolding make-room
 room-made xs ys n e l h = rw (← e, le-ltb n order-room l) h
 
+-- ---- a row between others
+
+pub place-is : (xs : List ℕ) (n number i : ℕ) → n ≡ cell xs C.header 0 C.order-rows → Between (keyAt 69888 128 xs) n number i i →
+    Between (λ j. cell xs C.orders j C.order-number) (word (cell xs) C.order-rows) number i i
+place-is xs n number i e b =
+    rw (← e)
+    (record {
+      inside = b .inside;
+      top = b .top;
+      below = λ j l. rw (← key-cell xs j) (b .below j l);
+      above = λ j h l. rw (← key-cell xs j) (b .above j h l);
+    })
+
+module _ (xs ys : List ℕ) (n i : ℕ) (r : Ready xs) (e : n ≡ cell xs C.header 0 C.order-rows) (f : n < order-room) (o : Opened 69888 128 n i xs ys) where
+  cell-up : (j k : ℕ) → i < j → j ≤ n → k < 16 → cell ys C.orders j k ≡ cell xs C.orders (j - 1) k
+  cell-up j k h m l =
+      let u : j - 1 + 1 ≡ j = omega arith in
+      order-cell-at ys j k
+      ∙ le-local 8 .same (same-part (8 * k) 8 (omega arith) (rw u at (o .behind (j - 1) (omega arith) (omega arith))))
+      ∙ sym (order-cell-at xs (j - 1) k)
+
+  cell-stays : (j k : ℕ) → k < 16 → (j ≤ i) ⊎ (n < j) → cell ys C.orders j k ≡ cell xs C.orders j k
+  cell-stays j k l w =
+      order-cell-at ys j k
+      ∙ le-outside 8 (69888 + 128 * j + 8 * k) (o .frame) (⊎-elim (λ h. inl (omega arith)) (λ h. inr (omega arith)) w)
+      ∙ sym (order-cell-at xs j k)
+
+  cell-beside : (b j k : ℕ) → Cell b j k → (b ≡ C.orders → ⊥) → cell ys b j k ≡ cell xs b j k
+  unfolding cell
+  cell-beside b j k q ne =
+      le-outside 8 (8 * spot b j k) (o .frame) (⊎-elim (λ h. inl (omega arith)) (λ h. inr (omega arith)) (aside b j k q ne))
+
+  opened-is : Is ys (opened i (cell xs))
+  unfolding opened
+  opened-is =
+      record {
+        holds = omega (arith, o .frame .len, r .holds);
+        same = λ b j k q.
+            ⊎-elim
+            (λ (g : b ≡ C.orders).
+            let l : k < 16 = rw g at (q .cell-is) in
+            rw (g, ← e)
+            (⊎-elim
+            (λ (h : i < j).
+            rw (lt-ltb i j h)
+            (⊎-elim (λ (m : n < j). rw (lt-ltb n j m) (cell-stays j k l (inr m))) (λ (m : j ≤ n). rw (le-ltb n j m) (cell-up j k h m l)) (lt-or-le n j)))
+            (λ (h : j ≤ i). rw (le-ltb i j h) (cell-stays j k l (inl h)))
+            (lt-or-le i j)))
+            (λ ne. rw (ne-eqb b C.orders ne) (cell-beside b j k q ne))
+            (same? b C.orders);
+      }
+
+  pub open-row-is : (zs us vs : List ℕ) (number : ℕ) → Is zs (fill C.orders i C.order-number (number ∷ 0 ∷ 0 ∷ 0 ∷ []) (cell ys)) →
+      Set zs us C.header 0 C.order-rows (n + 1) → Set us vs C.hints (number % 4096) C.hint-row i → Is vs (open-row i number (cell xs))
+  unfolding open-row
+  open-row-is zs us vs number p q t =
+      rw (← e)
+      (then-set
+      (then-set (then-fill C.orders i C.order-number (number ∷ 0 ∷ 0 ∷ 0 ∷ []) opened-is p) (header-cell C.order-rows (omega arith)) (omega arith) q)
+      (hint-cell (number % 4096) C.hint-row (omega arith) (omega arith)) (omega (arith, o .inside)) t)
+
 pub live-marks : {s : Store} → Sorted s → Marks C.order-live s
 live-marks s = record { inside = omega arith; small = λ j l. s .flags j l .live-is }
 
@@ -244,4 +305,4 @@ sees-live s n r = sees C.order-live order number-of s n r (λ q. refl)
 pub sees-resting : (s : Store) (n : ℕ) (r : Found) → Sorted s → FindsRow C.order-resting s n r → Sees C.order-resting resting resting-number s n r
 sees-resting s n r = sees C.order-resting resting resting-number s n r (λ q. refl)
 
-pub ruleset laws = (sees-live, sees-resting, set-two-is, set-four-is, strike-is, rest-is, put-row-is, append-is, sorted-bytes, room-bytes, compact-is, room-there, room-made, find-is, live-marks, resting-marks, header-cell, order-cell, hint-cell, arith)
+pub ruleset laws = (sees-live, sees-resting, set-two-is, set-four-is, strike-is, rest-is, put-row-is, append-is, sorted-bytes, room-bytes, compact-is, room-there, room-made, place-is, open-row-is, find-is, live-marks, resting-marks, header-cell, order-cell, hint-cell, arith)

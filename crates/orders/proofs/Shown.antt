@@ -2,7 +2,7 @@
 use mathlib.Core.Path.{_≡_, refl, sym, ap, ap₂, _∙_}
 use mathlib.Core.Bool.{cond}
 use mathlib.Core.Logic.{⊎-elim}
-use mathlib.Core.Option.{Option, none, some, Option·map}
+use mathlib.Core.Option.{Option·map}
 use mathlib.Core.List.{List, [], _∷_, _++_, map}
 use Prim.Native.Nat.{ℕ, zero, suc, _+_, _≤_, _<_}
 use native.Mathlib.Nat.{eq-or-lt-of-le}
@@ -12,7 +12,6 @@ use lib.Dec.{eqb, ltb}
 use lib.ListN.{length, length-append, length-map}
 use Rattle.le.proofs.Laws.{lt-or-le}
 use Rattle.table.specs.Live.{pick, Each, Changed, live, look, without, insert, replace, Ascends}
-use Rattle.table.proofs.Lists.{Swap}
 use Rattle.table.proofs.Live.{live-ext, live-more, live-dead, live-strike, live-replace, live-revive, each-live, change-swap}
 use Rattle.gateway.specs.Table.{update}
 use Rattle.gateway.proofs.Base.{split, if-map}
@@ -56,11 +55,11 @@ module _ {A B : Type 0} (h : A → B) (key : B → ℕ) where
 abbrev pub shown : {A : Type 0} → (ℕ → ℕ × A) → ℕ → List A
 shown {A} p n = map (λ (q : ℕ × A). q .1) (live (λ (q : ℕ × A). q .0) p n)
 
-map-append : {A B : Type 0} (h : A → B) (l m : List A) → map h (l ++ m) ≡ map h l ++ map h m
+pub map-append : {A B : Type 0} (h : A → B) (l m : List A) → map h (l ++ m) ≡ map h l ++ map h m
 map-append h [] m = refl
 map-append h (x ∷ l) m = ap (λ y. h x ∷ y) (map-append h l m)
 
-pick-length : {A : Type 0} (m : ℕ) (r : A) → m ≤ 1 → length (pick m r) ≡ m
+pub pick-length : {A : Type 0} (m : ℕ) (r : A) → m ≤ 1 → length (pick m r) ≡ m
 pick-length zero r h = refl
 pick-length (suc zero) r h = refl
 pick-length (suc (suc m)) r h = absurd (omega arith)

@@ -8,7 +8,6 @@ use native.Mathlib.Omega.{arith}
 use borrow.Author.Tests.{eq-eqb, ne-eqb}
 use lib.Dec.{eqb}
 use lib.ListN.{length, length-append}
-use lib.IntN.{ℤ}
 use Rattle.words.specs.Words.{int}
 use Rattle.table.specs.Live.{Changed, without, insert, replace, Ascends}
 use Rattle.table.proofs.Live.{same?, ascends-ext, ascends-open, gap-end}
@@ -24,7 +23,7 @@ use Rattle.store.proofs.Places.{header-cell, order-cell}
 use Rattle.store.proofs.Frames.{gateway-same}
 use Rattle.orders.specs.declared.Live.{Live}
 use Rattle.orders.specs.declared.Resting.{Resting}
-use Rattle.orders.specs.Orders.{either, Flags, Sorted, Counted, Ordered, fill, set-leaves, set-price, show, strike, retire, take-off, rest, append}
+use Rattle.orders.specs.Orders.{either, Flags, Sorted, Ordered, fill, set-leaves, set-price, show, strike, retire, take-off, rest, append}
 use Rattle.orders.proofs.Shown.{shown, shown-ext, shown-more, shown-dead, shown-strike, shown-replace, shown-revive, shown-update, shown-length}
 
 -- the gateway with other lists of orders
@@ -50,10 +49,10 @@ with-lists os rs g =
     }
 
 -- r with v in the cell k, and with vs in the cells from k on
-abbrev put-cell : ℕ → ℕ → Row → Row
+abbrev pub put-cell : ℕ → ℕ → Row → Row
 put-cell k v r l = cond (eqb l k) v (r l)
 
-abbrev put-cells : ℕ → List ℕ → Row → Row
+abbrev pub put-cells : ℕ → List ℕ → Row → Row
 put-cells k [] r = r
 put-cells k (v ∷ vs) r = put-cells (k + 1) vs (put-cell k v r)
 
@@ -77,21 +76,21 @@ write-touched i k v r s t c =
     cell-other : (j : ℕ) → (j ≡ i → ⊥) → (l : ℕ) → write C.orders i k v t C.orders j l ≡ t C.orders j l
     cell-other j ne l = rw (ne-eqb j i ne) refl
 
-fill-touched : (i k : ℕ) (vs : List ℕ) (r : Row) (s t : Store) → Touched i r s t → Touched i (put-cells k vs r) s (fill C.orders i k vs t)
+pub fill-touched : (i k : ℕ) (vs : List ℕ) (r : Row) (s t : Store) → Touched i r s t → Touched i (put-cells k vs r) s (fill C.orders i k vs t)
 unfolding fill
 fill-touched i k [] r s t c = c
 fill-touched i k (v ∷ vs) r s t c = fill-touched i (k + 1) vs (put-cell k v r) s (write C.orders i k v t) (write-touched i k v r s t c)
 
 -- one of the three words is set
-count-touched : (i k v : ℕ) (r : Row) (s t : Store) → ((j : ℕ) → (j ≡ C.order-rows → ⊥) → (j ≡ C.live-orders → ⊥) → (j ≡ C.resting-orders → ⊥) → j ≡ k → ⊥) → Touched i r s t →
+pub count-touched : (i k v : ℕ) (r : Row) (s t : Store) → ((j : ℕ) → (j ≡ C.order-rows → ⊥) → (j ≡ C.live-orders → ⊥) → (j ≡ C.resting-orders → ⊥) → j ≡ k → ⊥) → Touched i r s t →
     Touched i r s (write C.header 0 k v t)
 count-touched i k v r s t h c =
     record { here = c .here; others = c .others; words = λ j x y z. rw (ne-eqb j k (h j x y z)) (c .words j x y z) }
 
-hint-touched : (i k v : ℕ) (r : Row) (s t : Store) → Touched i r s t → Touched i r s (write C.hints k C.hint-row v t)
+pub hint-touched : (i k v : ℕ) (r : Row) (s t : Store) → Touched i r s t → Touched i r s (write C.hints k C.hint-row v t)
 hint-touched i k v r s t c = record { here = c .here; others = c .others; words = c .words }
 
-untouched : (i : ℕ) (s : Store) → Touched i (s C.orders i) s s
+pub untouched : (i : ℕ) (s : Store) → Touched i (s C.orders i) s s
 untouched i s = record { here = refl; others = λ j ne. refl; words = λ k x y z. refl }
 
 -- what is read of a row, behind its flag

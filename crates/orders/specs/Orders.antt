@@ -133,3 +133,18 @@ compact s = write C.header 0 C.order-rows (length (places s)) (packed s)
 -- room for one row more: a table that is full is compacted
 unfoldable pub make-room : Store → Store
 make-room s = cond (ltb (word s C.order-rows) order-room) s (compact s)
+
+-- ---- a row between others
+
+-- the row that stands at j once those of n rows that are at i and behind it have moved one place up
+abbrev pub moved : ℕ → ℕ → ℕ → ℕ
+moved n i j = cond (ltb i j) (cond (ltb n j) j (j - 1)) j
+
+unfoldable pub opened : ℕ → Store → Store
+opened i s b j k = cond (eqb b C.orders) (s C.orders (moved (word s C.order-rows) i j) k) (s b j k)
+
+-- a tombstone with the number n at i
+unfoldable pub open-row : ℕ → ℕ → Store → Store
+open-row i n s =
+    write C.hints (n % 4096) C.hint-row i
+    (write C.header 0 C.order-rows (word s C.order-rows + 1) (fill C.orders i C.order-number (n ∷ 0 ∷ 0 ∷ 0 ∷ []) (opened i s)))

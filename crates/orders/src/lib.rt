@@ -21,13 +21,14 @@ use store::cells::RESTING_ORDERS;
 use table::Found;
 ghost use mathlib.Core.List.{[], _∷_};
 ghost use mathlib.Core.Path.{_≡_};
-ghost use Prim.Native.Nat.{_+_, _<_};
+ghost use Prim.Native.Nat.{_+_, _≤_, _<_};
+ghost use Rattle.table.specs.Table.{Between};
 ghost use Rattle.gateway.specs.Depth.{resting-number};
 ghost use Rattle.gateway.specs.Ledger.{number-of};
 ghost use Rattle.store.specs.Cells as C;
 ghost use Rattle.store.specs.Layout.{cell, Cell, Holds};
 ghost use Rattle.store.specs.View.{word, order, resting, order-room, Is, Ready};
-ghost use Rattle.orders.specs.Orders.{Sorted, Marks, FindsRow, Sees, live-row, resting-row, fill, set-leaves, set-price, show, strike, retire, take-off, rest, append, compact, make-room};
+ghost use Rattle.orders.specs.Orders.{Sorted, Marks, FindsRow, Sees, live-row, resting-row, fill, set-leaves, set-price, show, strike, retire, take-off, rest, append, compact, make-room, open-row};
 
 // The live half of a row.
 pub struct Live {
@@ -233,4 +234,31 @@ pub fn make_room(m: &mut [u8])
         return;
     }
     compact(m);
+}
+
+// The first row whose number is not below `number`.
+pub fn place_of(m: &[u8], number: u64) -> usize
+    requires { ⌜ Ready (now m) × Sorted (cell (now m)) ⌝ }
+    ensures { λ r. ⌜ Between (λ j. cell (now (m .entry)) C.orders j C.order-number) (word (cell (now (m .entry))) C.order-rows) number r r ⌝ }
+{
+    let n = store::get(m, store::HEADER, 0, ORDER_ROWS);
+    table::lower_bound(m, BASE, STRIDE, n as usize, number)
+}
+
+// A tombstone at i, so that an order that the table does not have can rest there: the rows from i on move one place up.
+pub fn open_row(m: &mut [u8], i: usize, number: u64)
+    requires { ⌜ Ready (now m) × (word (cell (now m)) C.order-rows < order-room) × (i ≤ word (cell (now m)) C.order-rows) ⌝ }
+    ensures { λ r. ⌜ Is (now (m .exit)) (open-row i number (cell (now (m .entry)))) ⌝ }
+{
+    let n = store::get(m, store::HEADER, 0, ORDER_ROWS);
+    table::open_at(m, BASE, STRIDE, n as usize, i);
+    set_four(m, i, ORDER_NUMBER, number, 0, 0, 0);
+    store::set(m, store::HEADER, 0, ORDER_ROWS, n + 1);
+    store::set(
+        m,
+        store::HINTS,
+        (number % 4096) as usize,
+        HINT_ROW,
+        i as u64,
+    );
 }
