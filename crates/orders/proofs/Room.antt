@@ -14,7 +14,7 @@ use Rattle.gateway.specs.Ledger.{Order}
 use Rattle.gateway.proofs.Base.{split}
 use Rattle.store.specs.Cells as C
 use Rattle.store.specs.View.{Row, Store, word, order, resting, marked, ledger, depth, gateway, order-room}
-use Rattle.orders.specs.Orders.{either, Flags, Ordered, places, packed, compact, make-room}
+use Rattle.orders.specs.Orders.{either, Flags, Ordered, places, packed, compact, hint, hint-rows, squeeze, make-room}
 use Rattle.orders.proofs.Shown.{map-append, pick-length}
 use Rattle.orders.proofs.Views.{with-lists, Did, bounds-from}
 
@@ -90,6 +90,31 @@ either-covered (suc a) b p q = record { one = omega arith; left = p; right = q; 
 kept-one : (r : Row) → Flags r → Covered (r C.order-kept) (r C.order-live) (r C.order-resting)
 kept-one r f = rw (f .kept-is) (either-covered (r C.order-live) (r C.order-resting) (f .live-is) (f .resting-is))
 
+-- hints are seen by none
+hint-did : (s t : Store) (os : List Order) (rs : List D.Resting) (i : ℕ) → Did s t os rs → Did s (hint i t) os rs
+unfolding hint
+hint-did s t os rs i d =
+    let o = d .ordered in
+    record {
+      view = d .view;
+      ordered =
+          record {
+            bounds = bounds-from t (hint i t) (λ k l x y z. refl) (o .bounds .orders-fit) (o .bounds);
+            sorted = record { ascends = o .sorted .ascends; flags = o .sorted .flags };
+            counted = record { live-count = o .counted .live-count; resting-count = o .counted .resting-count };
+          };
+    }
+
+hints-did : (s t : Store) (os : List Order) (rs : List D.Resting) → Did s t os rs → (n : ℕ) → Did s (hint-rows n t) os rs
+unfolding hint-rows
+hints-did s t os rs d zero = d
+hints-did s t os rs d (suc n) = hint-did s (hint-rows n t) os rs n (hints-did s t os rs d n)
+
+hints-word : (s : Store) (n k : ℕ) → word (hint-rows n s) k ≡ word s k
+unfolding hint-rows hint
+hints-word s zero k = refl
+hints-word s (suc n) k = hints-word s n k
+
 module _ (s : Store) (d : Ordered s) where
   abbrev was : ℕ → Row
   was j = s C.orders j
@@ -162,13 +187,13 @@ module _ (s : Store) (d : Ordered s) where
       )
 
   pub make-room-does : Did s (make-room s) (ledger s .orders) (depth s .resting)
-  unfolding make-room
+  unfolding make-room squeeze
   make-room-does =
-      split (λ b. Did s (cond b s (compact s)) (ledger s .orders) (depth s .resting)) (ltb (word s C.order-rows) order-room)
-      (λ e. record { view = refl; ordered = d }) (λ e. compact-does)
+      split (λ b. Did s (cond b s (squeeze s)) (ledger s .orders) (depth s .resting)) (ltb (word s C.order-rows) order-room)
+      (λ e. record { view = refl; ordered = d }) (λ e. hints-did s (compact s) _ _ compact-does (length (places s)))
 
   pub make-room-room : word s C.live-orders + word s C.resting-orders < order-room → word (make-room s) C.order-rows < order-room
-  unfolding make-room
+  unfolding make-room squeeze
   make-room-room h =
-      split (λ b. (ltb (word s C.order-rows) order-room ≡ b) → word (cond b s (compact s)) C.order-rows < order-room) (ltb (word s C.order-rows) order-room)
-      (λ _ e. ltb-true (word s C.order-rows) order-room e) (λ _ e. compact-room h) refl
+      split (λ b. (ltb (word s C.order-rows) order-room ≡ b) → word (cond b s (squeeze s)) C.order-rows < order-room) (ltb (word s C.order-rows) order-room)
+      (λ _ e. ltb-true (word s C.order-rows) order-room e) (λ _ e. rw (hints-word (compact s) (length (places s)) C.order-rows) (compact-room h)) refl

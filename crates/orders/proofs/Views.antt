@@ -18,7 +18,7 @@ use Rattle.gateway.specs.Ledger as L
 use Rattle.gateway.specs.Table.{update}
 use Rattle.store.specs.Cells as C
 use Rattle.store.specs.Layout.{cell}
-use Rattle.store.specs.View.{Row, Store, Same, Is, word, write, side, maybe-price, order, resting, marked, ledger, depth, gateway, order-room, Bounds}
+use Rattle.store.specs.View.{Row, Store, Same, Is, Ready, word, write, side, maybe-price, order, resting, marked, ledger, depth, gateway, order-room, Bounds}
 use Rattle.store.proofs.Places.{header-cell, order-cell}
 use Rattle.store.proofs.Frames.{gateway-same}
 use Rattle.orders.specs.declared.Live.{Live}
@@ -216,6 +216,9 @@ pub did-bytes : (s t : Store) (os : List Order) (rs : List D.Resting) (ys : List
 did-bytes s t os rs ys h d =
     let e : Same t (cell ys) = λ b i k c. sym (h .same b i k c) in
     record { view = view-same t (cell ys) e (d .ordered) ∙ d .view; ordered = ordered-same t (cell ys) e (d .ordered) }
+
+pub did-ready : (s t : Store) (os : List Order) (rs : List D.Resting) (ys : List ℕ) → Is ys t → Did s t os rs → Ready ys
+did-ready s t os rs ys h d = record { holds = h .holds; bounds = did-bytes s t os rs ys h d .ordered .bounds }
 
 -- a row in use is changed
 module _ (s : Store) (i : ℕ) (d : Ordered s) (l : i < word s C.order-rows) where

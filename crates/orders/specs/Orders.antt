@@ -130,9 +130,20 @@ packed s b i k = cond (eqb b C.orders) (s C.orders (cond (ltb i (length (places 
 unfoldable pub compact : Store → Store
 compact s = write C.header 0 C.order-rows (length (places s)) (packed s)
 
--- room for one row more: a table that is full is compacted
+-- the hint of the row i, and of the first n rows
+unfoldable pub hint : ℕ → Store → Store
+hint i s = write C.hints (s C.orders i C.order-number % 4096) C.hint-row i s
+
+unfoldable pub hint-rows : ℕ → Store → Store
+hint-rows zero s = s
+hint-rows (suc n) s = hint n (hint-rows n s)
+
+unfoldable pub squeeze : Store → Store
+squeeze s = hint-rows (length (places s)) (compact s)
+
+-- room for one row more: a table that is full is squeezed
 unfoldable pub make-room : Store → Store
-make-room s = cond (ltb (word s C.order-rows) order-room) s (compact s)
+make-room s = cond (ltb (word s C.order-rows) order-room) s (squeeze s)
 
 -- ---- a row between others
 
