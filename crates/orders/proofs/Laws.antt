@@ -3,14 +3,15 @@ use mathlib.Core.Path.{_≡_, refl, sym, ap, ap₂, _∙_}
 use mathlib.Core.Logic.{_⊎_, inl, inr, ⊎-elim}
 use mathlib.Core.Option.{Option·map}
 use mathlib.Core.List.{List, [], _∷_, _++_}
-use Prim.Native.Nat.{ℕ, zero, suc, _+_, _*_, _-_, _%_, _≤_, _<_}
+use Prim.Native.Nat.{ℕ, zero, suc, _+_, _*_, _-_, _%_, _^_, _≤_, _<_}
+use native.Mathlib.Numerals.{add-one}
 use native.Mathlib.Omega.{arith}
 use Rattle.le.specs.Le.{le}
 use lib.ListN.{length, getD}
 use borrow.Author.Tests.{ne-eqb, lt-ltb, le-ltb}
 use Rattle.le.proofs.Laws.{lt-or-le, le-split, le-local, le-outside, same-part}
 use Rattle.table.specs.Live.{pick, live, kept}
-use Rattle.table.specs.Table.{keyAt, markAt, Room, Finds, found, Compacted}
+use Rattle.table.specs.Table.{keyAt, markAt, Room, Finds, found, Between, Opened, Compacted}
 use Rattle.table.specs.Table as T
 use Rattle.table.specs.declared.Found.{Found}
 use Rattle.table.specs.declared.Found.the-variants.{At, Nothing}
@@ -22,11 +23,11 @@ use Rattle.store.specs.Cells as C
 use Rattle.store.specs.Layout.{cell, start, spot, Cell, Holds, Set}
 use Rattle.store.specs.View.{Row, Store, Same, word, write, order, resting, order-room, Is, Ready}
 use Rattle.store.proofs.Places.{header-cell, order-cell, hint-cell}
-use Rattle.store.proofs.Rows.{then-set, is-itself, same-write}
+use Rattle.store.proofs.Rows.{then-set, is-itself, same-write, same-trans}
 use Rattle.orders.specs.declared.Live.{Live}
 use Rattle.orders.specs.declared.Resting.{Resting}
 use Rattle.orders.proofs.Shown.{look-map}
-use Rattle.orders.specs.Orders.{either, Sorted, Marks, FindsRow, Sees, fill, strike, rest, append, places, packed, compact, make-room}
+use Rattle.orders.specs.Orders.{either, Sorted, Marks, FindsRow, Sees, fill, strike, rest, append, places, packed, compact, hint, hint-rows, squeeze, make-room, opened, open-row}
 
 -- ---- what is written
 
@@ -122,6 +123,33 @@ find-is xs k n number r m e h =
     rw (← e)
     (finds-ext n number (λ j l. key-cell xs j) (λ j l. mark-cell xs k j (omega (arith, m .small j (rw e at l)))) r h)
 
+-- ---- hints
+
+same-hint : (i : ℕ) (s t : Store) → i < order-room → Same s t → Same (hint i s) (hint i t)
+unfolding hint
+same-hint i s t l e =
+    rw (e C.orders i C.order-number (order-cell i C.order-number l (omega arith)))
+    (same-write s t C.hints (t C.orders i C.order-number % 4096) C.hint-row i e)
+
+same-hints : (n : ℕ) (s t : Store) → n ≤ order-room → Same s t → Same (hint-rows n s) (hint-rows n t)
+unfolding hint-rows
+same-hints zero s t l e = e
+same-hints (suc n) s t l e = same-hint n (hint-rows n s) (hint-rows n t) (omega arith) (same-hints n s t (omega arith) e)
+
+pub hint-is : {xs ys : List ℕ} (i n : ℕ) → Holds xs → n ≡ cell xs C.orders i C.order-number → i < order-room → Set xs ys C.hints (n % 4096) C.hint-row i → Is ys (hint i (cell xs))
+unfolding hint
+hint-is i n h e l p = rw (← e) (then-set (is-itself h) (hint-cell (n % 4096) C.hint-row (omega arith) (omega arith)) p)
+
+pub hints-none : (xs : List ℕ) → Holds xs → Is xs (hint-rows 0 (cell xs))
+unfolding hint-rows
+hints-none xs h = is-itself h
+
+pub hints-more : (s : Store) (ys zs : List ℕ) (i : ℕ) → i < order-room → Is ys (hint-rows i s) → Is zs (hint i (cell ys)) → Is zs (hint-rows (i + 1) s)
+unfolding hint-rows
+hints-more s ys zs i l p q =
+    rw (add-one i)
+    (record { holds = q .holds; same = same-trans (cell zs) (hint i (cell ys)) (hint i (hint-rows i s)) (q .same) (same-hint i (cell ys) (hint-rows i s) l (p .same)) })
+
 -- ---- the tombstones squeezed out
 
 pub room-bytes : {xs : List ℕ} (n : ℕ) → Ready xs → n ≡ cell xs C.header 0 C.order-rows → Room 69888 128 n xs
@@ -199,19 +227,91 @@ module _ (xs ys : List ℕ) (n w : ℕ) (r : Ready xs) (o : Sorted (cell xs)) (e
       (λ ne. rw (ne-eqb b C.orders ne) (cell-aside b i k q ne))
       (same? b C.orders)
 
-  pub compact-is : (zs : List ℕ) → Set ys zs C.header 0 C.order-rows w → Is zs (compact (cell xs))
+  compact-is : (zs : List ℕ) → Set ys zs C.header 0 C.order-rows w → Is zs (compact (cell xs))
   unfolding compact
   compact-is zs p =
       rw (← size-is)
       (then-set (record { holds = omega (arith, c .frame .len, r .holds); same = packed-same }) (header-cell C.order-rows (omega arith)) p)
 
+  pub squeeze-is : (zs us : List ℕ) → Set ys zs C.header 0 C.order-rows w → Is us (hint-rows w (cell zs)) → Is us (squeeze (cell xs))
+  unfolding squeeze
+  squeeze-is zs us p q =
+      rw (← size-is)
+      (record {
+        holds = q .holds;
+        same =
+            same-trans (cell us) (hint-rows w (cell zs)) (hint-rows w (compact (cell xs))) (q .same)
+            (same-hints w (cell zs) (compact (cell xs)) (omega (arith, c .fewer, r .bounds .orders-fit)) (compact-is zs p .same));
+      })
+
 pub room-there : (xs : List ℕ) (n : ℕ) → Holds xs → n ≡ cell xs C.header 0 C.order-rows → n < order-room → Is xs (make-room (cell xs))
 unfolding make-room
 room-there xs n h e l = rw (← e, lt-ltb n order-room l) (is-itself h)
 
-pub room-made : (xs ys : List ℕ) (n : ℕ) → n ≡ cell xs C.header 0 C.order-rows → order-room ≤ n → Is ys (compact (cell xs)) → Is ys (make-room (cell xs))
+pub room-made : (xs ys : List ℕ) (n : ℕ) → n ≡ cell xs C.header 0 C.order-rows → order-room ≤ n → Is ys (squeeze (cell xs)) → Is ys (make-room (cell xs))
 unfolding make-room
 room-made xs ys n e l h = rw (← e, le-ltb n order-room l) h
+
+-- ---- a row between others
+
+pub place-is : (xs : List ℕ) (n number i : ℕ) → n ≡ cell xs C.header 0 C.order-rows → Between (keyAt 69888 128 xs) n number i i →
+    Between (λ j. cell xs C.orders j C.order-number) (word (cell xs) C.order-rows) number i i
+place-is xs n number i e b =
+    rw (← e)
+    (record {
+      inside = b .inside;
+      top = b .top;
+      below = λ j l. rw (← key-cell xs j) (b .below j l);
+      above = λ j h l. rw (← key-cell xs j) (b .above j h l);
+    })
+
+module _ (xs ys : List ℕ) (n i : ℕ) (r : Ready xs) (e : n ≡ cell xs C.header 0 C.order-rows) (f : n < order-room) (o : Opened 69888 128 n i xs ys) where
+  cell-up : (j k : ℕ) → i < j → j ≤ n → k < 16 → cell ys C.orders j k ≡ cell xs C.orders (j - 1) k
+  cell-up j k h m l =
+      let u : j - 1 + 1 ≡ j = omega arith in
+      order-cell-at ys j k
+      ∙ le-local 8 .same (same-part (8 * k) 8 (omega arith) (rw u at (o .behind (j - 1) (omega arith) (omega arith))))
+      ∙ sym (order-cell-at xs (j - 1) k)
+
+  cell-stays : (j k : ℕ) → k < 16 → (j ≤ i) ⊎ (n < j) → cell ys C.orders j k ≡ cell xs C.orders j k
+  cell-stays j k l w =
+      order-cell-at ys j k
+      ∙ le-outside 8 (69888 + 128 * j + 8 * k) (o .frame) (⊎-elim (λ h. inl (omega arith)) (λ h. inr (omega arith)) w)
+      ∙ sym (order-cell-at xs j k)
+
+  cell-beside : (b j k : ℕ) → Cell b j k → (b ≡ C.orders → ⊥) → cell ys b j k ≡ cell xs b j k
+  unfolding cell
+  cell-beside b j k q ne =
+      le-outside 8 (8 * spot b j k) (o .frame) (⊎-elim (λ h. inl (omega arith)) (λ h. inr (omega arith)) (aside b j k q ne))
+
+  opened-is : Is ys (opened i (cell xs))
+  unfolding opened
+  opened-is =
+      record {
+        holds = omega (arith, o .frame .len, r .holds);
+        same = λ b j k q.
+            ⊎-elim
+            (λ (g : b ≡ C.orders).
+            let l : k < 16 = rw g at (q .cell-is) in
+            rw (g, ← e)
+            (⊎-elim
+            (λ (h : i < j).
+            rw (lt-ltb i j h)
+            (⊎-elim (λ (m : n < j). rw (lt-ltb n j m) (cell-stays j k l (inr m))) (λ (m : j ≤ n). rw (le-ltb n j m) (cell-up j k h m l)) (lt-or-le n j)))
+            (λ (h : j ≤ i). rw (le-ltb i j h) (cell-stays j k l (inl h)))
+            (lt-or-le i j)))
+            (λ ne. rw (ne-eqb b C.orders ne) (cell-beside b j k q ne))
+            (same? b C.orders);
+      }
+
+  pub open-row-is : (zs us vs : List ℕ) (number : ℕ) → Is zs (fill C.orders i C.order-number (number ∷ 0 ∷ 0 ∷ 0 ∷ []) (cell ys)) →
+      Set zs us C.header 0 C.order-rows (n + 1) → Set us vs C.hints (number % 4096) C.hint-row i → Is vs (open-row i number (cell xs))
+  unfolding open-row
+  open-row-is zs us vs number p q t =
+      rw (← e)
+      (then-set
+      (then-set (then-fill C.orders i C.order-number (number ∷ 0 ∷ 0 ∷ 0 ∷ []) opened-is p) (header-cell C.order-rows (omega arith)) q)
+      (hint-cell (number % 4096) C.hint-row (omega arith) (omega arith)) t)
 
 pub live-marks : {s : Store} → Sorted s → Marks C.order-live s
 live-marks s = record { inside = omega arith; small = λ j l. s .flags j l .live-is }
@@ -244,4 +344,4 @@ sees-live s n r = sees C.order-live order number-of s n r (λ q. refl)
 pub sees-resting : (s : Store) (n : ℕ) (r : Found) → Sorted s → FindsRow C.order-resting s n r → Sees C.order-resting resting resting-number s n r
 sees-resting s n r = sees C.order-resting resting resting-number s n r (λ q. refl)
 
-pub ruleset laws = (sees-live, sees-resting, set-two-is, set-four-is, strike-is, rest-is, put-row-is, append-is, sorted-bytes, room-bytes, compact-is, room-there, room-made, find-is, live-marks, resting-marks, header-cell, order-cell, hint-cell, arith)
+pub ruleset laws = (sees-live, sees-resting, set-two-is, set-four-is, strike-is, rest-is, put-row-is, append-is, sorted-bytes, room-bytes, hint-is, squeeze-is, room-there, room-made, place-is, open-row-is, find-is, live-marks, resting-marks, header-cell, order-cell, hint-cell, arith)

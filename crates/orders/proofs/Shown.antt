@@ -55,11 +55,11 @@ module _ {A B : Type 0} (h : A → B) (key : B → ℕ) where
 abbrev pub shown : {A : Type 0} → (ℕ → ℕ × A) → ℕ → List A
 shown {A} p n = map (λ (q : ℕ × A). q .1) (live (λ (q : ℕ × A). q .0) p n)
 
-map-append : {A B : Type 0} (h : A → B) (l m : List A) → map h (l ++ m) ≡ map h l ++ map h m
+pub map-append : {A B : Type 0} (h : A → B) (l m : List A) → map h (l ++ m) ≡ map h l ++ map h m
 map-append h [] m = refl
 map-append h (x ∷ l) m = ap (λ y. h x ∷ y) (map-append h l m)
 
-pick-length : {A : Type 0} (m : ℕ) (r : A) → m ≤ 1 → length (pick m r) ≡ m
+pub pick-length : {A : Type 0} (m : ℕ) (r : A) → m ≤ 1 → length (pick m r) ≡ m
 pick-length zero r h = refl
 pick-length (suc zero) r h = refl
 pick-length (suc (suc m)) r h = absurd (omega arith)

@@ -18,7 +18,7 @@ use Rattle.gateway.specs.Ledger as L
 use Rattle.gateway.specs.Table.{update}
 use Rattle.store.specs.Cells as C
 use Rattle.store.specs.Layout.{cell}
-use Rattle.store.specs.View.{Row, Store, Same, Is, word, write, side, maybe-price, order, resting, marked, ledger, depth, gateway, order-room, Bounds}
+use Rattle.store.specs.View.{Row, Store, Same, Is, Ready, word, write, side, maybe-price, order, resting, marked, ledger, depth, gateway, order-room, Bounds}
 use Rattle.store.proofs.Places.{header-cell, order-cell}
 use Rattle.store.proofs.Frames.{gateway-same}
 use Rattle.orders.specs.declared.Live.{Live}
@@ -49,10 +49,10 @@ with-lists os rs g =
     }
 
 -- r with v in the cell k, and with vs in the cells from k on
-abbrev put-cell : ℕ → ℕ → Row → Row
+abbrev pub put-cell : ℕ → ℕ → Row → Row
 put-cell k v r l = cond (eqb l k) v (r l)
 
-abbrev put-cells : ℕ → List ℕ → Row → Row
+abbrev pub put-cells : ℕ → List ℕ → Row → Row
 put-cells k [] r = r
 put-cells k (v ∷ vs) r = put-cells (k + 1) vs (put-cell k v r)
 
@@ -76,21 +76,21 @@ write-touched i k v r s t c =
     cell-other : (j : ℕ) → (j ≡ i → ⊥) → (l : ℕ) → write C.orders i k v t C.orders j l ≡ t C.orders j l
     cell-other j ne l = rw (ne-eqb j i ne) refl
 
-fill-touched : (i k : ℕ) (vs : List ℕ) (r : Row) (s t : Store) → Touched i r s t → Touched i (put-cells k vs r) s (fill C.orders i k vs t)
+pub fill-touched : (i k : ℕ) (vs : List ℕ) (r : Row) (s t : Store) → Touched i r s t → Touched i (put-cells k vs r) s (fill C.orders i k vs t)
 unfolding fill
 fill-touched i k [] r s t c = c
 fill-touched i k (v ∷ vs) r s t c = fill-touched i (k + 1) vs (put-cell k v r) s (write C.orders i k v t) (write-touched i k v r s t c)
 
 -- one of the three words is set
-count-touched : (i k v : ℕ) (r : Row) (s t : Store) → ((j : ℕ) → (j ≡ C.order-rows → ⊥) → (j ≡ C.live-orders → ⊥) → (j ≡ C.resting-orders → ⊥) → j ≡ k → ⊥) → Touched i r s t →
+pub count-touched : (i k v : ℕ) (r : Row) (s t : Store) → ((j : ℕ) → (j ≡ C.order-rows → ⊥) → (j ≡ C.live-orders → ⊥) → (j ≡ C.resting-orders → ⊥) → j ≡ k → ⊥) → Touched i r s t →
     Touched i r s (write C.header 0 k v t)
 count-touched i k v r s t h c =
     record { here = c .here; others = c .others; words = λ j x y z. rw (ne-eqb j k (h j x y z)) (c .words j x y z) }
 
-hint-touched : (i k v : ℕ) (r : Row) (s t : Store) → Touched i r s t → Touched i r s (write C.hints k C.hint-row v t)
+pub hint-touched : (i k v : ℕ) (r : Row) (s t : Store) → Touched i r s t → Touched i r s (write C.hints k C.hint-row v t)
 hint-touched i k v r s t c = record { here = c .here; others = c .others; words = c .words }
 
-untouched : (i : ℕ) (s : Store) → Touched i (s C.orders i) s s
+pub untouched : (i : ℕ) (s : Store) → Touched i (s C.orders i) s s
 untouched i s = record { here = refl; others = λ j ne. refl; words = λ k x y z. refl }
 
 -- what is read of a row, behind its flag
@@ -216,6 +216,9 @@ pub did-bytes : (s t : Store) (os : List Order) (rs : List D.Resting) (ys : List
 did-bytes s t os rs ys h d =
     let e : Same t (cell ys) = λ b i k c. sym (h .same b i k c) in
     record { view = view-same t (cell ys) e (d .ordered) ∙ d .view; ordered = ordered-same t (cell ys) e (d .ordered) }
+
+pub did-ready : (s t : Store) (os : List Order) (rs : List D.Resting) (ys : List ℕ) → Is ys t → Did s t os rs → Ready ys
+did-ready s t os rs ys h d = record { holds = h .holds; bounds = did-bytes s t os rs ys h d .ordered .bounds }
 
 -- a row in use is changed
 module _ (s : Store) (i : ℕ) (d : Ordered s) (l : i < word s C.order-rows) where

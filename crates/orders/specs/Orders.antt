@@ -130,6 +130,32 @@ packed s b i k = cond (eqb b C.orders) (s C.orders (cond (ltb i (length (places 
 unfoldable pub compact : Store → Store
 compact s = write C.header 0 C.order-rows (length (places s)) (packed s)
 
--- room for one row more: a table that is full is compacted
+-- the hint of the row i, and of the first n rows
+unfoldable pub hint : ℕ → Store → Store
+hint i s = write C.hints (s C.orders i C.order-number % 4096) C.hint-row i s
+
+unfoldable pub hint-rows : ℕ → Store → Store
+hint-rows zero s = s
+hint-rows (suc n) s = hint n (hint-rows n s)
+
+unfoldable pub squeeze : Store → Store
+squeeze s = hint-rows (length (places s)) (compact s)
+
+-- room for one row more: a table that is full is squeezed
 unfoldable pub make-room : Store → Store
-make-room s = cond (ltb (word s C.order-rows) order-room) s (compact s)
+make-room s = cond (ltb (word s C.order-rows) order-room) s (squeeze s)
+
+-- ---- a row between others
+
+-- the row that stands at j once those of n rows that are at i and behind it have moved one place up
+abbrev pub moved : ℕ → ℕ → ℕ → ℕ
+moved n i j = cond (ltb i j) (cond (ltb n j) j (j - 1)) j
+
+unfoldable pub opened : ℕ → Store → Store
+opened i s b j k = cond (eqb b C.orders) (s C.orders (moved (word s C.order-rows) i j) k) (s b j k)
+
+-- a tombstone with the number n at i
+unfoldable pub open-row : ℕ → ℕ → Store → Store
+open-row i n s =
+    write C.hints (n % 4096) C.hint-row i
+    (write C.header 0 C.order-rows (word s C.order-rows + 1) (fill C.orders i C.order-number (n ∷ 0 ∷ 0 ∷ 0 ∷ []) (opened i s)))

@@ -21,13 +21,14 @@ use store::cells::RESTING_ORDERS;
 use table::Found;
 ghost use mathlib.Core.List.{[], _∷_};
 ghost use mathlib.Core.Path.{_≡_};
-ghost use Prim.Native.Nat.{_+_, _<_};
+ghost use Prim.Native.Nat.{_+_, _≤_, _<_};
+ghost use Rattle.table.specs.Table.{Between};
 ghost use Rattle.gateway.specs.Depth.{resting-number};
 ghost use Rattle.gateway.specs.Ledger.{number-of};
 ghost use Rattle.store.specs.Cells as C;
 ghost use Rattle.store.specs.Layout.{cell, Cell, Holds};
 ghost use Rattle.store.specs.View.{word, order, resting, order-room, Is, Ready};
-ghost use Rattle.orders.specs.Orders.{Sorted, Marks, FindsRow, Sees, live-row, resting-row, fill, set-leaves, set-price, show, strike, retire, take-off, rest, append, compact, make-room};
+ghost use Rattle.orders.specs.Orders.{Sorted, Marks, FindsRow, Sees, live-row, resting-row, fill, set-leaves, set-price, show, strike, retire, take-off, rest, append, hint, hint-rows, squeeze, make-room, open-row};
 
 // The live half of a row.
 pub struct Live {
@@ -214,14 +215,40 @@ pub fn append(m: &mut [u8], number: u64, o: Live)
     store::set(m, store::HINTS, (number % 4096) as usize, HINT_ROW, i);
 }
 
-// The tombstones are squeezed out. Hints of rows that moved are wrong from then on.
-fn compact(m: &mut [u8])
+fn hint(m: &mut [u8], i: usize)
+    requires { ⌜ Holds (now m) × (i < order-room) ⌝ }
+    ensures { λ r. ⌜ Is (now (m .exit)) (hint i (cell (now (m .entry)))) ⌝ }
+{
+    let number = store::get(m, store::ORDERS, i, ORDER_NUMBER);
+    store::set(
+        m,
+        store::HINTS,
+        (number % 4096) as usize,
+        HINT_ROW,
+        i as u64,
+    );
+}
+
+fn hint_rows(m: &mut [u8], n: usize)
+    requires { ⌜ Holds (now m) × (n ≤ order-room) ⌝ }
+    ensures { λ r. ⌜ Is (now (m .exit)) (hint-rows n (cell (now (m .entry)))) ⌝ }
+{
+    let mut i: usize = 0;
+    while i < n {
+        hint(m, i);
+        i += 1;
+    }
+}
+
+// The tombstones are squeezed out.
+fn squeeze(m: &mut [u8])
     requires { ⌜ Ready (now m) × Sorted (cell (now m)) ⌝ }
-    ensures { λ r. ⌜ Is (now (m .exit)) (compact (cell (now (m .entry)))) ⌝ }
+    ensures { λ r. ⌜ Is (now (m .exit)) (squeeze (cell (now (m .entry)))) ⌝ }
 {
     let n = store::get(m, store::HEADER, 0, ORDER_ROWS);
     let w = table::compact(m, BASE, STRIDE, 8 * ORDER_KEPT, n as usize);
     store::set(m, store::HEADER, 0, ORDER_ROWS, w as u64);
+    hint_rows(m, w);
 }
 
 // Room for one row more, where not all rows are kept.
@@ -232,5 +259,32 @@ pub fn make_room(m: &mut [u8])
     if store::get(m, store::HEADER, 0, ORDER_ROWS) < 2048 {
         return;
     }
-    compact(m);
+    squeeze(m);
+}
+
+// The first row whose number is not below `number`.
+pub fn place_of(m: &[u8], number: u64) -> usize
+    requires { ⌜ Ready (now m) × Sorted (cell (now m)) ⌝ }
+    ensures { λ r. ⌜ Between (λ j. cell (now (m .entry)) C.orders j C.order-number) (word (cell (now (m .entry))) C.order-rows) number r r ⌝ }
+{
+    let n = store::get(m, store::HEADER, 0, ORDER_ROWS);
+    table::lower_bound(m, BASE, STRIDE, n as usize, number)
+}
+
+// A tombstone at i, so that an order that the table does not have can rest there: the rows from i on move one place up.
+pub fn open_row(m: &mut [u8], i: usize, number: u64)
+    requires { ⌜ Ready (now m) × (word (cell (now m)) C.order-rows < order-room) × (i ≤ word (cell (now m)) C.order-rows) ⌝ }
+    ensures { λ r. ⌜ Is (now (m .exit)) (open-row i number (cell (now (m .entry)))) ⌝ }
+{
+    let n = store::get(m, store::HEADER, 0, ORDER_ROWS);
+    table::open_at(m, BASE, STRIDE, n as usize, i);
+    set_four(m, i, ORDER_NUMBER, number, 0, 0, 0);
+    store::set(m, store::HEADER, 0, ORDER_ROWS, n + 1);
+    store::set(
+        m,
+        store::HINTS,
+        (number % 4096) as usize,
+        HINT_ROW,
+        i as u64,
+    );
 }

@@ -12,8 +12,8 @@ same-length c = search needs
 returns : tie.Need-returns
 returns c = search laws
 
-compact-requires : tie.Need-compact-requires
-compact-requires c κs = search needs
+squeeze-requires : tie.Need-squeeze-requires
+squeeze-requires c κs = search needs
 
 same-length-2 : tie.Need-same-length-2
 same-length-2 c = search needs
@@ -23,4 +23,4 @@ returns-2 c = search laws
 
 pub make-room-spec : {M : Type 1} → statement M
 make-room-spec =
-    tie.close (tie.spec get-requires same-length returns compact-requires same-length-2 returns-2)
+    tie.close (tie.spec get-requires same-length returns squeeze-requires same-length-2 returns-2)
