@@ -3,13 +3,13 @@ use mathlib.Core.Path.{_≡_, refl, sym, ap, ap₂, _∙_}
 use mathlib.Core.Logic.{_⊎_, inl, inr, ⊎-elim}
 use mathlib.Core.Option.{Option·map}
 use mathlib.Core.List.{List, [], _∷_, _++_}
-use Prim.Native.Nat.{ℕ, zero, suc, _+_, _*_, _-_, _%_, _^_, _≤_, _<_}
+use Prim.Native.Nat.{ℕ, zero, suc, _+_, _*_, _-_, _%_, _≤_, _<_}
 use native.Mathlib.Numerals.{add-one}
 use native.Mathlib.Omega.{arith}
-use Rattle.le.specs.Le.{le}
+use Rattle.le.specs.Le.{le, Outside}
 use lib.ListN.{length, getD}
 use borrow.Author.Tests.{ne-eqb, lt-ltb, le-ltb}
-use Rattle.le.proofs.Laws.{lt-or-le, le-split, le-local, le-outside, same-part}
+use Rattle.le.proofs.Laws.{lt-or-le, le-split, le-local, le-outside, outside-wider, same-part}
 use Rattle.table.specs.Live.{pick, live, kept}
 use Rattle.table.specs.Table.{keyAt, markAt, Room, Finds, found, Between, Opened, Compacted}
 use Rattle.table.specs.Table as T
@@ -22,12 +22,12 @@ use Rattle.gateway.specs.Ledger.{number-of}
 use Rattle.store.specs.Cells as C
 use Rattle.store.specs.Layout.{cell, start, spot, Cell, Holds, Set}
 use Rattle.store.specs.View.{Row, Store, Same, word, write, order, resting, order-room, Is, Ready}
-use Rattle.store.proofs.Places.{header-cell, order-cell, hint-cell}
+use Rattle.store.proofs.Places.{header-cell, order-cell, hint-cell, cell-block}
 use Rattle.store.proofs.Rows.{then-set, is-itself, same-write, same-trans}
 use Rattle.orders.specs.declared.Live.{Live}
 use Rattle.orders.specs.declared.Resting.{Resting}
 use Rattle.orders.proofs.Shown.{look-map}
-use Rattle.orders.specs.Orders.{either, Sorted, Marks, FindsRow, Sees, fill, strike, rest, append, places, packed, compact, hint, hint-rows, squeeze, make-room, opened, open-row}
+use Rattle.orders.specs.Orders.{hint-slots, either, Sorted, Marks, FindsRow, Sees, fill, strike, rest, append, places, packed, compact, hint, hint-rows, squeeze, make-room, opened, open-row}
 
 -- ---- what is written
 
@@ -86,10 +86,10 @@ put-row-is xs i n o l p q r t =
 pub append-is : (xs : List ℕ) {ys zs us : List ℕ} (n i c : ℕ) (o : Live) → i ≡ cell xs C.header 0 C.order-rows → c ≡ cell xs C.header 0 C.live-orders →
     Is ys (fill C.orders i C.order-number (n ∷ 1 ∷ 0 ∷ 1 ∷ o .account ∷ o .«client_ref» ∷ o .side ∷ o .priced ∷ o .price ∷ o .leaves ∷ o .hold ∷ []) (cell xs)) →
     Is zs (fill C.header 0 C.order-rows ((i + 1) ∷ (c + 1) ∷ []) (cell ys)) →
-    Set zs us C.hints (n % 4096) C.hint-row i → Is us (append n o (cell xs))
+    Set zs us C.hints (n % hint-slots) C.hint-row i → Is us (append n o (cell xs))
 unfolding append
 append-is xs n i c o ie ce p q r =
-    rw (← ie, ← ce) (then-set (then-fill C.header 0 C.order-rows ((i + 1) ∷ (c + 1) ∷ []) p q) (hint-cell (n % 4096) C.hint-row (omega arith) (omega arith)) r)
+    rw (← ie, ← ce) (then-set (then-fill C.header 0 C.order-rows ((i + 1) ∷ (c + 1) ∷ []) p q) (hint-cell (n % hint-slots) C.hint-row (omega arith) (omega arith)) r)
 
 -- ---- what is found
 
@@ -129,16 +129,16 @@ same-hint : (i : ℕ) (s t : Store) → i < order-room → Same s t → Same (hi
 unfolding hint
 same-hint i s t l e =
     rw (e C.orders i C.order-number (order-cell i C.order-number l (omega arith)))
-    (same-write s t C.hints (t C.orders i C.order-number % 4096) C.hint-row i e)
+    (same-write s t C.hints (t C.orders i C.order-number % hint-slots) C.hint-row i e)
 
 same-hints : (n : ℕ) (s t : Store) → n ≤ order-room → Same s t → Same (hint-rows n s) (hint-rows n t)
 unfolding hint-rows
 same-hints zero s t l e = e
 same-hints (suc n) s t l e = same-hint n (hint-rows n s) (hint-rows n t) (omega arith) (same-hints n s t (omega arith) e)
 
-pub hint-is : {xs ys : List ℕ} (i n : ℕ) → Holds xs → n ≡ cell xs C.orders i C.order-number → i < order-room → Set xs ys C.hints (n % 4096) C.hint-row i → Is ys (hint i (cell xs))
+pub hint-is : {xs ys : List ℕ} (i n : ℕ) → Holds xs → n ≡ cell xs C.orders i C.order-number → i < order-room → Set xs ys C.hints (n % hint-slots) C.hint-row i → Is ys (hint i (cell xs))
 unfolding hint
-hint-is i n h e l p = rw (← e) (then-set (is-itself h) (hint-cell (n % 4096) C.hint-row (omega arith) (omega arith)) p)
+hint-is i n h e l p = rw (← e) (then-set (is-itself h) (hint-cell (n % hint-slots) C.hint-row (omega arith) (omega arith)) p)
 
 pub hints-none : (xs : List ℕ) → Holds xs → Is xs (hint-rows 0 (cell xs))
 unfolding hint-rows
@@ -155,22 +155,10 @@ hints-more s ys zs i l p q =
 pub room-bytes : {xs : List ℕ} (n : ℕ) → Ready xs → n ≡ cell xs C.header 0 C.order-rows → Room 69888 128 n xs
 room-bytes n r e = record { fits = omega (arith, r .holds, r .bounds .orders-fit); wide = omega arith; words = refl }
 
--- a cell of another block lies before the rows or behind them
-aside : (b i k : ℕ) → Cell b i k → (b ≡ C.orders → ⊥) → (8 * spot b i k + 8 ≤ 69888) ⊎ (332032 ≤ 8 * spot b i k)
-unfolding spot start
-aside zero i k c ne = inl (omega (arith, c .row-is, c .cell-is))
-aside (suc zero) i k c ne = inl (omega (arith, c .row-is, c .cell-is))
-aside (suc (suc zero)) i k c ne = inl (omega (arith, c .row-is, c .cell-is))
-aside (suc (suc (suc zero))) i k c ne = inl (omega (arith, c .row-is, c .cell-is))
-aside (suc (suc (suc (suc zero)))) i k c ne = inl (omega (arith, c .row-is, c .cell-is))
-aside (suc (suc (suc (suc (suc zero))))) i k c ne = absurd (ne refl)
-aside (suc (suc (suc (suc (suc (suc zero)))))) i k c ne = inr (omega arith)
-aside (suc (suc (suc (suc (suc (suc (suc zero))))))) i k c ne = inr (omega arith)
-aside (suc (suc (suc (suc (suc (suc (suc (suc zero)))))))) i k c ne = inr (omega arith)
-aside (suc (suc (suc (suc (suc (suc (suc (suc (suc zero))))))))) i k c ne = inr (omega arith)
-aside (suc (suc (suc (suc (suc (suc (suc (suc (suc (suc zero)))))))))) i k c ne = inr (omega arith)
-aside (suc (suc (suc (suc (suc (suc (suc (suc (suc (suc (suc zero))))))))))) i k c ne = inr (omega arith)
-aside (suc (suc (suc (suc (suc (suc (suc (suc (suc (suc (suc (suc b)))))))))))) i k c ne = absurd (omega (arith, c .block-is))
+-- what changes in the rows is not seen in another block
+elsewhere : {lo hi : ℕ} {xs ys : List ℕ} (b i k : ℕ) → 69888 ≤ lo → hi ≤ 332032 → Outside lo hi xs ys → Cell b i k → (b ≡ C.orders → ⊥) → cell ys b i k ≡ cell xs b i k
+unfolding start
+elsewhere b i k l h p c ne = cell-block C.orders (omega arith) (outside-wider 69888 332032 l h p) c ne
 
 order-cell-at : (xs : List ℕ) (i k : ℕ) → cell xs C.orders i k ≡ le 8 xs (69888 + 128 * i + 8 * k)
 unfolding cell spot start
@@ -208,11 +196,6 @@ module _ (xs ys : List ℕ) (n w : ℕ) (r : Ready xs) (o : Sorted (cell xs)) (e
   cell-behind i k h =
       order-cell-at ys i k ∙ le-outside 8 (69888 + 128 * i + 8 * k) (c .frame) (inr (omega arith)) ∙ sym (order-cell-at xs i k)
 
-  cell-aside : (b i k : ℕ) → Cell b i k → (b ≡ C.orders → ⊥) → cell ys b i k ≡ cell xs b i k
-  unfolding cell
-  cell-aside b i k q ne =
-      le-outside 8 (8 * spot b i k) (c .frame) (⊎-elim (λ h. inl h) (λ h. inr (omega (arith, c .fewer, r .bounds .orders-fit, e))) (aside b i k q ne))
-
   packed-same : Same (cell ys) (packed (cell xs))
   unfolding packed
   packed-same b i k q =
@@ -224,7 +207,7 @@ module _ (xs ys : List ℕ) (n w : ℕ) (r : Ready xs) (o : Sorted (cell xs)) (e
       (λ (h : i < w). rw (lt-ltb i w h) (cell-moved i k h l))
       (λ (h : w ≤ i). rw (le-ltb i w h) (cell-behind i k h))
       (lt-or-le i w)))
-      (λ ne. rw (ne-eqb b C.orders ne) (cell-aside b i k q ne))
+      (λ ne. rw (ne-eqb b C.orders ne) (elsewhere b i k (omega arith) (omega (arith, c .fewer, r .bounds .orders-fit, e)) (c .frame) q ne))
       (same? b C.orders)
 
   compact-is : (zs : List ℕ) → Set ys zs C.header 0 C.order-rows w → Is zs (compact (cell xs))
@@ -279,11 +262,6 @@ module _ (xs ys : List ℕ) (n i : ℕ) (r : Ready xs) (e : n ≡ cell xs C.head
       ∙ le-outside 8 (69888 + 128 * j + 8 * k) (o .frame) (⊎-elim (λ h. inl (omega arith)) (λ h. inr (omega arith)) w)
       ∙ sym (order-cell-at xs j k)
 
-  cell-beside : (b j k : ℕ) → Cell b j k → (b ≡ C.orders → ⊥) → cell ys b j k ≡ cell xs b j k
-  unfolding cell
-  cell-beside b j k q ne =
-      le-outside 8 (8 * spot b j k) (o .frame) (⊎-elim (λ h. inl (omega arith)) (λ h. inr (omega arith)) (aside b j k q ne))
-
   opened-is : Is ys (opened i (cell xs))
   unfolding opened
   opened-is =
@@ -300,18 +278,18 @@ module _ (xs ys : List ℕ) (n i : ℕ) (r : Ready xs) (e : n ≡ cell xs C.head
             (⊎-elim (λ (m : n < j). rw (lt-ltb n j m) (cell-stays j k l (inr m))) (λ (m : j ≤ n). rw (le-ltb n j m) (cell-up j k h m l)) (lt-or-le n j)))
             (λ (h : j ≤ i). rw (le-ltb i j h) (cell-stays j k l (inl h)))
             (lt-or-le i j)))
-            (λ ne. rw (ne-eqb b C.orders ne) (cell-beside b j k q ne))
+            (λ ne. rw (ne-eqb b C.orders ne) (elsewhere b j k (omega arith) (omega arith) (o .frame) q ne))
             (same? b C.orders);
       }
 
   pub open-row-is : (zs us vs : List ℕ) (number : ℕ) → Is zs (fill C.orders i C.order-number (number ∷ 0 ∷ 0 ∷ 0 ∷ []) (cell ys)) →
-      Set zs us C.header 0 C.order-rows (n + 1) → Set us vs C.hints (number % 4096) C.hint-row i → Is vs (open-row i number (cell xs))
+      Set zs us C.header 0 C.order-rows (n + 1) → Set us vs C.hints (number % hint-slots) C.hint-row i → Is vs (open-row i number (cell xs))
   unfolding open-row
   open-row-is zs us vs number p q t =
       rw (← e)
       (then-set
       (then-set (then-fill C.orders i C.order-number (number ∷ 0 ∷ 0 ∷ 0 ∷ []) opened-is p) (header-cell C.order-rows (omega arith)) q)
-      (hint-cell (number % 4096) C.hint-row (omega arith) (omega arith)) t)
+      (hint-cell (number % hint-slots) C.hint-row (omega arith) (omega arith)) t)
 
 pub live-marks : {s : Store} → Sorted s → Marks C.order-live s
 live-marks s = record { inside = omega arith; small = λ j l. s .flags j l .live-is }

@@ -23,7 +23,7 @@ use Rattle.store.proofs.Places.{header-cell, order-cell}
 use Rattle.store.proofs.Frames.{gateway-same}
 use Rattle.orders.specs.declared.Live.{Live}
 use Rattle.orders.specs.declared.Resting.{Resting}
-use Rattle.orders.specs.Orders.{either, Flags, Sorted, Ordered, fill, set-leaves, set-price, show, strike, retire, take-off, rest, append}
+use Rattle.orders.specs.Orders.{hint-slots, either, Flags, Sorted, Ordered, fill, set-leaves, set-price, show, strike, retire, take-off, rest, append}
 use Rattle.orders.proofs.Shown.{shown, shown-ext, shown-more, shown-dead, shown-strike, shown-replace, shown-revive, shown-update, shown-length}
 
 -- the gateway with other lists of orders
@@ -375,7 +375,7 @@ module _ (s : Store) (n : ℕ) (o : Live) where
   append-touched : Touched next new-row s (append n o s)
   unfolding append fill
   append-touched =
-      hint-touched next (n % 4096) next _ s _
+      hint-touched next (n % hint-slots) next _ s _
       (count-touched next C.live-orders (word s C.live-orders + 1) _ s _ (λ j x y z. y)
       (count-touched next C.order-rows (next + 1) _ s _ (λ j x y z. x)
       (fill-touched next C.order-number (n ∷ 1 ∷ 0 ∷ 1 ∷ o .account ∷ o .«client_ref» ∷ o .side ∷ o .priced ∷ o .price ∷ o .leaves ∷ o .hold ∷ []) (s C.orders next) s s (untouched next s))))

@@ -77,6 +77,10 @@ pub record Sees {A : Type 0} (k : ℕ) (f : Row → A) (number : A → ℕ) (s :
 
 -- ---- what is written
 
+-- a row's hint has the slot of its number modulo this
+abbrev pub hint-slots : ℕ
+hint-slots = 4096
+
 -- vs in the cells of a row from k on
 unfoldable pub fill : ℕ → ℕ → ℕ → List ℕ → Store → Store
 fill b i k [] s = s
@@ -113,7 +117,7 @@ rest i o s =
 unfoldable pub append : ℕ → Live → Store → Store
 append n o s =
     let i = word s C.order-rows in
-    write C.hints (n % 4096) C.hint-row i
+    write C.hints (n % hint-slots) C.hint-row i
     (fill C.header 0 C.order-rows ((i + 1) ∷ (word s C.live-orders + 1) ∷ [])
     (fill C.orders i C.order-number
     (n ∷ 1 ∷ 0 ∷ 1 ∷ o .account ∷ o .«client_ref» ∷ o .side ∷ o .priced ∷ o .price ∷ o .leaves ∷ o .hold ∷ []) s))
@@ -132,7 +136,7 @@ compact s = write C.header 0 C.order-rows (length (places s)) (packed s)
 
 -- the hint of the row i, and of the first n rows
 unfoldable pub hint : ℕ → Store → Store
-hint i s = write C.hints (s C.orders i C.order-number % 4096) C.hint-row i s
+hint i s = write C.hints (s C.orders i C.order-number % hint-slots) C.hint-row i s
 
 unfoldable pub hint-rows : ℕ → Store → Store
 hint-rows zero s = s
@@ -157,5 +161,5 @@ opened i s b j k = cond (eqb b C.orders) (s C.orders (moved (word s C.order-rows
 -- a tombstone with the number n at i
 unfoldable pub open-row : ℕ → ℕ → Store → Store
 open-row i n s =
-    write C.hints (n % 4096) C.hint-row i
+    write C.hints (n % hint-slots) C.hint-row i
     (write C.header 0 C.order-rows (word s C.order-rows + 1) (fill C.orders i C.order-number (n ∷ 0 ∷ 0 ∷ 0 ∷ []) (opened i s)))

@@ -54,13 +54,18 @@ const BASE: usize = 69_888;
 
 const STRIDE: usize = 128;
 
+// How many rows there are, and how many hints.
+const ROOM: u64 = 2_048;
+
+const HINT_SLOTS: u64 = 4_096;
+
 // The row of a number whose flag stands in the cell k.
 fn find(m: &[u8], k: usize, number: u64) -> Found
     requires { ⌜ Ready (now m) × Sorted (cell (now m)) × Marks k (cell (now m)) ⌝ }
     ensures { λ r. ⌜ FindsRow k (cell (now (m .entry))) number r ⌝ }
 {
     let n = store::get(m, store::HEADER, 0, ORDER_ROWS);
-    let hint = store::get(m, store::HINTS, (number % 4096) as usize, HINT_ROW);
+    let hint = store::get(m, store::HINTS, (number % HINT_SLOTS) as usize, HINT_ROW);
     table::find_hinted(m, BASE, STRIDE, 8 * k, n as usize, number, hint as usize)
 }
 
@@ -212,7 +217,7 @@ pub fn append(m: &mut [u8], number: u64, o: Live)
     let n = store::get(m, store::HEADER, 0, LIVE_ORDERS);
     put_row(m, i as usize, number, o);
     set_two(m, store::HEADER, 0, ORDER_ROWS, i + 1, n + 1);
-    store::set(m, store::HINTS, (number % 4096) as usize, HINT_ROW, i);
+    store::set(m, store::HINTS, (number % HINT_SLOTS) as usize, HINT_ROW, i);
 }
 
 fn hint(m: &mut [u8], i: usize)
@@ -223,7 +228,7 @@ fn hint(m: &mut [u8], i: usize)
     store::set(
         m,
         store::HINTS,
-        (number % 4096) as usize,
+        (number % HINT_SLOTS) as usize,
         HINT_ROW,
         i as u64,
     );
@@ -256,7 +261,7 @@ pub fn make_room(m: &mut [u8])
     requires { ⌜ Ready (now m) × Sorted (cell (now m)) ⌝ }
     ensures { λ r. ⌜ Is (now (m .exit)) (make-room (cell (now (m .entry)))) ⌝ }
 {
-    if store::get(m, store::HEADER, 0, ORDER_ROWS) < 2048 {
+    if store::get(m, store::HEADER, 0, ORDER_ROWS) < ROOM {
         return;
     }
     squeeze(m);
@@ -283,7 +288,7 @@ pub fn open_row(m: &mut [u8], i: usize, number: u64)
     store::set(
         m,
         store::HINTS,
-        (number % 4096) as usize,
+        (number % HINT_SLOTS) as usize,
         HINT_ROW,
         i as u64,
     );

@@ -7,6 +7,9 @@ ghost use Rattle.store.specs.Layout.{cell};
 ghost use Rattle.store.specs.View.{word, Is, Ready};
 ghost use Rattle.pending.specs.Pending as P;
 
+// A command has the slot of its number modulo this.
+const FLIGHT_SLOTS: u64 = 256;
+
 // The wallet of an account changed.
 pub fn push_notice(m: &mut [u8], account: u64)
     requires { ⌜ Ready (now m) × (word (cell (now m)) C.notice-rows < most-notices) ⌝ }
@@ -81,7 +84,7 @@ pub fn take_off(m: &mut [u8], sender: u64, owner: u64, places: u64)
 {
     let next = store::get(m, store::HEADER, 0, cells::LAST) + 1;
     let flying = store::get(m, store::HEADER, 0, cells::FLYING);
-    write_flight(m, (next % 256) as usize, sender, owner, places);
+    write_flight(m, (next % FLIGHT_SLOTS) as usize, sender, owner, places);
     store::set(m, store::HEADER, 0, cells::LAST, next);
     store::set(m, store::HEADER, 0, cells::FLYING, flying + 1);
 }

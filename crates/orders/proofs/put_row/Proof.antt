@@ -1,5 +1,4 @@
 use Rattle.orders.proofs.Laws.{put-row-is}
-use native.Mathlib.Omega.{arith}
 use borrow.Author.Needs.{needs}
 use Rattle.orders.proofs.put_row.Statement.{statement}
 use Rattle.orders.proofs.put_row.Tie as tie
