@@ -14,3 +14,4 @@ pub mod Restore
 pub mod Begin
 pub mod Restart
 pub mod Examples
+pub mod FromRust
