@@ -51,15 +51,15 @@ pub data Seen : Type 0 where
   code : ℕ → Seen
   sees : Answer → List Mail → Seen
 
-abbrev seen : Outcome → Seen
+abbrev pub seen : Outcome → Seen
 seen (refused k) = code k
 seen (done a is ms g) = sees a ms
 
-abbrev run : Gateway → List Call → List Seen
+abbrev pub run : Gateway → List Call → List Seen
 run g [] = []
 run g (x ∷ xs) = seen (call g x) ∷ run (next-of g (call g x)) xs
 
-abbrev run-from : Started → List Call → List Seen
+abbrev pub run-from : Started → List Call → List Seen
 run-from (not-started k) xs = code k ∷ []
 run-from (started g) xs = run g xs
 
@@ -92,10 +92,10 @@ buys ref p q = In.NewOrder (record { «client_ref» = ref; side = Buy; qty = q; 
 abbrev sells : ℕ → ℤ → ℕ → Inbound
 sells ref p q = In.NewOrder (record { «client_ref» = ref; side = Sell; qty = q; kind = Kind.Limit p Gtc Q.the-variants.None })
 
-abbrev quietly : Seen
+abbrev pub quietly : Seen
 quietly = sees nothing []
 
-abbrev tells : List Mail → Seen
+abbrev pub tells : List Mail → Seen
 tells ms = sees nothing ms
 
 abbrev balance : ℤ → ℤ → ℤ → ℤ → Outbound

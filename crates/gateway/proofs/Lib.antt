@@ -14,6 +14,7 @@ pub mod Restore
 pub mod Begin
 pub mod Restart
 pub mod Examples
+pub mod FromRust
 pub mod Rejected
 pub mod Roomy
 pub mod Settled

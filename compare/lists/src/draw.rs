@@ -1,0 +1,509 @@
+//! Draws starts and calls: mostly sensible ones, for the state that the rule follows.
+
+use std::collections::{BTreeMap, VecDeque};
+
+use gateway::accounts::{Account, Funds};
+use gateway::exchange::{Checkpoint, Exchange, SavedOrder, SavedWallet, Timing};
+use orderbook::{CancelReason, Command, Event, Order, OrderId, Phase, RejectReason, Side, Stop, TimeInForce};
+use protocol::{Inbound, LogoutReason, NewOrder, OrderKind, VERSION};
+
+use crate::exchange::{Call, Listed, Start, bytes};
+use crate::rule::{Live, Rule, command, resting};
+
+/// What lists dwell on.
+#[derive(Clone, Copy)]
+pub enum Theme {
+    Money,
+    Market,
+    Sessions,
+    Restart,
+    /// Numbers near the ends of their types.
+    Ends,
+}
+
+pub struct Draw {
+    state: u64,
+    pub theme: Theme,
+    clock: u64,
+    /// Calls that come next.
+    pub planned: VecDeque<Call>,
+}
+
+impl Draw {
+    pub fn new(seed: u64) -> Draw {
+        Draw { state: seed, theme: Theme::Money, clock: 0, planned: VecDeque::new() }
+    }
+
+    /// SplitMix64.
+    fn word(&mut self) -> u64 {
+        self.state = self.state.wrapping_add(0x9E37_79B9_7F4A_7C15);
+        let mut word = self.state;
+        word = (word ^ (word >> 30)).wrapping_mul(0xBF58_476D_1CE4_E5B9);
+        word = (word ^ (word >> 27)).wrapping_mul(0x94D0_49BB_1331_11EB);
+        word ^ (word >> 31)
+    }
+
+    pub fn below(&mut self, bound: u64) -> u64 {
+        self.word() % bound.max(1)
+    }
+
+    /// An account's number, mostly below `usual`.
+    fn mostly(&mut self, usual: u64, seldom: u64) -> u32 {
+        let bound = if self.chance(8) { seldom } else { usual };
+        self.below(bound) as u32
+    }
+
+    pub fn chance(&mut self, percent: u64) -> bool {
+        self.below(100) < percent
+    }
+
+    pub fn pick<T: Clone>(&mut self, from: &[T]) -> T {
+        from[self.below(from.len() as u64) as usize].clone()
+    }
+
+    /// An index, by weight.
+    fn weigh(&mut self, weights: &[u64]) -> usize {
+        let mut left = self.below(weights.iter().sum());
+        let fits = |weight: &u64| {
+            let found = left < *weight;
+            left = left.saturating_sub(*weight);
+            found
+        };
+        weights.iter().position(fits).expect("a weight")
+    }
+
+    fn shuffle<T>(&mut self, items: &mut [T]) {
+        for at in 1..items.len() {
+            items.swap(at, self.below(at as u64 + 1) as usize);
+        }
+    }
+
+    fn side(&mut self) -> Side {
+        self.pick(&[Side::Buy, Side::Sell])
+    }
+
+    /// 0 and 1 stand for odd numbers.
+    fn seldom(&mut self) -> u64 {
+        self.below(if matches!(self.theme, Theme::Ends) { 4 } else { 60 })
+    }
+
+    fn price(&mut self) -> i64 {
+        match self.seldom() {
+            0 => self.pick(&[0, -1, -60, -(1 << 62), i64::MIN]),
+            1 => self.pick(&[1, 1 << 61, 1 << 62, 1 << 62, i64::MAX]),
+            _ => 97 + self.below(6) as i64,
+        }
+    }
+
+    fn qty(&mut self) -> u64 {
+        match self.seldom() {
+            0..2 => self.pick(&[0, 1 << 62, i64::MAX as u64, i64::MAX as u64, 1 << 63, u64::MAX]),
+            _ => 1 + self.below(6),
+        }
+    }
+
+    fn limit(&mut self) -> Option<i64> {
+        self.chance(60).then(|| self.price())
+    }
+
+    /// Times mostly rise a little, or by about the silence that timing allows.
+    fn time(&mut self) -> u64 {
+        let slow = !matches!(self.theme, Theme::Sessions);
+        self.clock = match self.below(20) {
+            0 if slow => self.clock.saturating_sub(self.below(2_000_000_000)),
+            1..4 if slow => self.clock + self.below(1_500_000_000),
+            4 => self.clock + 5_000_000_000,
+            5 => self.clock.saturating_sub(self.below(4)),
+            _ => self.clock + self.below(4),
+        };
+        self.clock
+    }
+
+    fn account(&mut self, id: u32) -> Account {
+        let paper = self.chance(if matches!(self.theme, Theme::Money | Theme::Ends) { 75 } else { 45 });
+        let mut amount = |usual: u64| match self.seldom() {
+            0..2 => self.pick(&[0, -5, i64::MAX, i64::MIN, 1 << 62]),
+            _ => self.below(usual) as i64,
+        };
+        let funds = Funds { cash: amount(2000), position: amount(20) };
+        Account {
+            id,
+            token: u64::from(id) + 7,
+            max_open_orders: self.pick(&[1, 2, 3, 9, 9, 9, 9]),
+            messages_per_second: self.pick(&[0, 1, 2, 5, 9, 9, 9, 9, 9, 9, 9, 9]),
+            funds: paper.then_some(funds),
+        }
+    }
+
+    fn accounts(&mut self) -> Vec<Account> {
+        let mut accounts: Vec<Account> = (0..3).map(|id| self.account(id)).collect();
+        if self.chance(8) {
+            let id = self.below(5) as u32;
+            accounts.push(self.account(id));
+        }
+        accounts
+    }
+
+    fn timing(&mut self) -> Timing {
+        let silence = [(1_000_000_000, 5_000_000_000), (4, 12), (3, 40), (0, 9), (5, 0)];
+        let at = if matches!(self.theme, Theme::Sessions) { self.below(5) } else { 0 };
+        let (heartbeat, idle_timeout) = silence[at as usize];
+        Timing { heartbeat, idle_timeout }
+    }
+
+    fn entry(&mut self, id: OrderId, live: Live) -> Listed {
+        let Live { account: owner, side, price, leaves } = live;
+        match price {
+            Some(price) if self.chance(80) => {
+                let visible = if self.chance(30) { leaves.min(1 + self.below(3)) } else { leaves };
+                Listed::Order(Order { id, owner, side, price, visible, leaves })
+            }
+            limit => Listed::Stop(Stop { id, owner, side, limit, qty: leaves }),
+        }
+    }
+
+    fn live(&mut self) -> Live {
+        let account = if matches!(self.theme, Theme::Ends) { self.mostly(2, 4) } else { self.mostly(4, 5) };
+        let price = self.chance(85).then(|| self.price());
+        Live { account, side: self.side(), price, leaves: self.qty() }
+    }
+
+    /// A start; a restore goes on from what is `saved`.
+    pub fn start(&mut self, saved: &mut Option<(Vec<Account>, Checkpoint)>) -> Start {
+        self.clock = 0;
+        self.plan_opening();
+        let restores = match self.theme {
+            Theme::Restart => true,
+            Theme::Ends => self.chance(25),
+            _ => false,
+        };
+        let limit = if self.chance(2) { self.pick(&[0, 1, 257]) } else { 4 };
+        let (accounts, timing) = (self.accounts(), self.timing());
+        let last = if self.chance(3) { u64::MAX } else { self.below(8) };
+        let ids: Vec<OrderId> = (1..=last.min(6)).filter(|_| self.chance(70)).collect();
+        if !restores {
+            let mut listing: Vec<Listed> = Vec::new();
+            if self.chance(if matches!(self.theme, Theme::Market | Theme::Ends) { 85 } else { 45 }) {
+                for id in ids {
+                    let id = if self.chance(3) { id + 1 } else { id };
+                    let live = self.live();
+                    listing.push(self.entry(id, live));
+                }
+                self.shuffle(&mut listing);
+            }
+            return Start::SetUp(limit, last, accounts, listing, timing);
+        }
+        let (accounts, saved) = saved.take().unwrap_or_else(|| {
+            let has = |id: u32| accounts.iter().any(|account| account.id == id && account.funds.is_some());
+            let wallets = (0..5).filter(|&id| self.chance(if has(id) { 90 } else { 4 }));
+            let wallet = |account: u32| SavedWallet { account, cash: 700, position: -3 };
+            let wallets = wallets.map(wallet).collect();
+            let order = |id: OrderId| {
+                let Live { account, side, price, leaves } = self.live();
+                let id = if last < 7 && id == last && self.chance(5) { id + 1 } else { id };
+                SavedOrder { id, account, client_ref: 70 + id, buy: side == Side::Buy, price, leaves }
+            };
+            let orders = ids.into_iter().map(order).collect();
+            (accounts, Checkpoint { seq: last, wallets, orders, market_price: self.limit() })
+        });
+        if self.chance(8) {
+            let mut bytes = bytes(&saved);
+            match self.below(4) {
+                0 => drop(bytes.pop()),
+                1 => bytes.push(0),
+                2 => bytes[8] |= 2,
+                _ if saved.market_price.is_none() => bytes[9] = 1,
+                _ => bytes.truncate(self.below(24) as usize),
+            }
+            return Start::Malformed(limit, accounts, timing, bytes);
+        }
+        Start::Restore(limit, accounts, timing, saved)
+    }
+
+    fn new_order(&mut self, wallet: bool) -> NewOrder {
+        let (side, qty) = (self.side(), self.qty());
+        let kind = match self.weigh(if wallet { &[40, 1, 2] } else { &[6, 1, 3] }) {
+            0 => OrderKind::Limit {
+                price: self.price(),
+                tif: self.pick(&[TimeInForce::Gtc, TimeInForce::Ioc, TimeInForce::Fok, TimeInForce::PostOnly]),
+                display: self.chance(20).then(|| self.qty()),
+            },
+            1 => OrderKind::Market,
+            _ => OrderKind::Stop { trigger: self.price(), limit: self.limit() },
+        };
+        NewOrder { client_ref: 10 + self.below(90), side, qty, kind }
+    }
+
+    /// An order's number: mostly a live one's.
+    fn order(&mut self, rule: &Rule) -> OrderId {
+        let live: Vec<OrderId> = rule.live.keys().copied().collect();
+        if live.is_empty() || self.chance(6) {
+            return self.below(rule.last.saturating_add(2));
+        }
+        self.pick(&live)
+    }
+
+    fn message(&mut self, rule: &Rule, exchange: &Exchange, account: u32) -> Inbound {
+        let order_id = self.order(rule);
+        match self.weigh(&[50, 10, 8, 6, 10, 3, 3, 3]) {
+            0 => Inbound::NewOrder(self.new_order(rule.has_wallet(account))),
+            1 => Inbound::Cancel { order_id },
+            2 => Inbound::Modify { order_id, price: self.price(), qty: self.qty() },
+            3 => Inbound::MassCancel,
+            4 => Inbound::Subscribe,
+            5 => Inbound::Heartbeat,
+            6 => Inbound::Logout,
+            _ => self.login(rule, exchange),
+        }
+    }
+
+    fn login(&mut self, rule: &Rule, exchange: &Exchange) -> Inbound {
+        let account = self.mostly(4, 6);
+        let taken = |account: u32| rule.sessions.iter().any(|&session| exchange.account_of(session) == Some(account));
+        let odd = if matches!(self.theme, Theme::Sessions) { 15 } else { 4 };
+        let account = if taken(account) && !self.chance(2 * odd) { (account + 1) % 3 } else { account };
+        let token = rule.accounts.get(&account).map_or(0, |account| account.token) + u64::from(self.chance(odd));
+        Inbound::Login { version: if self.chance(odd) { 2 } else { VERSION }, account, token }
+    }
+
+    /// A session: mostly one that is logged in.
+    fn session(&mut self, rule: &Rule, exchange: &Exchange) -> usize {
+        let sessions: Vec<usize> = rule.sessions.iter().copied().collect();
+        let logged_in: Vec<usize> = sessions.iter().copied().filter(|&session| exchange.account_of(session).is_some()).collect();
+        match self.below(100) {
+            0..85 if !logged_in.is_empty() => self.pick(&logged_in),
+            0..96 if !sessions.is_empty() => self.pick(&sessions),
+            _ => self.pick(&[0, 1, 2, 3, 4, 63, 64, 1000]),
+        }
+    }
+
+    fn receive(&mut self, rule: &Rule, exchange: &Exchange) -> Call {
+        let session = self.session(rule, exchange);
+        let message = match exchange.account_of(session) {
+            None if self.chance(94) => self.login(rule, exchange),
+            account => self.message(rule, exchange, account.unwrap_or(0)),
+        };
+        Call::Receive(session, message, self.time())
+    }
+
+    /// An event, mostly of a number in flight and about its order.
+    fn event(&mut self, rule: &Rule, exchange: &Exchange) -> (u64, Event) {
+        let resting = resting(exchange.depth());
+        let at = self.below(2).min(rule.flights.len().saturating_sub(1) as u64) as usize;
+        let flight = rule.flights.get(at).copied();
+        let (number, places) = match flight {
+            Some(flight) if !self.chance(3) => flight,
+            _ => (self.below(rule.last.saturating_add(3)), false),
+        };
+        let own = places && rule.live.contains_key(&number);
+        let id = match self.below(100) {
+            0..3 => number.saturating_add(1),
+            3..70 if own => number,
+            _ => self.order(rule),
+        };
+        let live = rule.live.get(&id).copied().unwrap_or_else(|| self.live());
+        let side = if self.chance(4) { live.side.opposite() } else { live.side };
+        let price = live.price.filter(|_| !self.chance(10)).unwrap_or_else(|| self.price());
+        let leaves = if self.chance(8) { self.qty() } else { live.leaves };
+        let rests = resting.contains_key(&id);
+        let visible = if self.chance(30) { leaves.min(1 + self.below(3)) } else { leaves };
+        let refused = if matches!(self.theme, Theme::Sessions) { 60 } else { 8 };
+        let weights = if own && !rests {
+            [10, refused, 30, 40, 0, 8, 4, 4, 3, 1, 1]
+        } else {
+            [2, refused, 30, if rests { 1 } else { 12 }, 14, 20, 26, 1, 2, 8, 5]
+        };
+        let event = match self.weigh(&weights) {
+            0 => Event::Accepted { id },
+            1 => Event::Rejected {
+                id,
+                reason: self.pick(&[RejectReason::UnknownOrder, RejectReason::BookFull, RejectReason::MarketClosed]),
+            },
+            2 => self.trade(rule, &resting, id, Live { side, price: Some(price), leaves, ..live }),
+            3 => Event::Rested { id, side, price, qty: leaves, visible },
+            4 => Event::Replenished { id, side, price, visible: self.qty() },
+            5 => Event::Cancelled {
+                id,
+                qty: leaves,
+                reason: self.pick(&[CancelReason::Requested, CancelReason::MassCancel, CancelReason::PriceBand]),
+            },
+            6 => {
+                let qty = self.qty();
+                let leaves = self.pick(&[0, leaves, leaves.saturating_sub(1), leaves.saturating_sub(1), qty]);
+                Event::Modified { id, price: if self.chance(60) { price } else { self.price() }, qty, leaves }
+            }
+            7 => Event::StopPlaced { id, side, trigger: self.price(), limit: live.price, qty: leaves },
+            8 => Event::Triggered { id },
+            9 => Event::MassCancelled { owner: self.mostly(4, 6), count: self.below(3) as u32 },
+            _ => Event::PhaseChanged { phase: self.pick(&[Phase::Continuous, Phase::Auction, Phase::Halted, Phase::Closed]) },
+        };
+        (number, event)
+    }
+
+    /// A trade of `taker` with another order, mostly one that rests on the other side.
+    fn trade(&mut self, rule: &Rule, resting: &BTreeMap<OrderId, Order>, taker: OrderId, live: Live) -> Event {
+        let (taker_side, leaves) = (live.side, live.leaves);
+        let makers = resting.values().filter(|order| order.id != taker && order.side != taker_side);
+        let makers: Vec<OrderId> = makers.map(|order| order.id).collect();
+        let others: Vec<OrderId> = rule.live.keys().copied().filter(|&id| id != taker).collect();
+        let maker = match self.below(100) {
+            0..80 if !makers.is_empty() => self.pick(&makers),
+            0..96 if !others.is_empty() => self.pick(&others),
+            _ => self.order(rule),
+        };
+        let left = rule.live.get(&maker).map_or(3, |live| live.leaves);
+        let shown = |id: OrderId| resting.get(&id).map_or(u64::MAX, |order| order.visible);
+        let most = leaves.min(left).min(shown(maker)).min(shown(taker));
+        let qty = if self.chance(60) || most == 0 { most } else { 1 + self.below(most) };
+        let qty = if self.chance(10) { self.qty() } else { qty };
+        Event::Trade {
+            trade_id: 1 + self.below(99),
+            taker,
+            maker,
+            taker_side,
+            price: resting.get(&maker).map(|order| order.price).or(live.price).unwrap_or(100),
+            qty,
+            taker_leaves: leaves.saturating_sub(qty),
+            maker_leaves: left.saturating_sub(qty),
+        }
+    }
+
+    fn replay_command(&mut self, rule: &Rule) -> Call {
+        let number = rule.last.wrapping_add(if self.chance(3) { 2 } else { 1 });
+        let owner = self.mostly(4, 6);
+        let id = self.order(rule);
+        let command = match self.weigh(&[70, 8, 8, 6, 5]) {
+            0 => {
+                let id = if self.chance(3) { id } else { number };
+                command(id, owner, &self.new_order(rule.has_wallet(owner)))
+            }
+            1 => Command::Cancel { id, owner },
+            2 => Command::Modify { id, owner, price: self.price(), qty: self.qty() },
+            3 => Command::CancelAll { owner },
+            _ => Command::SetPhase { phase: Phase::Auction },
+        };
+        Call::ReplayCommand(number, command)
+    }
+
+    fn finish(&mut self, rule: &Rule) -> Call {
+        let mut listing: Vec<Listed> = rule.live.iter().map(|(&id, &live)| self.entry(id, live)).collect();
+        if self.chance(20) {
+            let live = self.live();
+            let id = self.below(9);
+            listing.push(self.entry(id, live));
+        }
+        if self.chance(10) {
+            listing.pop();
+        }
+        self.shuffle(&mut listing);
+        Call::Finish(listing)
+    }
+
+    fn plan_login(&mut self, session: usize, login: Inbound) {
+        let calls = [Call::Connect(session, self.time()), Call::Receive(session, login, self.time())];
+        self.planned.extend(calls);
+    }
+
+    /// Members log in, some subscribe.
+    fn plan_logins(&mut self) {
+        for account in 0..=self.below(3) as u32 {
+            let (session, token) = (account as usize + 1, u64::from(account) + 7);
+            self.plan_login(session, Inbound::Login { version: VERSION, account, token });
+            if self.chance(if matches!(self.theme, Theme::Market) { 60 } else { 15 }) {
+                let subscribe = Call::Receive(session, Inbound::Subscribe, self.time());
+                self.planned.push_back(subscribe);
+            }
+        }
+    }
+
+    /// What opens a list.
+    fn plan_opening(&mut self) {
+        self.planned.clear();
+        if self.chance(60) {
+            let percent = self.pick(&[0, 1, 2]);
+            self.planned.push_back(Call::Collar(Some(percent)));
+        }
+        let alone = match self.theme {
+            Theme::Restart => 60,
+            Theme::Sessions | Theme::Ends => 40,
+            _ => 5,
+        };
+        if !self.chance(alone) {
+            self.plan_logins();
+        }
+    }
+
+    /// What may follow an accepted call.
+    pub fn plan_after(&mut self, call: &Call, rule: &Rule, exchange: &Exchange) {
+        match call {
+            Call::Finish(_) if self.chance(70) => {
+                self.plan_logins();
+                self.planned.push_back(Call::Publish);
+            }
+            Call::Detach(session) | Call::Disconnect(session) if *session < 9 && self.chance(40) => {
+                let login = self.login(rule, exchange);
+                self.plan_login(*session, login);
+            }
+            _ => {}
+        }
+    }
+
+    /// The end of some lists: all is delivered and a checkpoint taken.
+    pub fn plan_checkpoint(&mut self, rule: &Rule) {
+        let event = Event::PhaseChanged { phase: Phase::Closed };
+        let last = if rule.replaying { Call::ReplayEvent(rule.last, event) } else { Call::Deliver(rule.last, event) };
+        self.planned.extend([Call::TakeBatch, last, Call::Checkpoint]);
+    }
+
+    pub fn call(&mut self, rule: &Rule, exchange: &Exchange) -> Call {
+        if let Some(call) = self.planned.pop_front() {
+            return call;
+        }
+        let events = if rule.flights.is_empty() { 2 } else { 60 };
+        let (joins, replays) = if rule.sessions.is_empty() { (40, 60) } else { (3, 1) };
+        // connect receive deliver publish tick end shut-down disconnect detach take-batch levels wallet last-seq collar
+        // add-account checkpoint finish replay-command replay-event
+        let weights: [u64; 19] = match self.theme {
+            // While the Rust's depth is not document 01's, nothing that shows it.
+            _ if rule.replaying => [2, 0, 0, 0, 0, 0, 0, 0, 2, 0, 0, 8, 3, 2, 2, 3, 12, 30, 50],
+            Theme::Money => [joins, 50, events, 10, 1, 1, 0, 1, 1, 4, 1, 12, 1, 3, 1, 3, 0, 0, 0],
+            Theme::Market => [joins, 30, 2 * events, 24, 1, 1, 0, 1, 1, 3, 8, 2, 1, 0, 0, 1, 3, 0, 0],
+            Theme::Sessions => [joins + 7, 50, events / 2, 8, 26, 4, 1, 6, 6, 3, 1, 1, 1, 1, 3, 1, 0, 1, 1],
+            Theme::Ends => [joins, 30, 2 * events, 8, 1, 1, 0, 1, 4, 3, 2, 6, 1, 1, 1, 1, 2, replays, 1],
+            Theme::Restart => [joins, 40, events, 12, 1, 1, 1, 3, 6, 6, 3, 6, 1, 1, 2, 6, 3, replays, 1],
+        };
+        match self.weigh(&weights) {
+            0 => Call::Connect(if self.chance(3) { self.pick(&[63, 64, 1000]) } else { self.below(4) as usize }, self.time()),
+            1 => self.receive(rule, exchange),
+            2 => {
+                let (number, event) = self.event(rule, exchange);
+                Call::Deliver(number, event)
+            }
+            3 => Call::Publish,
+            4 => Call::Tick(self.time()),
+            5 => {
+                let reasons = [LogoutReason::SlowConsumer, LogoutReason::ProtocolError, LogoutReason::Shutdown];
+                Call::End(self.session(rule, exchange), self.pick(&reasons))
+            }
+            6 => Call::ShutDown,
+            7 => Call::Disconnect(self.session(rule, exchange)),
+            8 => Call::Detach(self.session(rule, exchange)),
+            9 => Call::TakeBatch,
+            10 => Call::Levels(self.side()),
+            11 => Call::Wallet(self.mostly(4, 300)),
+            12 => Call::LastSeq,
+            13 => Call::Collar(self.chance(85).then(|| self.pick(&[0, 1, 2, 10, 100, u32::MAX]))),
+            14 => {
+                let id = if self.chance(60) { 3 } else { self.below(6) as u32 };
+                Call::AddAccount(self.account(id))
+            }
+            15 => Call::Checkpoint,
+            16 => self.finish(rule),
+            17 => self.replay_command(rule),
+            _ => {
+                let (number, event) = self.event(rule, exchange);
+                Call::ReplayEvent(number, event)
+            }
+        }
+    }
+}
