@@ -15,21 +15,18 @@ use Rattle.le.specs.Row.{puts, Fit}
 use Rattle.le.proofs.Laws.{lt-or-le, outside-trans, outside-wider, local-wider, local-map}
 use Rattle.le.proofs.Rows.{outside-puts, gets-local, gets-puts}
 use Rattle.table.specs.Live.{live, look, insert, replace, without, Ascends, Gap, Changed}
-use Rattle.table.specs.Table.{keyAt, rows, Sorted, Between, Opened, Closed, Finds, found}
-use Rattle.table.specs.declared.Found.{Found}
-use Rattle.table.specs.declared.Found.the-variants.{At, Nothing}
-use Rattle.table.proofs.Moves.{step}
+use Rattle.table.specs.Table.{keyAt, rows, Sorted, Between, Opened, Closed}
 use Rattle.table.proofs.Live.{same?, live-ext, live-insert, live-close, live-replace, look-some, look-none, ascends-ext, ascends-change, ascends-open, ascends-close}
 use Rattle.table.proofs.Search.{between-above, finds-none}
 use Rattle.table.proofs.Readers.{row-changed, opened-gap, closed-gap}
 use Rattle.gateway.specs.Limits.{most-levels}
 use Rattle.store.specs.Cells as C
-use Rattle.store.specs.Layout.{blocks, start, spot, cell, Cell, Holds, Set}
+use Rattle.store.specs.Layout.{blocks, start, spot, cell, Cell, Set}
 use Rattle.store.specs.View.{word}
 use Rattle.store.proofs.Places.{header-cell, bid-cell, ask-cell, cell-block, cell-same, cell-other}
 use Rattle.levels.specs.declared.Row.{Row}
 use Rattle.levels.specs.Rows.{widths, values, made, read}
-use Rattle.levels.specs.Levels.{block, count, base, key, row, size, entries, opened, one-more, changed, one-less, added, shown, removed, Joins, CanAdd, CanShow, CanRemove, Table, Kept, Did, Sought, IsAt, Place}
+use Rattle.levels.specs.Levels.{block, count, base, key, row, size, entries, opened, one-more, changed, one-less, added, shown, removed, Joins, CanAdd, CanShow, CanRemove, Table, Did, Sought, IsAt, Place}
 
 -- ---- the block in bytes
 
