@@ -15,7 +15,7 @@ use Rattle.le.specs.Row.{puts, Fit}
 use Rattle.le.proofs.Laws.{lt-or-le, outside-trans, outside-wider, local-wider, local-map}
 use Rattle.le.proofs.Rows.{outside-puts, gets-local, gets-puts}
 use Rattle.table.specs.Live.{live, look, insert, replace, without, Ascends, Gap, Changed}
-use Rattle.table.specs.Table.{keyAt, rows, Sorted, Between, Opened, Closed, found}
+use Rattle.table.specs.Table.{keyAt, rows, Sorted, Between, Opened, Closed}
 use Rattle.table.proofs.Live.{same?, live-ext, live-insert, live-close, live-replace, look-some, look-none, ascends-ext, ascends-change, ascends-open, ascends-close}
 use Rattle.table.proofs.Search.{between-above, finds-none}
 use Rattle.table.proofs.Readers.{row-changed, opened-gap, closed-gap}
@@ -48,7 +48,7 @@ pub count-cell : (s : Side) → Cell C.header 0 (count s)
 count-cell Buy = header-cell C.bid-levels (omega arith)
 count-cell Sell = header-cell C.ask-levels (omega arith)
 
-block-cell : (s : Side) (i k : ℕ) → i < most-levels → k < 4 → Cell (block s) i k
+pub block-cell : (s : Side) (i k : ℕ) → i < most-levels → k < 4 → Cell (block s) i k
 block-cell Buy i k h l = bid-cell i k h l
 block-cell Sell i k h l = ask-cell i k h l
 
@@ -57,7 +57,7 @@ pub base-fits : (s : Side) → base s + 16384 ≤ 442624
 base-fits Buy = omega arith
 base-fits Sell = omega arith
 
-header-not-block : (s : Side) → C.header ≡ block s → ⊥
+pub header-not-block : (s : Side) → C.header ≡ block s → ⊥
 header-not-block Buy e = omega arith
 header-not-block Sell e = omega arith
 

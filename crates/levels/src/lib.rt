@@ -7,7 +7,7 @@ ghost use Prim.Native.Nat.{_+_, _*_, _≤_, _<_};
 ghost use Rattle.le.specs.Row.{puts};
 ghost use Rattle.gateway.specs.Limits.{most-levels};
 ghost use Rattle.table.specs.Live.{look, insert, replace, without};
-ghost use Rattle.table.specs.Table.{Opened, Finds, found};
+ghost use Rattle.table.specs.Table.{found};
 ghost use Rattle.store.specs.Cells as C;
 ghost use Rattle.store.specs.Layout.{cell, Holds, Set};
 ghost use Rattle.levels.specs.Levels as L;
