@@ -33,36 +33,36 @@ less-apart (negsuc a) (pos b) h = (refl, refl)
 less-apart (negsuc a) (negsuc b) h = let l = ltb-true b a h in (ap (λ x. x && leb b a) (lt-leb a b l), le-ltb a b (omega arith))
 
 -- of a price and a better one
-better-apart : (s : Side) (a b : ℤ) → better s a b ≡ true → (same-price b a ≡ false) × (better s b a ≡ false)
+pub better-apart : (s : Side) (a b : ℤ) → better s a b ≡ true → (same-price b a ≡ false) × (better s b a ≡ false)
 better-apart Buy a b h = let t = less-apart b a h in (and-comm (leZ b a) (leZ a b) ∙ t .0, t .1)
 better-apart Sell a b h = less-apart a b h
 
-better-differs : (s : Side) (a b : ℤ) → better s a b ≡ true → same-price a b ≡ false
+pub better-differs : (s : Side) (a b : ℤ) → better s a b ≡ true → same-price a b ≡ false
 better-differs s a b h = and-comm (leZ a b) (leZ b a) ∙ better-apart s a b h .0
 
 -- ---- the ways in which an order joins, as equations
 
-abbrev one : ℤ → ℕ → Level
+abbrev pub one : ℤ → ℕ → Level
 one p v = record { price = p; qty = v; orders = 1 }
 
-abbrev more : ℤ → ℕ → Level → Level
+abbrev pub more : ℤ → ℕ → Level → Level
 more p v l = record { price = p; qty = l .qty + v; orders = suc (l .orders) }
 
 module _ (s : Side) (p : ℤ) (v : ℕ) (l : Level) (ls : List Level) where
   abbrev choice : Bool → Bool → List Level
   choice a b = cond a (more p v l ∷ ls) (cond b (one p v ∷ l ∷ ls) (l ∷ joined s p v ls))
 
-  at-level : p ≡ l .price → joined s p v (l ∷ ls) ≡ more p v l ∷ ls
+  pub at-level : p ≡ l .price → joined s p v (l ∷ ls) ≡ more p v l ∷ ls
   at-level e = ap (λ a. choice a (better s p (l .price))) (ap (same-price p) (sym e) ∙ same-itself p)
 
-  before-level : better s p (l .price) ≡ true → joined s p v (l ∷ ls) ≡ one p v ∷ l ∷ ls
+  pub before-level : better s p (l .price) ≡ true → joined s p v (l ∷ ls) ≡ one p v ∷ l ∷ ls
   before-level b = ap₂ choice (better-differs s p (l .price) b) b
 
-  after-level : better s (l .price) p ≡ true → joined s p v (l ∷ ls) ≡ l ∷ joined s p v ls
+  pub after-level : better s (l .price) p ≡ true → joined s p v (l ∷ ls) ≡ l ∷ joined s p v ls
   after-level b = let t = better-apart s (l .price) p b in ap₂ choice (t .0) (t .1)
 
 -- a price is a level's, ahead of it, or behind it
-compared : {P : Type 0} (s : Side) (p : ℤ) (l : Level) → (p ≡ l .price → P) → (better s p (l .price) ≡ true → P) → (better s (l .price) p ≡ true → P) → P
+pub compared : {P : Type 0} (s : Side) (p : ℤ) (l : Level) → (p ≡ l .price → P) → (better s p (l .price) ≡ true → P) → (better s (l .price) p ≡ true → P) → P
 compared {P} s p l f g h = joins s p 0 (λ ms. P) l [] f g h
 
 -- ---- orders join in any order
