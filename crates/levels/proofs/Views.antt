@@ -9,7 +9,7 @@ use lib.Dec.{eqb}
 use Rattle.orderbook.specs.declared.Side.{Side}
 use Rattle.orderbook.specs.declared.Side.the-variants.{Buy, Sell}
 use Rattle.store.specs.Cells as C
-use Rattle.store.specs.Layout.{cell, Cell}
+use Rattle.store.specs.Layout.{cell}
 use Rattle.store.specs.View.{Store, Same, Bounds, gateway}
 use Rattle.store.proofs.Frames.{gateway-same}
 use Rattle.table.proofs.Live.{live-ext, ascends-ext}
