@@ -105,7 +105,7 @@ fn main() {
     let mut draw = Draw::new(seed);
     let mut saved = None;
     let words: Vec<String> = args.iter().map(u64::to_string).collect();
-    print!("{}", include_str!("head.antt").replace("ARGS", &words.join(" ")));
+    print!("{}", include_str!("head.txt").replace("ARGS", &words.join(" ")));
     let (mut rows, mut lemmas) = (String::new(), String::new());
     for at in 0..count {
         draw.theme = themes[theme.map_or(at % 5, |&theme| theme as usize)];
@@ -118,6 +118,6 @@ fn main() {
         lemmas += &format!("\n    row-{at} : run-from start-{at} calls-{at} ≡ seen-{at}\n    row-{at} = refl\n");
     }
     let proof = (0..count).rev().fold("tt".to_owned(), |rest, at| format!("(row-{at}, {rest})"));
-    let foot = include_str!("foot.antt").replace("ROWS", &wrapped(&(rows + "[]")));
+    let foot = include_str!("foot.txt").replace("ROWS", &wrapped(&(rows + "[]")));
     print!("{}", foot.replace("PROOF", &proof).replace("LEMMAS", lemmas.strip_prefix('\n').unwrap_or_default()));
 }
