@@ -3,3 +3,4 @@ pub mod Int
 pub mod Fit
 pub mod Product
 pub mod Laws
+pub mod Wrap

@@ -1,7 +1,7 @@
 -- What the words stand for, and what their arithmetic gives, over the integers.
 use mathlib.Core.Bool.{Bool, true, false, cond}
 use mathlib.Core.Option.{Option, none, some}
-use Prim.Native.Nat.{ℕ, _+_, _-_, _*_, _^_}
+use Prim.Native.Nat.{ℕ, _+_, _-_, _*_, _%_, _^_}
 use lib.IntN.{ℤ, pos, negsuc, negℤ, subℕ}
 use lib.Signed.{leZ}
 use mir.Syntax.{w64}
@@ -70,6 +70,11 @@ fit z = fit-in (place-of z)
 
 abbrev pub clamp : ℤ → ℤ
 clamp z = nearest-to (place-of z)
+
+-- the word of a number, modulo 2^64
+unfoldable pub wrap : ℤ → ℕ
+wrap (pos n) = n % 2 ^ 64
+wrap (negsuc n) = 2 ^ 64 - 1 - n % 2 ^ 64
 
 -- what the code's answers say
 abbrev pub amount : A.Amount → Option ℤ
