@@ -25,19 +25,7 @@ use Rattle.gateway.specs.Depth.{Level, same-price, better, joined}
 use Rattle.gateway.proofs.Sorted.{Rises}
 use Rattle.gateway.proofs.Levels.{same-itself, better-apart, better-differs, one, at-level, before-level, after-level, compared, parted, reshown}
 use Rattle.levels.specs.declared.Row.{Row}
-use Rattle.levels.specs.Levels.{key, opened, one-more, changed, one-less, added, shown, removed}
-
-abbrev pub price : ℕ → ℤ
-price k = k ⊖ half
-
-abbrev pub level : Row → Level
-level r = record { price = price (r .key); qty = r .qty; orders = r .orders }
-
-abbrev pub best : Side → List Row → List Level
-best Sell [] = []
-best Sell (r ∷ l) = level r ∷ best Sell l
-best Buy [] = []
-best Buy (r ∷ l) = best Buy l ++ (level r ∷ [])
+use Rattle.levels.specs.Levels.{key, price, level, best, opened, one-more, changed, one-less, added, shown, removed}
 
 -- ---- prices as their keys
 

@@ -15,8 +15,8 @@ use Rattle.gateway.proofs.Sorted.{Rises}
 use Rattle.gateway.proofs.Levels.{parted, reshown, levels-insert, levels-without, levels-replace}
 use Rattle.store.specs.Layout.{cell}
 use Rattle.levels.specs.declared.Row.{Row}
-use Rattle.levels.specs.Levels.{key, row, size, entries, added, shown, removed, Table, Did}
-use Rattle.levels.proofs.Best.{price, best, best-added, best-shown, best-removed}
+use Rattle.levels.specs.Levels.{key, row, size, entries, price, best, added, shown, removed, Table, Did}
+use Rattle.levels.proofs.Best.{best-added, best-shown, best-removed}
 
 rises-more : (a : ℕ) (l : List Row) (y : Row) → Rises key a l → Each (λ r. key r < key y) l → a ≤ key y → Rises key a (l ++ (y ∷ []))
 rises-more a [] y t e h = (h, tt)

@@ -1,16 +1,19 @@
 -- The stored levels of a side: rows ascending by key, and what each operation makes of their list.
 use mathlib.Core.Path.{_≡_}
 use mathlib.Core.Bool.{Bool, true, false, cond}
-use mathlib.Core.List.{List}
+use mathlib.Core.List.{List, [], _∷_, _++_}
 use mathlib.Core.Option.{Option, none, some}
 use Prim.Native.Nat.{ℕ, _+_, _-_, _^_, _≤_, _<_}
 use lib.Dec.{eqb}
+use lib.IntN.{ℤ}
 use Rattle.orderbook.specs.declared.Side.{Side}
 use Rattle.orderbook.specs.declared.Side.the-variants.{Buy, Sell}
+use Rattle.words.specs.Words.{half, _⊖_}
 use Rattle.table.specs.Live.{live, look, insert, replace, without, Ascends}
 use Rattle.table.specs.Table.{Between}
 use Rattle.gateway.specs.Basics.{option}
 use Rattle.gateway.specs.Limits.{most-levels}
+use Rattle.gateway.specs.Depth.{Level}
 use Rattle.store.specs.Cells as C
 use Rattle.store.specs.Layout.{cell, Cell, Holds}
 use Rattle.store.specs.View.{Store, word}
@@ -45,6 +48,22 @@ size s t = word t (count s)
 -- no row is dead
 unfoldable pub entries : Side → Store → List Row
 entries s t = live (λ r. 1) (row s t) (size s t)
+
+-- ---- what they stand for
+
+-- a key is a price raised by 2^63
+abbrev pub price : ℕ → ℤ
+price k = k ⊖ half
+
+abbrev pub level : Row → Level
+level r = record { price = price (r .key); qty = r .qty; orders = r .orders }
+
+-- best price first: the asks in their order, the bids from the last to the first
+abbrev pub best : Side → List Row → List Level
+best Sell [] = []
+best Sell (r ∷ l) = level r ∷ best Sell l
+best Buy [] = []
+best Buy (r ∷ l) = best Buy l ++ (level r ∷ [])
 
 -- ---- what is known before and after
 

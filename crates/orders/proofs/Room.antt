@@ -1,13 +1,15 @@
 -- The tombstones squeezed out: the gateway stays, the table stays in order, and there is room. Assumes nothing.
 use mathlib.Core.Path.{_≡_, refl, sym, ap, ap₂, _∙_}
-use mathlib.Core.Bool.{cond}
+use mathlib.Core.Bool.{false, cond, _&&_}
+use mathlib.Core.Logic.{⊎-elim}
 use mathlib.Core.List.{List, _++_, map}
 use Prim.Native.Nat.{ℕ, zero, suc, _+_, _≤_, _<_}
 use native.Mathlib.Omega.{arith}
 use borrow.Author.Tests.{ne-eqb, lt-ltb, ltb-true}
-use lib.Dec.{ltb}
+use lib.Dec.{eqb, ltb}
 use lib.ListN.{length, getD, length-append, length-map}
 use Rattle.table.specs.Live.{pick, live, kept}
+use Rattle.table.proofs.Live.{same?}
 use Rattle.table.proofs.Packed.{Packed, packed-each, packed-ascends, packed-live}
 use Rattle.gateway.specs.Depth as D
 use Rattle.gateway.specs.Ledger.{Order}
@@ -15,7 +17,7 @@ use Rattle.gateway.proofs.Base.{split}
 use Rattle.store.specs.Cells as C
 use Rattle.store.specs.View.{Row, Store, word, order, resting, marked, ledger, depth, gateway, order-room}
 use Rattle.orders.specs.Orders.{either, Flags, Ordered, places, packed, compact, hint, hint-rows, squeeze, make-room}
-use Rattle.orders.proofs.Shown.{map-append, pick-length}
+use Rattle.orders.proofs.Shown.{map-append, map-pick, pick-length}
 use Rattle.orders.proofs.Views.{with-lists, Did, bounds-from}
 
 -- two ways to read the same marked rows
@@ -28,10 +30,6 @@ live-map {E = E} m m′ h h′ f g (suc n) p q =
     ∙ ap₂ (λ (a b : List E). a ++ b) (live-map m m′ h h′ f g n (λ j l. p j (omega arith)) (λ j l. q j (omega arith)))
     (map-pick h (m (f n)) (f n) ∙ ap₂ (λ (k : ℕ) (x : E). pick k x) (p n (omega arith)) (q n (omega arith)) ∙ sym (map-pick h′ (m′ (g n)) (g n)))
     ∙ sym (map-append h′ (live m′ g n) (pick (m′ (g n)) (g n)))
-  where
-    map-pick : {A B : Type 0} (h : A → B) (k : ℕ) (x : A) → map h (pick k x) ≡ pick k (h x)
-    map-pick h zero x = refl
-    map-pick h (suc k) x = refl
 
 -- a flag that counts only where the row is kept
 abbrev gated : ℕ → ℕ → ℕ
@@ -110,10 +108,13 @@ unfolding hint-rows
 hints-did s t os rs d zero = d
 hints-did s t os rs d (suc n) = hint-did s (hint-rows n t) os rs n (hints-did s t os rs d n)
 
-hints-word : (s : Store) (n k : ℕ) → word (hint-rows n s) k ≡ word s k
+hints-other : (s : Store) (n b i k : ℕ) → (b ≡ C.hints → ⊥) → hint-rows n s b i k ≡ s b i k
 unfolding hint-rows hint
-hints-word s zero k = refl
-hints-word s (suc n) k = hints-word s n k
+hints-other s zero b i k h = refl
+hints-other s (suc n) b i k h = rw (ne-eqb b C.hints h) (hints-other s n b i k h)
+
+hints-row : (s : Store) (n j : ℕ) → hint-rows n s C.orders j ≡ s C.orders j
+hints-row s n j = λ z k. hints-other s n C.orders j k (λ e. omega arith) z
 
 module _ (s : Store) (d : Ordered s) where
   abbrev was : ℕ → Row
@@ -196,4 +197,25 @@ module _ (s : Store) (d : Ordered s) where
   unfolding make-room squeeze
   make-room-room h =
       split (λ b. (ltb (word s C.order-rows) order-room ≡ b) → word (cond b s (squeeze s)) C.order-rows < order-room) (ltb (word s C.order-rows) order-room)
-      (λ _ e. ltb-true (word s C.order-rows) order-room e) (λ _ e. rw (hints-word (compact s) (length (places s)) C.order-rows) (compact-room h)) refl
+      (λ _ e. ltb-true (word s C.order-rows) order-room e) (λ _ e. rw (hints-other (compact s) (length (places s)) C.header 0 C.order-rows (λ e. omega arith)) (compact-room h)) refl
+
+  -- what is true of every row stays so
+  pub make-room-each : (P : Row → Type 0) → ((j : ℕ) → j < word s C.order-rows → P (was j)) → (j : ℕ) → j < word (make-room s) C.order-rows → P (make-room s C.orders j)
+  unfolding make-room squeeze compact
+  make-room-each P h =
+      split (λ b. (j : ℕ) → j < word (cond b s (squeeze s)) C.order-rows → P (cond b s (squeeze s) C.orders j)) (ltb (word s C.order-rows) order-room) (λ e. h)
+      (λ e j l.
+      rw (hints-row (compact s) (length (places s)) j)
+      (packed-each rows-packed P (λ i m n. h i m) j (rw (hints-other (compact s) (length (places s)) C.header 0 C.order-rows (λ e. omega arith)) at l)))
+
+  -- the rows of orders, their number and the hints are all that changes
+  pub make-room-other : (b i k : ℕ) → (b ≡ C.orders → ⊥) → (b ≡ C.hints → ⊥) → (b ≡ C.header → k ≡ C.order-rows → ⊥) → make-room s b i k ≡ s b i k
+  unfolding make-room squeeze compact packed
+  make-room-other b i k o h w =
+      split (λ c. cond c s (squeeze s) b i k ≡ s b i k) (ltb (word s C.order-rows) order-room) (λ e. refl)
+      (λ e.
+      hints-other (compact s) (length (places s)) b i k h
+      ∙ ⊎-elim
+      (λ (q : b ≡ C.header). rw (q, ne-eqb k C.order-rows (w q)) (split (λ x. cond (x && false) (length (places s)) (s C.header i k) ≡ s C.header i k) (eqb i 0) (λ e. refl) (λ e. refl)))
+      (λ q. rw (ne-eqb b C.header q, ne-eqb b C.orders o) refl)
+      (same? b C.header))

@@ -59,6 +59,10 @@ pub map-append : {A B : Type 0} (h : A → B) (l m : List A) → map h (l ++ m) 
 map-append h [] m = refl
 map-append h (x ∷ l) m = ap (λ y. h x ∷ y) (map-append h l m)
 
+pub map-pick : {A B : Type 0} (h : A → B) (k : ℕ) (x : A) → map h (pick k x) ≡ pick k (h x)
+map-pick h zero x = refl
+map-pick h (suc k) x = refl
+
 pub pick-length : {A : Type 0} (m : ℕ) (r : A) → m ≤ 1 → length (pick m r) ≡ m
 pick-length zero r h = refl
 pick-length (suc zero) r h = refl
@@ -123,3 +127,14 @@ module _ {A : Type 0} (number : A → ℕ) {p q : ℕ → ℕ × A} {n i : ℕ} 
         simp length-append at (ap length (w .from)),
         simp length-append at (ap length (w .to)),
       )
+
+  -- what stands before the row and behind it stays
+  pub shown-parts : (l : List A) × (h : List A) × (shown p n ≡ l ++ (pick (p i .0) (p i .1) ++ h)) × (shown q n ≡ l ++ (pick (q i .0) (q i .1) ++ h))
+  shown-parts =
+      let w = change-swap mark key c s in
+      (map value (w .low), map value (w .high), ap (map value) (w .from) ∙ parts (w .low) (w .high) (p i), ap (map value) (w .to) ∙ parts (w .low) (w .high) (q i))
+    where
+      parts : (l h : List (ℕ × A)) (x : ℕ × A) → map value (l ++ (pick (x .0) x ++ h)) ≡ map value l ++ (pick (x .0) (x .1) ++ map value h)
+      parts l h x =
+          map-append value l (pick (x .0) x ++ h)
+          ∙ ap (λ y. map value l ++ y) (map-append value (pick (x .0) x) h ∙ ap (λ y. y ++ map value h) (map-pick value (x .0) x))

@@ -20,10 +20,10 @@ use Rattle.store.specs.Cells as C
 use Rattle.store.specs.Layout.{cell}
 use Rattle.store.specs.View.{Row, Store, Same, Is, Ready, word, write, side, maybe-price, order, resting, marked, ledger, depth, gateway, order-room, Bounds}
 use Rattle.store.proofs.Places.{header-cell, order-cell}
-use Rattle.store.proofs.Frames.{gateway-same}
+use Rattle.store.proofs.Frames.{Agree, order-same, resting-same, gateway-same}
 use Rattle.orders.specs.declared.Live.{Live}
 use Rattle.orders.specs.declared.Resting.{Resting}
-use Rattle.orders.specs.Orders.{hint-slots, either, Flags, Sorted, Ordered, fill, set-leaves, set-price, show, strike, retire, take-off, rest, append}
+use Rattle.orders.specs.Orders.{hint-slots, either, Flags, Sorted, Ordered, fill, set-leaves, set-price, revise, show, strike, retire, take-off, rest, append}
 use Rattle.orders.proofs.Shown.{shown, shown-ext, shown-more, shown-dead, shown-strike, shown-replace, shown-revive, shown-update, shown-length}
 
 -- the gateway with other lists of orders
@@ -169,6 +169,11 @@ order-of n o =
       leaves = o .leaves;
     }
 
+-- the order with the price of these words, and v open
+abbrev pub revised : ℕ → ℕ → ℕ → Order → Order
+revised c p v o =
+    record { number = o .number; account = o .account; client-ref = o .client-ref; side = o .side; price = maybe-price c p; leaves = v }
+
 abbrev pub resting-of : ℕ → Resting → D.Resting
 resting-of n o = record { number = n; side = side (o .side); price = int (o .price); visible = o .visible; leaves = o .leaves }
 
@@ -177,45 +182,74 @@ pub record Did (s t : Store) (os : List Order) (rs : List D.Resting) : Type 0 wh
   pub view : gateway t ≡ with-lists os rs (gateway s)
   pub ordered : Ordered t
 
--- ---- from the program to the bytes
+-- ---- what leaves the table alone
 
-module _ (s t : Store) (e : Same s t) (d : Ordered s) where
-  word-same : (k : ℕ) → k < 32 → word t k ≡ word s k
-  word-same k l = sym (e C.header 0 k (header-cell k l))
+-- t has the rows of s, and its three words
+pub record Keeps (s t : Store) : Type 0 where
+  pub rows-are : word t C.order-rows ≡ word s C.order-rows
+  pub live-are : word t C.live-orders ≡ word s C.live-orders
+  pub resting-are : word t C.resting-orders ≡ word s C.resting-orders
+  pub cells : (j k : ℕ) → j < word s C.order-rows → k < 16 → t C.orders j k ≡ s C.orders j k
 
-  cell-same : (j k : ℕ) → j < word s C.order-rows → k < 16 → t C.orders j k ≡ s C.orders j k
-  cell-same j k h l = sym (e C.orders j k (order-cell j k (omega (arith, d .bounds .orders-fit)) l))
+module _ {s t : Store} (e : Keeps s t) where
+  marked-kept : {A : Type 0} (k : ℕ) (f : Row → A) → k < 16 → ((q r : Row) → Agree 16 q r → f q ≡ f r) → marked t k f ≡ marked s k f
+  marked-kept {A} k f l h =
+      rw (e .rows-are)
+      (shown-ext (λ j. read k f (s C.orders j)) (λ j. read k f (t C.orders j)) (word s C.order-rows)
+      (λ j m. ap₂ (λ (x : ℕ) (y : A). (x, y)) (e .cells j k m l) (h (t C.orders j) (s C.orders j) (λ c q. e .cells j c m q))))
 
-  view-same : gateway t ≡ gateway s
-  view-same = sym (gateway-same s t (d .bounds) e)
+  pub live-kept : ledger t .orders ≡ ledger s .orders
+  live-kept = marked-kept C.order-live order (omega arith) order-same
 
-  ordered-same : Ordered t
-  ordered-same =
-      let w = word-same C.order-rows (omega arith) in
+  pub resting-kept : depth t .resting ≡ depth s .resting
+  resting-kept = marked-kept C.order-resting resting (omega arith) resting-same
+
+  pub ordered-kept : Bounds t → Ordered s → Ordered t
+  ordered-kept b d =
       record {
-        bounds = bounds-from s t (λ k l x y z. word-same k l) (rw w (d .bounds .orders-fit)) (d .bounds);
+        bounds = b;
         sorted =
             record {
               ascends =
-                  rw w (ascends-ext (λ k. k) (λ j. s C.orders j C.order-number) (λ j. t C.orders j C.order-number) (word s C.order-rows) (λ j l. cell-same j C.order-number l (omega arith)) (d .sorted .ascends));
+                  rw (e .rows-are)
+                  (ascends-ext (λ k. k) (λ j. s C.orders j C.order-number) (λ j. t C.orders j C.order-number) (word s C.order-rows) (λ j l. e .cells j C.order-number l (omega arith)) (d .sorted .ascends));
               flags = λ j l.
-                  let h : j < word s C.order-rows = rw w at l in
+                  let h : j < word s C.order-rows = rw (e .rows-are) at l in
                   same-flags (s C.orders j) (t C.orders j)
-                  (λ z. (cell-same j C.order-number h (omega arith) z, cell-same j C.order-live h (omega arith) z, cell-same j C.order-resting h (omega arith) z, cell-same j C.order-kept h (omega arith) z))
+                  (λ z. (e .cells j C.order-number h (omega arith) z, e .cells j C.order-live h (omega arith) z, e .cells j C.order-resting h (omega arith) z, e .cells j C.order-kept h (omega arith) z))
                   (d .sorted .flags j h);
             };
         counted =
             record {
-              live-count = word-same C.live-orders (omega arith) ∙ d .counted .live-count ∙ sym (ap (λ g. length (g .core .ledger .orders)) view-same);
-              resting-count = word-same C.resting-orders (omega arith) ∙ d .counted .resting-count ∙ sym (ap (λ g. length (g .rest .depth .resting)) view-same);
+              live-count = e .live-are ∙ d .counted .live-count ∙ sym (ap length live-kept);
+              resting-count = e .resting-are ∙ d .counted .resting-count ∙ sym (ap length resting-kept);
             };
       }
+
+-- ---- from the program to the bytes
+
+module _ (s t : Store) (e : Same s t) (b : Bounds s) where
+  word-same : (k : ℕ) → k < 32 → word t k ≡ word s k
+  word-same k l = sym (e C.header 0 k (header-cell k l))
+
+  pub same-keeps : Keeps s t
+  same-keeps =
+      record {
+        rows-are = word-same C.order-rows (omega arith);
+        live-are = word-same C.live-orders (omega arith);
+        resting-are = word-same C.resting-orders (omega arith);
+        cells = λ j k h l. sym (e C.orders j k (order-cell j k (omega (arith, b .orders-fit)) l));
+      }
+
+  pub bounds-same : Bounds t
+  bounds-same = bounds-from s t (λ k l x y z. word-same k l) (rw (word-same C.order-rows (omega arith)) (b .orders-fit)) b
 
 -- what a function's contract says and what its program does, together: the bytes hold the new gateway, in order
 pub did-bytes : (s t : Store) (os : List Order) (rs : List D.Resting) (ys : List ℕ) → Is ys t → Did s t os rs → Did s (cell ys) os rs
 did-bytes s t os rs ys h d =
     let e : Same t (cell ys) = λ b i k c. sym (h .same b i k c) in
-    record { view = view-same t (cell ys) e (d .ordered) ∙ d .view; ordered = ordered-same t (cell ys) e (d .ordered) }
+    let b = d .ordered .bounds in
+    record { view = sym (gateway-same t (cell ys) b e) ∙ d .view; ordered = ordered-kept (same-keeps t (cell ys) e b) (bounds-same t (cell ys) e b) (d .ordered) }
 
 pub did-ready : (s t : Store) (os : List Order) (rs : List D.Resting) (ys : List ℕ) → Is ys t → Did s t os rs → Ready ys
 did-ready s t os rs ys h d = record { holds = h .holds; bounds = did-bytes s t os rs ys h d .ordered .bounds }
@@ -304,6 +338,12 @@ module _ (s : Store) (i : ℕ) (d : Ordered s) (l : i < word s C.order-rows) whe
   unfolding fill
   set-price-does p m =
       live-did _ (set-price i p s) (fill-touched i C.order-priced (1 ∷ p ∷ []) was s s (untouched i s)) refl (with-price (int p)) refl refl refl refl m
+
+  pub revise-does : (c p v h : ℕ) (f : Order → Order) → f (order was) ≡ revised c p v (order was) → 0 < was C.order-live →
+      Did s (revise i c p v h s) (update number-of (was C.order-number) f (ledger s .orders)) (depth s .resting)
+  unfolding fill
+  revise-does c p v h f e m =
+      live-did _ (revise i c p v h s) (fill-touched i C.order-priced (c ∷ p ∷ v ∷ h ∷ []) was s s (untouched i s)) refl f refl refl e refl m
 
   pub show-does : (v w : ℕ) → 0 < was C.order-resting → Did s (show i v w s) (ledger s .orders) (replace D.resting-number (D.showing v w (resting was)) (depth s .resting))
   unfolding fill

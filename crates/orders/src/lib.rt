@@ -28,7 +28,7 @@ ghost use Rattle.gateway.specs.Ledger.{number-of};
 ghost use Rattle.store.specs.Cells as C;
 ghost use Rattle.store.specs.Layout.{cell, Cell, Holds};
 ghost use Rattle.store.specs.View.{word, order, resting, order-room, Is, Ready};
-ghost use Rattle.orders.specs.Orders.{Sorted, Marks, FindsRow, Sees, live-row, resting-row, fill, set-leaves, set-price, show, strike, retire, take-off, rest, append, hint, hint-rows, squeeze, make-room, open-row};
+ghost use Rattle.orders.specs.Orders.{Sorted, Marks, FindsRow, Sees, live-row, resting-row, fill, set-leaves, set-price, revise, show, strike, retire, take-off, rest, append, hint, hint-rows, squeeze, make-room, open-row};
 
 // The live half of a row.
 pub struct Live {
@@ -141,6 +141,14 @@ pub fn set_price(m: &mut [u8], i: usize, price: u64)
     ensures { λ r. ⌜ Is (now (m .exit)) (set-price i price (cell (now (m .entry)))) ⌝ }
 {
     set_two(m, store::ORDERS, i, ORDER_PRICED, 1, price);
+}
+
+// The order has this price, this much open, and holds this much.
+pub fn revise(m: &mut [u8], i: usize, priced: u64, price: u64, leaves: u64, hold: u64)
+    requires { ⌜ Holds (now m) × (i < order-room) ⌝ }
+    ensures { λ r. ⌜ Is (now (m .exit)) (revise i priced price leaves hold (cell (now (m .entry)))) ⌝ }
+{
+    set_four(m, i, ORDER_PRICED, priced, price, leaves, hold);
 }
 
 pub fn show(m: &mut [u8], i: usize, visible: u64, leaves: u64)

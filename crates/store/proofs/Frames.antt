@@ -12,7 +12,7 @@ use Rattle.store.specs.View.{Row, Store, Same, listed, optional, maybe-p
 use Rattle.store.proofs.Listed.{listed-ext}
 
 -- two rows agree in their first n cells
-abbrev Agree : ℕ → Row → Row → Type 0
+abbrev pub Agree : ℕ → Row → Row → Type 0
 Agree n q r = (k : ℕ) → k < n → q k ≡ r k
 
 account-same : (i : ℕ) (q r : Row) → Agree 16 q r → account i q ≡ account i r
@@ -33,10 +33,10 @@ flight-same n q r h = rw (h C.flight-sender (omega arith), h C.flight-owner (ome
 command-same : (q r : Row) → Agree 12 q r → command q ≡ command r
 command-same q r h = rw (h C.command-kind (omega arith), h C.command-id (omega arith), h C.command-owner (omega arith), h C.command-side (omega arith), h C.command-price (omega arith), h C.command-qty (omega arith), h C.command-tif (omega arith), h C.command-displayed (omega arith), h C.command-display (omega arith), h C.command-trigger (omega arith), h C.command-limited (omega arith), h C.command-limit (omega arith))
 
-order-same : (q r : Row) → Agree 16 q r → order q ≡ order r
+pub order-same : (q r : Row) → Agree 16 q r → order q ≡ order r
 order-same q r h = rw (h C.order-number (omega arith), h C.order-account (omega arith), h C.order-client-ref (omega arith), h C.order-side (omega arith), h C.order-priced (omega arith), h C.order-price (omega arith), h C.order-leaves (omega arith))
 
-resting-same : (q r : Row) → Agree 16 q r → resting q ≡ resting r
+pub resting-same : (q r : Row) → Agree 16 q r → resting q ≡ resting r
 resting-same q r h = rw (h C.order-number (omega arith), h C.order-rest-side (omega arith), h C.order-rest-price (omega arith), h C.order-visible (omega arith), h C.order-rest-leaves (omega arith))
 
 trade-same : (q r : Row) → Agree 6 q r → trade q ≡ trade r

@@ -1,0 +1,119 @@
+-- What leaves a part of the state alone keeps the part of the invariant that speaks of it. Assumes nothing.
+use mathlib.Core.Path.{_≡_, refl, sym, ap, ap₂, _∙_}
+use mathlib.Core.List.{List}
+use Prim.Native.Nat.{ℕ, _≤_, _<_}
+use native.Mathlib.Omega.{arith}
+use Rattle.orderbook.specs.declared.Side.{Side}
+use Rattle.orderbook.specs.declared.Side.the-variants.{Buy, Sell}
+use Rattle.words.specs.Words.{int, wrap}
+use Rattle.table.proofs.Live.{live-ext, ascends-ext}
+use Rattle.gateway.specs.Limits.{owner-slots, most-levels}
+use Rattle.gateway.specs.Ledger.{order-hold, held, open-of}
+use Rattle.gateway.specs.Depth as Depth
+use Rattle.gateway.specs.Calls.{Gateway}
+use Rattle.store.specs.Cells as C
+use Rattle.store.specs.Layout.{cell, Holds}
+use Rattle.store.specs.View.{Row, Store, Same, Is, Bounds, word, order, ledger, depth, gateway}
+use Rattle.store.proofs.Places.{header-cell, account-cell}
+use Rattle.store.proofs.Frames.{Agree, order-same, gateway-same}
+use Rattle.orders.specs.Orders.{Ordered}
+use Rattle.orders.proofs.Views.{Keeps, live-kept, resting-kept, ordered-kept, same-keeps, bounds-same}
+use Rattle.levels.specs.Levels.{block, count, key, row, size, entries, best}
+use Rattle.levels.proofs.Laws.{count-cell, block-cell}
+use Rattle.sound.specs.Sound.{Stored, held-cell, Held, Levels, Tables, Sound, State, Becomes}
+
+-- ---- the live orders' caches
+
+-- the three cells of an account's row
+abbrev pub caches : Store → ℕ → ℕ × ℕ × ℕ
+caches s a = (s C.accounts a C.account-cash-held, s C.accounts a C.account-position-held, s C.accounts a C.account-open-orders)
+
+pub total-same : (t s : Store) (a : ℕ) (z : Side) → caches t a ≡ caches s a → t C.accounts a (held-cell z) ≡ s C.accounts a (held-cell z)
+total-same t s a Buy e = ap (λ c. c .0) e
+total-same t s a Sell e = ap (λ c. c .1) e
+
+pub stored-kept : (q r : Row) → Agree 16 q r → Stored q → Stored r
+stored-kept q r h d =
+    record {
+      hold-is = rw (← h C.order-hold (omega arith)) (d .hold-is ∙ ap order-hold (order-same q r h));
+      owner-is = rw (← h C.order-account (omega arith)) (d .owner-is);
+    }
+
+pub held-kept : {s t : Store} → Keeps s t → ((a : ℕ) → a < owner-slots → caches t a ≡ caches s a) → Held s → Held t
+held-kept {s} {t} e c d =
+    record {
+      rows = λ j l m.
+          let h : j < word s C.order-rows = rw (e .rows-are) at l in
+          stored-kept (s C.orders j) (t C.orders j) (λ k q. sym (e .cells j k h q)) (d .rows j h (rw (e .cells j C.order-live h (omega arith)) at m));
+      totals = λ a l z. total-same t s a z (c a l) ∙ d .totals a l z ∙ sym (ap (λ os. wrap (held a z os)) (live-kept e));
+      counts = λ a l. ap (λ x. x .2) (c a l) ∙ d .counts a l ∙ sym (ap (open-of a) (live-kept e));
+    }
+
+pub numbered-kept : {s t : Store} → Keeps s t → word t C.last ≡ word s C.last →
+    ((j : ℕ) → j < word s C.order-rows → s C.orders j C.order-number ≤ word s C.last) → (j : ℕ) → j < word t C.order-rows → t C.orders j C.order-number ≤ word t C.last
+numbered-kept e w h j l = let m = rw (e .rows-are) at l in rw (w, e .cells j C.order-number m (omega arith)) (h j m)
+
+-- ---- the levels
+
+pub levels-kept : {s t : Store} (z : Side) → size z t ≡ size z s → ((j : ℕ) → j < size z s → row z t j ≡ row z s j) → depth t .resting ≡ depth s .resting → Levels z s → Levels z t
+unfolding entries
+levels-kept {s} {t} z n r e d =
+    record {
+      rising = rw n (ascends-ext key (row z s) (row z t) (size z s) (λ j h. ap key (r j h)) (d .rising));
+      are = ap (best z) (rw n (live-ext (λ r. 1) (row z s) (row z t) (size z s) r)) ∙ d .are ∙ sym (ap (Depth.levels z) e);
+    }
+
+-- ---- from a program to its bytes
+
+module _ (s t : Store) (e : Same s t) (d : Sound s) where
+  abbrev tables : Tables s
+  tables = d .tables
+
+  abbrev bounds : Bounds s
+  bounds = tables .ordered .bounds
+
+  size-same : (z : Side) → size z t ≡ size z s
+  unfolding size
+  size-same z = sym (e C.header 0 (count z) (count-cell z))
+
+  few : (z : Side) → size z s ≤ most-levels
+  unfolding size
+  few Buy = bounds .bids-fit
+  few Sell = bounds .asks-fit
+
+  level-same : (z : Side) → Levels z s → Levels z t
+  level-same z = levels-kept z (size-same z) (λ j h i. record { key = at z j 0 h (omega arith) i; qty = at z j 1 h (omega arith) i; orders = at z j 2 h (omega arith) i }) (resting-kept (same-keeps s t e bounds))
+    where
+      at : (z : Side) (j k : ℕ) → j < size z s → k < 4 → t (block z) j k ≡ s (block z) j k
+      at z j k h l = sym (e (block z) j k (block-cell z j k (omega (arith, few z)) l))
+
+  cache-same : (a : ℕ) → a < owner-slots → caches t a ≡ caches s a
+  cache-same a l = λ i. (at C.account-cash-held (omega arith) i, at C.account-position-held (omega arith) i, at C.account-open-orders (omega arith) i)
+    where
+      at : (k : ℕ) → k < 16 → t C.accounts a k ≡ s C.accounts a k
+      at k q = sym (e C.accounts a k (account-cell a k l q))
+
+  word-same : (k : ℕ) → k < 32 → word t k ≡ word s k
+  word-same k l = sym (e C.header 0 k (header-cell k l))
+
+  pub sound-same : Sound t
+  sound-same =
+      record {
+        tables =
+            record {
+              ordered = ordered-kept (same-keeps s t e bounds) (bounds-same s t e bounds) (tables .ordered);
+              bids = level-same Buy (tables .bids);
+              asks = level-same Sell (tables .asks);
+              live-few = rw (word-same C.live-orders (omega arith)) (tables .live-few);
+              resting-few = rw (word-same C.resting-orders (omega arith)) (tables .resting-few);
+              numbered = numbered-kept (same-keeps s t e bounds) (word-same C.last (omega arith)) (tables .numbered);
+              run = rw (word-same C.flying (omega arith), word-same C.last (omega arith)) (tables .run);
+            };
+        held = held-kept (same-keeps s t e bounds) cache-same (d .held);
+      }
+
+-- a program whose store is sound and holds the gateway g
+pub becomes : {ys : List ℕ} {s : Store} {g : Gateway} → Is ys s → Sound s → gateway s ≡ g → Becomes ys g
+becomes {ys} {s} h d e =
+    let q : Same s (cell ys) = λ b i k c. sym (h .same b i k c) in
+    record { state = record { holds = h .holds; sound = sound-same s (cell ys) q d }; gateway-is = sym (gateway-same s (cell ys) (d .tables .ordered .bounds) q) ∙ e }

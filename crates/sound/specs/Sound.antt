@@ -1,0 +1,67 @@
+-- The representation invariant: rows in use stand in their blocks, tables are in order, and each cache is what the definitions derive.
+use Prim.Native.Nat.{ℕ, _≤_, _<_}
+use mathlib.Core.Path.{_≡_}
+use mathlib.Core.List.{List}
+use Rattle.orderbook.specs.declared.Side.{Side}
+use Rattle.orderbook.specs.declared.Side.the-variants.{Buy, Sell}
+use Rattle.words.specs.Words.{int, wrap}
+use Rattle.table.specs.Live.{Ascends}
+use Rattle.gateway.specs.Limits.{owner-slots, most-orders}
+use Rattle.gateway.specs.Ledger.{order-hold, held, open-of}
+use Rattle.gateway.specs.Depth as Depth
+use Rattle.gateway.specs.Calls.{Gateway}
+use Rattle.store.specs.Cells as C
+use Rattle.store.specs.Layout.{cell, Holds}
+use Rattle.store.specs.View.{Row, Store, word, order, ledger, depth, gateway}
+use Rattle.orders.specs.Orders.{Ordered}
+use Rattle.levels.specs.Levels.{key, row, size, entries, best}
+
+-- ---- what is counted from the live orders
+
+-- the row of a live order stores what the order holds, and its account has a row
+pub record Stored (r : Row) : Type 0 where
+  pub hold-is : int (r C.order-hold) ≡ order-hold (order r)
+  pub owner-is : r C.order-account < owner-slots
+
+-- what an account's orders of a side hold: cash for buys, seats for sells
+abbrev pub held-cell : Side → ℕ
+held-cell Buy = C.account-cash-held
+held-cell Sell = C.account-position-held
+
+-- a total is kept modulo 2^64: it is exact where it fits, which code 7 judges (`total-exact` in proofs/Totals.antt)
+pub record Held (s : Store) : Type 0 where
+  pub rows : (j : ℕ) → j < word s C.order-rows → 0 < s C.orders j C.order-live → Stored (s C.orders j)
+  pub totals : (a : ℕ) → a < owner-slots → (z : Side) → s C.accounts a (held-cell z) ≡ wrap (held a z (ledger s .orders))
+  pub counts : (a : ℕ) → a < owner-slots → s C.accounts a C.account-open-orders ≡ open-of a (ledger s .orders)
+
+-- ---- what is counted from the resting orders: each level's quantity and number of orders, and the number of levels
+pub record Levels (z : Side) (s : Store) : Type 0 where
+  pub rising : Ascends key (row z s) (size z s)
+  pub are : best z (entries z s) ≡ Depth.levels z (depth s .resting)
+
+-- ---- the whole
+
+-- the tables are in order, and in bounds
+pub record Tables (s : Store) : Type 0 where
+  pub ordered : Ordered s
+  pub bids : Levels Buy s
+  pub asks : Levels Sell s
+  pub live-few : word s C.live-orders ≤ most-orders
+  pub resting-few : word s C.resting-orders ≤ most-orders
+  -- commands are numbered one by one: no order has a later number, and those in flight end at the last
+  pub numbered : (j : ℕ) → j < word s C.order-rows → s C.orders j C.order-number ≤ word s C.last
+  pub run : word s C.flying ≤ word s C.last
+
+pub record Sound (s : Store) : Type 0 where
+  pub tables : Tables s
+  pub held : Held s
+
+-- a state stands in xs: document 01's premise that it is the one the last call left
+pub record State (xs : List ℕ) : Type 0 where
+  pub holds : Holds xs
+  pub sound : Sound (cell xs)
+
+-- ys holds a state, and its gateway is g
+pub record Becomes (ys : List ℕ) (g : Gateway) : Type 0 where
+  pub state : State ys
+  pub gateway-is : gateway (cell ys) ≡ g
