@@ -2,6 +2,7 @@
 use mathlib.Core.Path.{_≡_, refl, sym, ap, ap₂, _∙_}
 use mathlib.Core.Logic.{⊎-elim}
 use mathlib.Core.Bool.{cond}
+use mathlib.Core.Option.{some, Option·map}
 use mathlib.Core.List.{List, [], _∷_, _++_}
 use Prim.Native.Nat.{ℕ, zero, suc, _+_, _-_, _%_, _≤_, _<_}
 use native.Mathlib.Omega.{arith}
@@ -9,8 +10,8 @@ use borrow.Author.Tests.{eq-eqb, ne-eqb}
 use lib.Dec.{eqb}
 use lib.ListN.{length, length-append}
 use Rattle.words.specs.Words.{int}
-use Rattle.table.specs.Live.{Changed, without, insert, replace, Ascends}
-use Rattle.table.proofs.Live.{same?, ascends-ext, ascends-open, gap-end}
+use Rattle.table.specs.Live.{Changed, pick, live, without, insert, replace, Ascends}
+use Rattle.table.proofs.Live.{same?, look-some, ascends-ext, ascends-open, gap-end}
 use Rattle.gateway.specs.Calls.{Gateway}
 use Rattle.gateway.specs.Depth as D
 use Rattle.gateway.specs.Ledger.{Order, number-of, remove, with-leaves, with-price}
@@ -20,11 +21,12 @@ use Rattle.store.specs.Cells as C
 use Rattle.store.specs.Layout.{cell}
 use Rattle.store.specs.View.{Row, Store, Same, Is, Ready, word, write, side, maybe-price, order, resting, marked, ledger, depth, gateway, order-room, Bounds}
 use Rattle.store.proofs.Places.{header-cell, order-cell}
+use Rattle.store.proofs.Rows.{put-cell, row-here, row-there}
 use Rattle.store.proofs.Frames.{Agree, order-same, resting-same, gateway-same}
 use Rattle.orders.specs.declared.Live.{Live}
 use Rattle.orders.specs.declared.Resting.{Resting}
-use Rattle.orders.specs.Orders.{hint-slots, either, Flags, Sorted, Ordered, fill, set-leaves, set-price, revise, show, strike, retire, take-off, rest, append}
-use Rattle.orders.proofs.Shown.{shown, shown-ext, shown-more, shown-dead, shown-strike, shown-replace, shown-revive, shown-update, shown-length}
+use Rattle.orders.specs.Orders.{hint-slots, either, Flags, Sorted, Ordered, order-of, fill, set-leaves, set-price, revise, show, strike, retire, take-off, rest, append}
+use Rattle.orders.proofs.Shown.{shown, shown-ext, shown-more, shown-dead, shown-strike, shown-replace, shown-revive, shown-update, shown-length, shown-parts, look-map}
 
 -- the gateway with other lists of orders
 abbrev pub with-lists : List Order → List D.Resting → Gateway → Gateway
@@ -48,10 +50,7 @@ with-lists os rs g =
           };
     }
 
--- r with v in the cell k, and with vs in the cells from k on
-abbrev pub put-cell : ℕ → ℕ → Row → Row
-put-cell k v r l = cond (eqb l k) v (r l)
-
+-- r with vs in the cells from k on
 abbrev pub put-cells : ℕ → List ℕ → Row → Row
 put-cells k [] r = r
 put-cells k (v ∷ vs) r = put-cells (k + 1) vs (put-cell k v r)
@@ -65,16 +64,10 @@ pub record Touched (i : ℕ) (r : Row) (s t : Store) : Type 0 where
 write-touched : (i k v : ℕ) (r : Row) (s t : Store) → Touched i r s t → Touched i (put-cell k v r) s (write C.orders i k v t)
 write-touched i k v r s t c =
     record {
-      here = λ z l. cell-here l z;
-      others = λ j ne. (λ z l. cell-other j ne l z) ∙ c .others j ne;
+      here = row-here C.orders i k v t ∙ ap (put-cell k v) (c .here);
+      others = λ j ne. row-there C.orders i k v t j ne ∙ c .others j ne;
       words = c .words;
     }
-  where
-    cell-here : (l : ℕ) → write C.orders i k v t C.orders i l ≡ put-cell k v r l
-    cell-here l = rw (eq-eqb i i refl) (ap (λ (q : Row). cond (eqb l k) v (q l)) (c .here))
-
-    cell-other : (j : ℕ) → (j ≡ i → ⊥) → (l : ℕ) → write C.orders i k v t C.orders j l ≡ t C.orders j l
-    cell-other j ne l = rw (ne-eqb j i ne) refl
 
 pub fill-touched : (i k : ℕ) (vs : List ℕ) (r : Row) (s t : Store) → Touched i r s t → Touched i (put-cells k vs r) s (fill C.orders i k vs t)
 unfolding fill
@@ -157,23 +150,12 @@ module _ (i : ℕ) (r : Row) (s t : Store) (c : Touched i r s t) where
         flags = λ j l. ⊎-elim (λ (q : j ≡ i). rw (q, c .here) f) (λ q. rw (c .others j q) (d .flags j (rw w at l))) (same? j i);
       }
 
--- the order and the resting order of a number, with these words
-abbrev pub order-of : ℕ → Live → Order
-order-of n o =
-    record {
-      number = n;
-      account = o .account;
-      client-ref = o .«client_ref»;
-      side = side (o .side);
-      price = maybe-price (o .priced) (o .price);
-      leaves = o .leaves;
-    }
-
 -- the order with the price of these words, and v open
 abbrev pub revised : ℕ → ℕ → ℕ → Order → Order
 revised c p v o =
     record { number = o .number; account = o .account; client-ref = o .client-ref; side = o .side; price = maybe-price c p; leaves = v }
 
+-- the resting order of a number, with these words
 abbrev pub resting-of : ℕ → Resting → D.Resting
 resting-of n o = record { number = n; side = side (o .side); price = int (o .price); visible = o .visible; leaves = o .leaves }
 
@@ -272,6 +254,13 @@ module _ (s : Store) (i : ℕ) (d : Ordered s) (l : i < word s C.order-rows) whe
           let z = ap (λ (q : Row). q k) (c .here) in
           omega arith
 
+        -- what stands before the row and behind it stays
+      row-parts : word t C.order-rows ≡ word s C.order-rows →
+          (low : List A) × (high : List A) × (marked s k f ≡ low ++ (pick (was k) (f was) ++ high)) × (marked t k f ≡ low ++ (pick (r k) (f r) ++ high))
+      row-parts n =
+          let (low, high, p, q) = shown-parts number (changed i r s t c k f (word s C.order-rows) l) rising in
+          (low, high, p, ap (shown (λ j. read k f (t C.orders j))) n ∙ q ∙ ap (λ (x : Row). low ++ (pick (x k) (f x) ++ high)) (c .here))
+
     -- where the row is marked, there is one to count
     marked-some : was k ≤ 1 → 0 < was k → 0 < length (marked s k f)
     marked-some a m =
@@ -350,21 +339,40 @@ module _ (s : Store) (i : ℕ) (d : Ordered s) (l : i < word s C.order-rows) whe
   show-does v w m =
       resting-did _ (show i v w s) (fill-touched i C.order-visible (v ∷ w ∷ []) was s s (untouched i s)) refl refl refl refl m
 
+  -- its order
+  pub find-at : 0 < was C.order-live → L.find (was C.order-number) (ledger s .orders) ≡ some (order was)
+  find-at m =
+      look-map (λ (x : ℕ × Order). x .1) number-of (was C.order-number) (live (λ (x : ℕ × Order). x .0) (λ j. read C.order-live order (s C.orders j)) (word s C.order-rows))
+      ∙ ap (Option·map (λ (x : ℕ × Order). x .1))
+      (look-some (λ (x : ℕ × Order). x .0) (λ (x : ℕ × Order). x .1 .number) (λ j. read C.order-live order (s C.orders j)) (was C.order-number) i (word s C.order-rows)
+      (rising C.order-live order number-of (λ r. refl)) l refl m)
+
+  -- how an operation moves the live orders, by its row
+  pub live-parts : (r : Row) (t : Store) (c : Touched i r s t) → word t C.order-rows ≡ word s C.order-rows →
+      (low : List Order) × (high : List Order) × (ledger s .orders ≡ low ++ (pick (was C.order-live) (order was) ++ high)) × (ledger t .orders ≡ low ++ (pick (r C.order-live) (order r) ++ high))
+  live-parts = row-parts C.order-live order number-of (λ r. refl)
+
   pub live-some : 0 < was C.order-live → 0 < word s C.live-orders
   live-some m = rw (d .counted .live-count) (marked-some C.order-live order number-of (λ r. refl) (d .sorted .flags i l .live-is) m)
 
   pub resting-some : 0 < was C.order-resting → 0 < word s C.resting-orders
   resting-some m = rw (d .counted .resting-count) (marked-some C.order-resting resting D.resting-number (λ r. refl) (d .sorted .flags i l .resting-is) m)
 
+  pub revise-touched : (c p v h : ℕ) → Touched i (put-cells C.order-priced (c ∷ p ∷ v ∷ h ∷ []) was) s (revise i c p v h s)
+  revise-touched c p v h = fill-touched i C.order-priced (c ∷ p ∷ v ∷ h ∷ []) was s s (untouched i s)
+
+  pub retire-touched : Touched i (put-cell C.order-kept (was C.order-resting) (put-cell C.order-live 0 was)) s (retire i s)
+  unfolding strike
+  retire-touched =
+      count-touched i C.live-orders (word s C.live-orders - 1) _ s _ (λ j x y z. y)
+      (write-touched i C.order-kept (was C.order-resting) _ s _ (write-touched i C.order-live 0 was s s (untouched i s)))
+
   pub retire-does : 0 < was C.order-live → Did s (retire i s) (remove (was C.order-number) (ledger s .orders)) (depth s .resting)
   unfolding strike
   retire-does m =
       let f = d .sorted .flags i l in
       let t = retire i s in
-      let c =
-      count-touched i C.live-orders (word s C.live-orders - 1) _ s _ (λ j x y z. y)
-      (write-touched i C.order-kept (was C.order-resting) _ s _ (write-touched i C.order-live 0 was s s (untouched i s)))
-      in
+      let c = retire-touched in
       row-did _ t c refl _ _ refl refl
       (record { live-is = omega arith; resting-is = f .resting-is; kept-is = refl })
       (omega (arith, live-some m, f .live-is)) refl

@@ -8,8 +8,9 @@ use lib.ListN.{length, getD}
 use Rattle.table.specs.Live.{look, kept, Ascends}
 use Rattle.table.specs.Table.{Finds, found}
 use Rattle.table.specs.declared.Found.{Found}
+use Rattle.gateway.specs.Ledger.{Order}
 use Rattle.store.specs.Cells as C
-use Rattle.store.specs.View.{Row, Store, word, write, order, resting, marked, order-room, Bounds}
+use Rattle.store.specs.View.{Row, Store, word, write, side, maybe-price, order, resting, marked, order-room, Bounds}
 use Rattle.orders.specs.declared.Live.{Live}
 use Rattle.orders.specs.declared.Resting.{Resting}
 
@@ -65,6 +66,18 @@ live-row r =
 abbrev pub resting-row : Row → Resting
 resting-row r =
     record { side = r C.order-rest-side; price = r C.order-rest-price; visible = r C.order-visible; leaves = r C.order-rest-leaves }
+
+-- the order of a number, with these words
+abbrev pub order-of : ℕ → Live → Order
+order-of n o =
+    record {
+      number = n;
+      account = o .account;
+      client-ref = o .«client_ref»;
+      side = side (o .side);
+      price = maybe-price (o .priced) (o .price);
+      leaves = o .leaves;
+    }
 
 -- of the rows in use, the one that bears the number n and whose cell k is not 0
 abbrev pub FindsRow : ℕ → Store → ℕ → Found → Type 0

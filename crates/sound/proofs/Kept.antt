@@ -49,9 +49,9 @@ held-kept {s} {t} e c d =
       counts = λ a l. ap (λ x. x .2) (c a l) ∙ d .counts a l ∙ sym (ap (open-of a) (live-kept e));
     }
 
-pub numbered-kept : {s t : Store} → Keeps s t → word t C.last ≡ word s C.last →
+pub numbered-kept : {s t : Store} → Keeps s t → word s C.last ≤ word t C.last →
     ((j : ℕ) → j < word s C.order-rows → s C.orders j C.order-number ≤ word s C.last) → (j : ℕ) → j < word t C.order-rows → t C.orders j C.order-number ≤ word t C.last
-numbered-kept e w h j l = let m = rw (e .rows-are) at l in rw (w, e .cells j C.order-number m (omega arith)) (h j m)
+numbered-kept e w h j l = let m = rw (e .rows-are) at l in rw (e .cells j C.order-number m (omega arith)) (omega (arith, h j m))
 
 -- ---- the levels
 
@@ -63,14 +63,43 @@ levels-kept {s} {t} z n r e d =
       are = ap (best z) (rw n (live-ext (λ r. 1) (row z s) (row z t) (size z s) r)) ∙ d .are ∙ sym (ap (Depth.levels z) e);
     }
 
+-- ---- what changes neither orders nor levels
+
+pub record Beside (s t : Store) : Type 0 where
+  pub keeps : Keeps s t
+  pub sizes : (z : Side) → size z t ≡ size z s
+  pub levels-are : (z : Side) (j : ℕ) → j < size z s → row z t j ≡ row z s j
+
+-- the words that may grow: in bounds, and the last number
+pub record Grown (s t : Store) : Type 0 where
+  pub bounds : Bounds t
+  pub last-is : word s C.last ≤ word t C.last
+  pub run : word t C.flying ≤ word t C.last
+
+module _ {s t : Store} (e : Beside s t) (g : Grown s t) where
+  pub tables-beside : Tables s → Tables t
+  tables-beside d =
+      record {
+        ordered = ordered-kept (e .keeps) (g .bounds) (d .ordered);
+        bids = levels-kept Buy (e .sizes Buy) (e .levels-are Buy) (resting-kept (e .keeps)) (d .bids);
+        asks = levels-kept Sell (e .sizes Sell) (e .levels-are Sell) (resting-kept (e .keeps)) (d .asks);
+        live-few = rw (e .keeps .live-are) (d .live-few);
+        resting-few = rw (e .keeps .resting-are) (d .resting-few);
+        numbered = numbered-kept (e .keeps) (g .last-is) (d .numbered);
+        run = g .run;
+      }
+
+  pub sound-beside : ((a : ℕ) → a < owner-slots → caches t a ≡ caches s a) → Sound s → Sound t
+  sound-beside c d = record { tables = tables-beside (d .tables); held = held-kept (e .keeps) c (d .held) }
+
 -- ---- from a program to its bytes
 
 module _ (s t : Store) (e : Same s t) (d : Sound s) where
-  abbrev tables : Tables s
-  tables = d .tables
-
   abbrev bounds : Bounds s
-  bounds = tables .ordered .bounds
+  bounds = d .tables .ordered .bounds
+
+  word-same : (k : ℕ) → k < 32 → word t k ≡ word s k
+  word-same k l = sym (e C.header 0 k (header-cell k l))
 
   size-same : (z : Side) → size z t ≡ size z s
   unfolding size
@@ -81,11 +110,11 @@ module _ (s t : Store) (e : Same s t) (d : Sound s) where
   few Buy = bounds .bids-fit
   few Sell = bounds .asks-fit
 
-  level-same : (z : Side) → Levels z s → Levels z t
-  level-same z = levels-kept z (size-same z) (λ j h i. record { key = at z j 0 h (omega arith) i; qty = at z j 1 h (omega arith) i; orders = at z j 2 h (omega arith) i }) (resting-kept (same-keeps s t e bounds))
+  row-same : (z : Side) (j : ℕ) → j < size z s → row z t j ≡ row z s j
+  row-same z j h = λ i. record { key = at 0 (omega arith) i; qty = at 1 (omega arith) i; orders = at 2 (omega arith) i }
     where
-      at : (z : Side) (j k : ℕ) → j < size z s → k < 4 → t (block z) j k ≡ s (block z) j k
-      at z j k h l = sym (e (block z) j k (block-cell z j k (omega (arith, few z)) l))
+      at : (k : ℕ) → k < 4 → t (block z) j k ≡ s (block z) j k
+      at k l = sym (e (block z) j k (block-cell z j k (omega (arith, few z)) l))
 
   cache-same : (a : ℕ) → a < owner-slots → caches t a ≡ caches s a
   cache-same a l = λ i. (at C.account-cash-held (omega arith) i, at C.account-position-held (omega arith) i, at C.account-open-orders (omega arith) i)
@@ -93,27 +122,22 @@ module _ (s t : Store) (e : Same s t) (d : Sound s) where
       at : (k : ℕ) → k < 16 → t C.accounts a k ≡ s C.accounts a k
       at k q = sym (e C.accounts a k (account-cell a k l q))
 
-  word-same : (k : ℕ) → k < 32 → word t k ≡ word s k
-  word-same k l = sym (e C.header 0 k (header-cell k l))
-
   pub sound-same : Sound t
   sound-same =
-      record {
-        tables =
-            record {
-              ordered = ordered-kept (same-keeps s t e bounds) (bounds-same s t e bounds) (tables .ordered);
-              bids = level-same Buy (tables .bids);
-              asks = level-same Sell (tables .asks);
-              live-few = rw (word-same C.live-orders (omega arith)) (tables .live-few);
-              resting-few = rw (word-same C.resting-orders (omega arith)) (tables .resting-few);
-              numbered = numbered-kept (same-keeps s t e bounds) (word-same C.last (omega arith)) (tables .numbered);
-              run = rw (word-same C.flying (omega arith), word-same C.last (omega arith)) (tables .run);
-            };
-        held = held-kept (same-keeps s t e bounds) cache-same (d .held);
-      }
+      sound-beside
+      (record { keeps = same-keeps s t e bounds; sizes = size-same; levels-are = row-same })
+      (record {
+        bounds = bounds-same s t e bounds;
+        last-is = rw (word-same C.last (omega arith)) (omega arith);
+        run = rw (word-same C.flying (omega arith), word-same C.last (omega arith)) (d .tables .run);
+      })
+      cache-same d
 
 -- a program whose store is sound and holds the gateway g
 pub becomes : {ys : List ℕ} {s : Store} {g : Gateway} → Is ys s → Sound s → gateway s ≡ g → Becomes ys g
 becomes {ys} {s} h d e =
     let q : Same s (cell ys) = λ b i k c. sym (h .same b i k c) in
-    record { state = record { holds = h .holds; sound = sound-same s (cell ys) q d }; gateway-is = sym (gateway-same s (cell ys) (d .tables .ordered .bounds) q) ∙ e }
+    record {
+      state = record { holds = h .holds; sound = sound-same s (cell ys) q d };
+      gateway-is = sym (gateway-same s (cell ys) (d .tables .ordered .bounds) q) ∙ e;
+    }

@@ -8,7 +8,7 @@ use borrow.Author.Tests.{eq-eqb, ne-eqb}
 use lib.Dec.{eqb}
 use Rattle.table.proofs.Live.{same?}
 use Rattle.store.specs.Layout.{cell, store, Cell, Holds, Set}
-use Rattle.store.specs.View.{Store, write, Same, Is}
+use Rattle.store.specs.View.{Row, Store, write, Same, Is}
 use Rattle.store.proofs.Places.{cell-same, cell-other}
 
 -- what `write` leaves in its own cell, and in another
@@ -53,3 +53,26 @@ then-set {xs} {ys} {s} {b} {i} {k} {v} h c e =
 
 pub is-itself : {xs : List ℕ} → Holds xs → Is xs (cell xs)
 is-itself {xs} h = record { holds = h; same = same-refl (cell xs) }
+
+-- ---- a row after a write
+
+-- r with v in the cell k
+abbrev pub put-cell : ℕ → ℕ → Row → Row
+put-cell k v r l = cond (eqb l k) v (r l)
+
+module _ (b i k v : ℕ) (s : Store) where
+  pub row-here : write b i k v s b i ≡ put-cell k v (s b i)
+  row-here = λ z l. at l z
+    where
+      at : (l : ℕ) → write b i k v s b i l ≡ put-cell k v (s b i) l
+      at l = rw (eq-eqb b b refl, eq-eqb i i refl) refl
+
+  pub row-there : (j : ℕ) → (j ≡ i → ⊥) → write b i k v s b j ≡ s b j
+  row-there j n = λ z l. at l z
+    where
+      at : (l : ℕ) → write b i k v s b j l ≡ s b j l
+      at l = rw (eq-eqb b b refl, ne-eqb j i n) refl
+
+  -- what does not read the cell
+  pub row-unread : {B : Type 0} (f : Row → B) → ((r : Row) → f (put-cell k v r) ≡ f r) → (j : ℕ) → f (write b i k v s b j) ≡ f (s b j)
+  row-unread f h j = ⊎-elim (λ (e : j ≡ i). rw e (ap f row-here ∙ h (s b i))) (λ n. ap f (row-there j n)) (same? j i)

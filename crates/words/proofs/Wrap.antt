@@ -1,16 +1,16 @@
 -- Numbers modulo 2^64: the word of a number, and what changes with it. Assumes nothing.
 use mathlib.Core.Path.{_≡_, refl, sym, ap, _∙_}
 use mathlib.Core.Bool.{Bool, true, false}
-use mathlib.Core.Option.{none}
+use mathlib.Core.Option.{none, Option·getD}
 use Prim.Native.Nat.{ℕ, _+_, _-_, _*_, _/_, _%_, _^_, _≤_, _<_}
 use native.Mathlib.Omega.{arith}
 use lib.Dec.{ltb}
 use borrow.Author.Tests.{ltb-true, ltb-false}
 use lib.IntN.{ℤ, pos, negsuc, _+ℤ_, _-ℤ_}
-use Rattle.words.specs.Words.{half, int, _⊖_, fit-in, fit, wrap}
+use Rattle.words.specs.Words.{half, least, most, int, _⊖_, Place, inside, above, below, place-of, nearest-to, fit-in, fit, clamp, wrap}
 use Rattle.words.proofs.Diff.{⊖-ind, pos-is, negsuc-is, ⊖-same, ⊖-add, ⊖-sub}
-use Rattle.words.proofs.Int.{low-is, high, high-is}
-use Rattle.words.proofs.Fit.{lies-above, lies-below}
+use Rattle.words.proofs.Int.{int-zero, int-most, int-least, low-is, high, high-is}
+use Rattle.words.proofs.Fit.{lies-in, lies-above, lies-below}
 
 by-order : {P : Type 0} (m n : ℕ) → (m < n → P) → (n ≤ m → P) → P
 by-order {P} m n f g = go (ltb m n) refl
@@ -98,11 +98,28 @@ fits-wrap p q l k =
     let w = wraps p q in
     by-order r half (λ h. low-is r p q h (omega (arith, w .small, w .same))) (λ h. high-is r p q (w .small) h (omega (arith, w .small, w .same)))
 
+-- where a number lies, and what its word is there
+by-place : (P : Place → Type 0) (p q : ℕ) → (int (wrap (p ⊖ q)) ≡ p ⊖ q → P (inside (p ⊖ q))) → P above → P below → P (place-of (p ⊖ q))
+by-place P p q f g h =
+    by-order p (q + half)
+    (λ l. by-order (p + half) q (λ k. rw (← lies-below p q refl k) h) (λ k. let e = fits-wrap p q l k in rw (← lies-in (wrap (p ⊖ q)) p q refl e l k, e) (f e)))
+    (λ l. rw (← lies-above p q refl l) g)
+
+int-most-wraps : int (wrap most) ≡ most
+int-most-wraps = ap (λ z. int (wrap z)) (sym int-most) ∙ ap int (wrap-int (half - 1) (omega arith)) ∙ int-most
+
+int-least-wraps : int (wrap least) ≡ least
+int-least-wraps = ap (λ z. int (wrap z)) (sym int-least) ∙ ap int (wrap-int half (omega arith)) ∙ int-least
+
+pub int-zero-wraps : int (wrap (pos 0)) ≡ pos 0
+int-zero-wraps = ap (λ z. int (wrap z)) (sym int-zero) ∙ ap int (wrap-int 0 (omega arith)) ∙ int-zero
+
 pub int-wrap : (z : ℤ) → (fit z ≡ none → ⊥) → int (wrap z) ≡ z
-int-wrap z h = let (p, q, e) = diff-of z in rw e (go p q (λ x. h (ap fit e ∙ x)))
-  where
-    go : (p q : ℕ) → (fit (p ⊖ q) ≡ none → ⊥) → int (wrap (p ⊖ q)) ≡ p ⊖ q
-    go p q h =
-        by-order p (q + half)
-        (λ l. by-order (p + half) q (λ k. absurd (h (sym (ap fit-in (lies-below p q refl k))))) (λ k. fits-wrap p q l k))
-        (λ l. absurd (h (sym (ap fit-in (lies-above p q refl l)))))
+int-wrap z h = let (p, q, e) = diff-of z in rw e (by-place (λ x. (fit-in x ≡ none → ⊥) → int (wrap (p ⊖ q)) ≡ p ⊖ q) p q (λ f _. f) (λ n. absurd (n refl)) (λ n. absurd (n refl)) (λ x. h (ap fit e ∙ x)))
+
+-- the nearest number that fits, and a number that fits or else d
+pub clamp-wraps : (z : ℤ) → int (wrap (clamp z)) ≡ clamp z
+clamp-wraps z = let (p, q, e) = diff-of z in rw e (by-place (λ x. int (wrap (nearest-to x)) ≡ nearest-to x) p q (λ f. f) int-most-wraps int-least-wraps)
+
+pub fit-wraps : (z d : ℤ) → int (wrap d) ≡ d → int (wrap (Option·getD (fit z) d)) ≡ Option·getD (fit z) d
+fit-wraps z d k = let (p, q, e) = diff-of z in rw e (by-place (λ x. int (wrap (Option·getD (fit-in x) d)) ≡ Option·getD (fit-in x) d) p q (λ f. f) k k)

@@ -1,0 +1,190 @@
+// Live orders, and what they hold of their accounts' wallets: `place`, `set_leaves`, `traded` and `retire` of exchange.rs.
+// A row is handed on by value, so that it is neither searched nor read twice.
+use orderbook::Side;
+use orders::Live;
+use store::cells;
+use wallet::Wallet;
+ghost use mathlib.Core.Path.{_≡_};
+ghost use Prim.Native.Nat.{_+_, _≤_, _<_};
+ghost use lib.ListN.{length};
+ghost use Rattle.words.specs.Words.{int};
+ghost use Rattle.gateway.specs.Limits.{owner-slots, most-notices};
+ghost use Rattle.gateway.specs.Ledger as Ledger;
+ghost use Rattle.store.specs.Cells as C;
+ghost use Rattle.store.specs.Layout.{cell, Holds};
+ghost use Rattle.store.specs.View.{word, side, order-room, gateway, Is};
+ghost use Rattle.sound.specs.Sound.{held-cell, State, Becomes};
+ghost use Rattle.live.specs.Live as P;
+
+fn side_of(code: u64) -> Side
+    ensures { λ r. ⌜ r ≡ side code ⌝ }
+{
+    if code == 0 { Side::Buy } else { Side::Sell }
+}
+
+// The cell of an account's row with what its orders of a side hold.
+fn held_cell(side: Side) -> usize
+    ensures { λ r. ⌜ (r ≡ held-cell side) × (r < 16) ⌝ }
+{
+    match side {
+        Side::Buy => cells::ACCOUNT_CASH_HELD,
+        Side::Sell => cells::ACCOUNT_POSITION_HELD,
+    }
+}
+
+// What an order with these words holds: nothing without a price.
+fn hold_of(side: u64, priced: u64, price: u64, leaves: u64) -> u64
+    ensures { λ r. ⌜ r ≡ P.hold-word side priced price leaves ⌝ }
+{
+    wallet::held(side_of(side), priced != 0, price, leaves)
+}
+
+fn shift(m: &mut [u8], account: usize, side: Side, old: u64, new: u64)
+    requires { ⌜ Holds (now m) × (account < owner-slots) ⌝ }
+    ensures { λ r. ⌜ Is (now (m .exit)) (P.shift account side old new (cell (now (m .entry)))) ⌝ }
+{
+    let k = held_cell(side);
+    let total = store::get(m, store::ACCOUNTS, account, k);
+    store::set(m, store::ACCOUNTS, account, k, words::shifted(total, old, new));
+}
+
+// The order has this price and this much open, and holds accordingly.
+fn revise(m: &mut [u8], i: usize, o: Live, priced: u64, price: u64, leaves: u64)
+    requires { ⌜ Holds (now m) × (i < order-room) × (o .account < owner-slots) ⌝ }
+    ensures { λ r. ⌜ Is (now (m .exit)) (P.revise i o priced price leaves (cell (now (m .entry)))) ⌝ }
+{
+    let hold = hold_of(o.side, priced, price, leaves);
+    orders::revise(m, i, priced, price, leaves, hold);
+    shift(m, o.account as usize, side_of(o.side), o.hold, hold);
+}
+
+// The order's open quantity is now `leaves`: what it holds follows.
+pub fn set_leaves(m: &mut [u8], i: usize, o: Live, leaves: u64)
+    requires { ⌜ State (now m) × P.At i o (cell (now m)) ⌝ }
+    ensures { λ r. ⌜ Becomes (now (m .exit)) (P.with-ledger (Ledger.change (Ledger.set-leaves (P.number-at i (cell (now (m .entry)))) leaves)) (gateway (cell (now (m .entry))))) ⌝ }
+{
+    revise(m, i, o, o.priced, o.price, leaves);
+}
+
+// The order ends: what it held goes back, and its account has one order less.
+fn end(m: &mut [u8], i: usize, o: Live)
+    requires { ⌜ Holds (now m) × (i < order-room) × (o .account < owner-slots) × (0 < word (cell (now m)) C.live-orders) × (0 < cell (now m) C.accounts (o .account) C.account-open-orders) ⌝ }
+    ensures { λ r. ⌜ Is (now (m .exit)) (P.retire i o (cell (now (m .entry)))) ⌝ }
+{
+    let a = o.account as usize;
+    let open = store::get(m, store::ACCOUNTS, a, cells::ACCOUNT_OPEN_ORDERS);
+    orders::retire(m, i);
+    store::set(m, store::ACCOUNTS, a, cells::ACCOUNT_OPEN_ORDERS, open - 1);
+    shift(m, a, side_of(o.side), o.hold, 0);
+}
+
+// The order has left the book.
+pub fn retire(m: &mut [u8], i: usize, o: Live)
+    requires { ⌜ State (now m) × P.At i o (cell (now m)) ⌝ }
+    ensures { λ r. ⌜ Becomes (now (m .exit)) (P.with-ledger (Ledger.change (Ledger.retire (P.number-at i (cell (now (m .entry)))))) (gateway (cell (now (m .entry))))) ⌝ }
+{
+    end(m, i, o);
+}
+
+// An order with nothing left is done.
+fn leave(m: &mut [u8], i: usize, o: Live, priced: u64, price: u64, leaves: u64)
+    requires { ⌜ Holds (now m) × (i < order-room) × (o .account < owner-slots) × (0 < word (cell (now m)) C.live-orders) × (0 < cell (now m) C.accounts (o .account) C.account-open-orders) ⌝ }
+    ensures { λ r. ⌜ Is (now (m .exit)) (P.left i o priced price leaves (cell (now (m .entry)))) ⌝ }
+{
+    if leaves == 0 {
+        end(m, i, o);
+        return;
+    }
+    revise(m, i, o, priced, price, leaves);
+}
+
+// A modify changed its price and its open quantity.
+pub fn reprice(m: &mut [u8], i: usize, o: Live, price: u64, leaves: u64)
+    requires { ⌜ State (now m) × P.At i o (cell (now m)) ⌝ }
+    ensures { λ r. ⌜ Becomes (now (m .exit)) (P.with-ledger (Ledger.change (Ledger.reprice (P.number-at i (cell (now (m .entry)))) (int price) leaves)) (gateway (cell (now (m .entry))))) ⌝ }
+{
+    leave(m, i, o, 1, price, leaves);
+}
+
+fn settle(m: &mut [u8], account: usize, side: Side, price: u64, qty: u64)
+    requires { ⌜ Holds (now m) × (account < owner-slots) ⌝ }
+    ensures { λ r. ⌜ Is (now (m .exit)) (P.settle account side price qty (cell (now (m .entry)))) ⌝ }
+{
+    let before = Wallet {
+        cash: store::get(m, store::ACCOUNTS, account, cells::ACCOUNT_CASH),
+        position: store::get(m, store::ACCOUNTS, account, cells::ACCOUNT_POSITION),
+        cash_held: 0,
+        position_held: 0,
+    };
+    let after = before.settle(side, price, qty);
+    store::set(m, store::ACCOUNTS, account, cells::ACCOUNT_CASH, after.cash);
+    store::set(m, store::ACCOUNTS, account, cells::ACCOUNT_POSITION, after.position);
+}
+
+// The account pays or is paid, where it has a wallet.
+fn pay(m: &mut [u8], account: usize, side: Side, price: u64, qty: u64)
+    requires { ⌜ Holds (now m) × (account < owner-slots) ⌝ }
+    ensures { λ r. ⌜ Is (now (m .exit)) (P.pay account side price qty (cell (now (m .entry)))) ⌝ }
+{
+    if store::get(m, store::ACCOUNTS, account, cells::ACCOUNT_FUNDED) == 0 {
+        return;
+    }
+    settle(m, account, side, price, qty);
+}
+
+// The order traded `qty` at `price`, and has `leaves` open.
+pub fn traded(m: &mut [u8], i: usize, o: Live, price: u64, qty: u64, leaves: u64)
+    requires { ⌜ State (now m) × P.At i o (cell (now m)) ⌝ }
+    ensures { λ r. ⌜ Becomes (now (m .exit)) (P.with-ledger (Ledger.change (Ledger.fill (P.number-at i (cell (now (m .entry)))) (int price) qty leaves)) (gateway (cell (now (m .entry))))) ⌝ }
+{
+    pay(m, o.account as usize, side_of(o.side), price, qty);
+    leave(m, i, o, o.priced, o.price, leaves);
+}
+
+// A new order, numbered above those of the table; its hold is not read but found.
+pub fn place(m: &mut [u8], number: u64, o: Live)
+    requires { ⌜ State (now m) × P.CanPlace number o (cell (now m)) ⌝ }
+    ensures { λ r. ⌜ Becomes (now (m .exit)) (P.with-ledger (P.placing number o) (gateway (cell (now (m .entry))))) ⌝ }
+{
+    let a = o.account as usize;
+    let hold = hold_of(o.side, o.priced, o.price, o.leaves);
+    let open = store::get(m, store::ACCOUNTS, a, cells::ACCOUNT_OPEN_ORDERS);
+    orders::make_room(m);
+    orders::append(
+        m,
+        number,
+        Live {
+            account: o.account,
+            client_ref: o.client_ref,
+            side: o.side,
+            priced: o.priced,
+            price: o.price,
+            leaves: o.leaves,
+            hold: hold,
+        },
+    );
+    store::set(m, store::ACCOUNTS, a, cells::ACCOUNT_OPEN_ORDERS, open + 1);
+    shift(m, a, side_of(o.side), 0, hold);
+}
+
+// A notice that the account's wallet changed, where it has one.
+pub fn notice(m: &mut [u8], account: u64)
+    requires { ⌜ State (now m) × (account < owner-slots) × (length (P.wallet-notice account (cell (now m))) + word (cell (now m)) C.notice-rows ≤ most-notices) ⌝ }
+    ensures { λ r. ⌜ Becomes (now (m .exit)) (P.with-notices (P.wallet-notice account (cell (now (m .entry)))) (gateway (cell (now (m .entry))))) ⌝ }
+{
+    if store::get(m, store::ACCOUNTS, account as usize, cells::ACCOUNT_FUNDED) == 0 {
+        return;
+    }
+    pending::push_notice(m, account);
+}
+
+// A notice that what the account's order holds went from `old` to `new`.
+pub fn notice_hold(m: &mut [u8], account: u64, old: u64, new: u64)
+    requires { ⌜ State (now m) × (account < owner-slots) × (length (P.hold-notice account (int old) (int new) (cell (now m))) + word (cell (now m)) C.notice-rows ≤ most-notices) ⌝ }
+    ensures { λ r. ⌜ Becomes (now (m .exit)) (P.with-notices (P.hold-notice account (int old) (int new) (cell (now (m .entry)))) (gateway (cell (now (m .entry))))) ⌝ }
+{
+    if old == new {
+        return;
+    }
+    notice(m, account);
+}
