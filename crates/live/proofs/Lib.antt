@@ -1,1 +1,4 @@
-
+pub mod Accounts
+pub mod Views
+pub mod Money
+pub mod Placed

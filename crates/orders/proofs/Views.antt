@@ -414,13 +414,13 @@ module _ (s : Store) (i : ℕ) (d : Ordered s) (l : i < word s C.order-rows) whe
 -- ---- a row more
 
 module _ (s : Store) (n : ℕ) (o : Live) where
-  abbrev next : ℕ
+  abbrev pub next : ℕ
   next = word s C.order-rows
 
-  abbrev new-row : Row
+  abbrev pub new-row : Row
   new-row = put-cells C.order-number (n ∷ 1 ∷ 0 ∷ 1 ∷ o .account ∷ o .«client_ref» ∷ o .side ∷ o .priced ∷ o .price ∷ o .leaves ∷ o .hold ∷ []) (s C.orders next)
 
-  append-touched : Touched next new-row s (append n o s)
+  pub append-touched : Touched next new-row s (append n o s)
   unfolding append fill
   append-touched =
       hint-touched next (n % hint-slots) next _ s _

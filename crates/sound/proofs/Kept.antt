@@ -22,6 +22,11 @@ use Rattle.levels.specs.Levels.{block, count, key, row, size, entries, best}
 use Rattle.levels.proofs.Laws.{count-cell, block-cell}
 use Rattle.sound.specs.Sound.{Stored, held-cell, Held, Levels, Tables, Sound, State, Becomes}
 
+-- for each side
+pub sided : (P : Side → Type 0) → P Buy → P Sell → (z : Side) → P z
+sided P b a Buy = b
+sided P b a Sell = a
+
 -- ---- the live orders' caches
 
 -- the three cells of an account's row

@@ -92,11 +92,9 @@ total-exact s a z d l f = ap int (d .totals a l z) ∙ int-wrap (held a z (ledge
 
 -- ---- one order comes, changes or goes
 
--- the orders of account c and side w that x has give way to y
-pub record Swapped (s t : Store) (c : ℕ) (w : Side) : Type 0 where
+-- orders of account c and side w give way to others
+pub record Swapped (s t : Store) (c : ℕ) (w : Side) (old new : List Order) : Type 0 where
   pub low : List Order
-  pub old : List Order
-  pub new : List Order
   pub high : List Order
   pub from : ledger s .orders ≡ low ++ (old ++ high)
   pub to : ledger t .orders ≡ low ++ (new ++ high)
@@ -119,20 +117,21 @@ same-is Sell Sell e = refl
 same-is Buy Sell e = absurd (true≢false (sym e))
 same-is Sell Buy e = absurd (true≢false (sym e))
 
-module _ {s t : Store} {c : ℕ} {w : Side} (p : Swapped s t c w) (n : Counts s t c w (held c w (p .old)) (held c w (p .new)) (open-of c (p .old)) (open-of c (p .new))) (d : Held s) where
+module _ {s t : Store} {c : ℕ} {w : Side} {x y : ℤ} {m k : ℕ} {old new : List Order} (p : Swapped s t c w old new) (n : Counts s t c w x y m k) (d : Held s)
+    (xe : x ≡ held c w old) (ye : y ≡ held c w new) (me : m ≡ open-of c old) (ke : k ≡ open-of c new) where
   foreign : (a : ℕ) → (a ≡ c → ⊥) → (l : List Order) → Each (λ o. (o .account ≡ c) × (o .side ≡ w)) l → Each (λ o. o .account ≡ a → ⊥) l
   foreign a n l e = each-map (λ o q r. n (sym r ∙ q .0)) l e
 
   opposed : (z : Side) → same-side z w ≡ false → (l : List Order) → Each (λ o. (o .account ≡ c) × (o .side ≡ w)) l → Each (λ o. same-side z (o .side) ≡ false) l
   opposed z n l e = each-map (λ o q. ap (same-side z) (q .1) ∙ n) l e
 
-  held-is : (a : ℕ) (z : Side) → held a z (ledger t .orders) ≡ held a z (ledger s .orders) -ℤ held a z (p .old) +ℤ held a z (p .new)
-  held-is a z = rw (p .from, p .to) (held-parts a z (p .low) (p .old) (p .new) (p .high))
+  held-is : (a : ℕ) (z : Side) → held a z (ledger t .orders) ≡ held a z (ledger s .orders) -ℤ held a z old +ℤ held a z new
+  held-is a z = rw (p .from, p .to) (held-parts a z (p .low) old new (p .high))
 
-  open-is : (a : ℕ) → open-of a (ledger t .orders) + open-of a (p .old) ≡ open-of a (ledger s .orders) + open-of a (p .new)
-  open-is a = rw (p .from, p .to) (open-parts a (p .low) (p .old) (p .new) (p .high))
+  open-is : (a : ℕ) → open-of a (ledger t .orders) + open-of a old ≡ open-of a (ledger s .orders) + open-of a new
+  open-is a = rw (p .from, p .to) (open-parts a (p .low) old new (p .high))
 
-  stays : (a : ℕ) (z : Side) → held a z (p .old) ≡ pos 0 → held a z (p .new) ≡ pos 0 → wrap (held a z (ledger s .orders)) ≡ wrap (held a z (ledger t .orders))
+  stays : (a : ℕ) (z : Side) → held a z old ≡ pos 0 → held a z new ≡ pos 0 → wrap (held a z (ledger s .orders)) ≡ wrap (held a z (ledger t .orders))
   stays a z x y = sym (ap wrap (held-is a z ∙ no-change (held a z (ledger s .orders)) x y))
 
   totals-swapped : (a : ℕ) → a < owner-slots → (z : Side) → t C.accounts a (held-cell z) ≡ wrap (held a z (ledger t .orders))
@@ -143,25 +142,25 @@ module _ {s t : Store} {c : ℕ} {w : Side} (p : Swapped s t c w) (n : Counts s 
       (λ _ q.
       let i = same-is z w q in
       rw (e, i)
-      (n .total ∙ ap (λ v. wrap (int v -ℤ held c w (p .old) +ℤ held c w (p .new))) (d .totals c (rw (← e) l) w)
-      ∙ wrap-shift (held c w (ledger s .orders)) (held c w (p .old)) (held c w (p .new)) ∙ sym (ap wrap (held-is c w))))
+      (n .total ∙ (λ i. wrap (int (d .totals c (rw (← e) l) w i) -ℤ xe i +ℤ ye i))
+      ∙ wrap-shift (held c w (ledger s .orders)) (held c w old) (held c w new) ∙ sym (ap wrap (held-is c w))))
       (λ _ q.
       rw e
       (n .opposite z q ∙ d .totals c (rw (← e) l) z
-      ∙ stays c z (held-opposite c z (p .old) (opposed z q (p .old) (p .old-mine))) (held-opposite c z (p .new) (opposed z q (p .new) (p .new-mine)))))
+      ∙ stays c z (held-opposite c z old (opposed z q old (p .old-mine))) (held-opposite c z new (opposed z q new (p .new-mine)))))
       refl)
       (λ e.
       total-same t s a z (n .others a e) ∙ d .totals a l z
-      ∙ stays a z (held-foreign a z (p .old) (foreign a e (p .old) (p .old-mine))) (held-foreign a z (p .new) (foreign a e (p .new) (p .new-mine))))
+      ∙ stays a z (held-foreign a z old (foreign a e old (p .old-mine))) (held-foreign a z new (foreign a e new (p .new-mine))))
       (same? a c)
 
   counts-swapped : (a : ℕ) → a < owner-slots → t C.accounts a C.account-open-orders ≡ open-of a (ledger t .orders)
   counts-swapped a l =
       ⊎-elim
-      (λ (e : a ≡ c). rw e (omega (arith, n .count, d .counts c (rw (← e) l), open-is c)))
+      (λ (e : a ≡ c). rw e (omega (arith, n .count, me, ke, d .counts c (rw (← e) l), open-is c)))
       (λ e.
       ap (λ x. x .2) (n .others a e)
-      ∙ omega (arith, d .counts a l, open-is a, open-foreign a (p .old) (foreign a e (p .old) (p .old-mine)), open-foreign a (p .new) (foreign a e (p .new) (p .new-mine))))
+      ∙ omega (arith, d .counts a l, open-is a, open-foreign a old (foreign a e old (p .old-mine)), open-foreign a new (foreign a e new (p .new-mine))))
       (same? a c)
 
   pub held-swapped : ((j : ℕ) → j < word t C.order-rows → 0 < t C.orders j C.order-live → Stored (t C.orders j)) → Held t

@@ -1,0 +1,166 @@
+-- Writes to an account's row: what the gateway sees of them, the tables that they leave alone, and the cells that follow a live order. Assumes nothing.
+use mathlib.Core.Path.{_≡_, refl, sym, ap, ap₂, _∙_}
+use mathlib.Core.Logic.{⊎-elim}
+use mathlib.Core.Bool.{true, false, cond, true≢false}
+use mathlib.Core.List.{List, [], _∷_, _++_, append-nil}
+use mathlib.Core.Option.{Option, none, some}
+use Prim.Native.Nat.{ℕ, zero, suc, _+_, _-_, _%_, _≤_, _<_}
+use native.Mathlib.Omega.{arith}
+use borrow.Author.Tests.{eq-eqb, ne-eqb}
+use lib.Dec.{eqb}
+use lib.ListN.{length}
+use lib.IntN.{ℤ, pos, _+ℤ_, _-ℤ_, _*ℤ_, +ℤ-idr}
+use Rattle.orderbook.specs.declared.Side.{Side}
+use Rattle.orderbook.specs.declared.Side.the-variants.{Buy, Sell}
+use Rattle.orderbook.specs.declared.MaybePrice.{MaybePrice}
+use Rattle.orderbook.specs.declared.MaybePrice.the-variants.{None, Some}
+use Rattle.accounts.specs.declared.Account.{Account}
+use Rattle.accounts.specs.declared.Funds.{Funds}
+use Rattle.risk.specs.declared.Bucket.{Bucket}
+use Rattle.words.specs.Words.{int, fit, wrap}
+use Rattle.words.proofs.Int.{int-zero}
+use Rattle.words.proofs.Wrap.{int-zero-wraps, fit-wraps}
+use Rattle.wallet.specs.Wallet as W
+use Rattle.table.specs.Live.{pick, Each}
+use Rattle.table.proofs.Live.{same?}
+use Rattle.gateway.specs.Limits.{owner-slots, most-orders}
+use Rattle.gateway.specs.Table.{update}
+use Rattle.gateway.specs.Ledger.{Order, Ledger, number-of, remove, with-orders, with-leaves, with-price, hold, order-hold, same-side, held, open-of, price-option}
+use Rattle.gateway.specs.Ledger as Ledger
+use Rattle.gateway.specs.Rest.{with-buckets}
+use Rattle.gateway.specs.Calls.{Gateway}
+use Rattle.gateway.proofs.Base.{split}
+use Rattle.store.specs.Cells as C
+use Rattle.store.specs.View.{Row, Store, word, write, side, maybe-price, order, account, wallet, bucket, ledger, depth, gateway, order-room, listed, Bounds}
+use Rattle.store.proofs.Listed.{listed-ext}
+use Rattle.store.proofs.Rows.{put-cell, row-here, row-there, row-unread}
+use Rattle.orders.specs.declared.Live.{Live}
+use Rattle.orders.specs.Orders.{Ordered, live-row, order-of, fill, strike}
+use Rattle.orders.specs.Orders as Orders
+use Rattle.orders.proofs.Views.{Touched, Did, put-cells, revised, bounds-from, revise-touched, retire-touched, revise-does, retire-does, live-parts}
+use Rattle.levels.specs.Levels.{size, row}
+use Rattle.sound.specs.Sound.{Stored, held-cell, Held, Levels, Tables, Sound}
+use Rattle.sound.proofs.Kept.{sided, tables-beside}
+use Rattle.sound.proofs.Totals.{Swapped, Counts, held-swapped}
+use Rattle.live.specs.Live.{At, number-at, with-ledger, hold-word, shift, revise, retire, left}
+
+-- ---- cells of an account's row
+
+-- the gateway with other wallets, buckets and accounts
+abbrev pub with-clients : List (Option Funds) → List Bucket → List (Option Account) → Gateway → Gateway
+with-clients ws bs cs g =
+    let l = g .core .ledger in
+    let r = g .rest in
+    record {
+      core = record { ledger = record { last = l .last; wallets = ws; orders = l .orders; mark = l .mark }; flights = g .core .flights; accounts = cs };
+      rest = with-buckets bs r;
+    }
+
+module _ (a k v : ℕ) (s : Store) (x : (i : ℕ) (r : Row) → account i (put-cell k v r) ≡ account i r) (y : (r : Row) → bucket (put-cell k v r) ≡ bucket r) where
+  abbrev after : Store
+  after = write C.accounts a k v s
+
+  -- a cell that the wallets alone may read
+  pub wallets-view : gateway after ≡ with-clients (listed (λ i. wallet (after C.accounts i)) owner-slots) (gateway s .rest .buckets) (gateway s .core .accounts) (gateway s)
+  wallets-view =
+      ap₂ (λ bs cs. with-clients (listed (λ i. wallet (after C.accounts i)) owner-slots) bs cs (gateway s))
+      (listed-ext (λ i. bucket (s C.accounts i)) (λ i. bucket (after C.accounts i)) owner-slots (λ j l. row-unread C.accounts a k v s bucket y j))
+      (listed-ext (λ i. account i (s C.accounts i)) (λ i. account i (after C.accounts i)) (word s C.owner-limit) (λ j l. row-unread C.accounts a k v s (account j) (x j) j))
+
+  -- and one that they do not read either
+  pub unread-view : ((r : Row) → wallet (put-cell k v r) ≡ wallet r) → gateway after ≡ gateway s
+  unread-view w =
+      wallets-view
+      ∙ ap (λ ws. with-clients ws (gateway s .rest .buckets) (gateway s .core .accounts) (gateway s))
+      (listed-ext (λ i. wallet (s C.accounts i)) (λ i. wallet (after C.accounts i)) owner-slots (λ j l. row-unread C.accounts a k v s wallet w j))
+
+pub shift-view : (a : ℕ) (z : Side) (old new : ℕ) (s : Store) → gateway (shift a z old new s) ≡ gateway s
+unfolding shift
+shift-view a Buy old new s = unread-view a C.account-cash-held _ s (λ i r. refl) (λ r. refl) (λ r. refl)
+shift-view a Sell old new s = unread-view a C.account-position-held _ s (λ i r. refl) (λ r. refl) (λ r. refl)
+
+pub open-view : (a v : ℕ) (s : Store) → gateway (write C.accounts a C.account-open-orders v s) ≡ gateway s
+open-view a v s = unread-view a C.account-open-orders v s (λ i r. refl) (λ r. refl) (λ r. refl)
+
+-- the tables are elsewhere
+pub tables-write : (a k v : ℕ) (s : Store) → Tables s → Tables (write C.accounts a k v s)
+unfolding size
+tables-write a k v s d =
+    tables-beside
+    (record {
+      keeps = record { rows-are = refl; live-are = refl; resting-are = refl; cells = λ j k l m. refl };
+      sizes = λ z. refl;
+      levels-are = sided (λ z. (j : ℕ) → j < size z s → row z (write C.accounts a k v s) j ≡ row z s j) (λ j l. refl) (λ j l. refl);
+    })
+    (record { bounds = bounds-from s (write C.accounts a k v s) (λ k l x y z. refl) (d .ordered .bounds .orders-fit) (d .ordered .bounds); last-is = omega arith; run = d .run })
+    d
+
+pub tables-shift : (a : ℕ) (z : Side) (old new : ℕ) (s : Store) → Tables s → Tables (shift a z old new s)
+unfolding shift
+tables-shift a z old new s = tables-write a (held-cell z) _ s
+
+-- ---- the cells that follow a live order
+
+-- how many there are does not change
+module _ (c old new n : ℕ) (s : Store) where
+  pub shift-counts : (w : Side) → Counts s (shift c w old new s) c w (int old) (int new) n n
+  unfolding shift
+  shift-counts Buy =
+      record {
+        others = λ a e. rw (ne-eqb a c e) refl;
+        opposite = λ z e. other z e;
+        total = rw (eq-eqb c c refl) refl;
+        count = rw (eq-eqb c c refl) refl;
+      }
+    where
+      other : (z : Side) → same-side z Buy ≡ false → shift c Buy old new s C.accounts c (held-cell z) ≡ s C.accounts c (held-cell z)
+      other Buy e = absurd (true≢false e)
+      other Sell e = rw (eq-eqb c c refl) refl
+  shift-counts Sell =
+      record {
+        others = λ a e. rw (ne-eqb a c e) refl;
+        opposite = λ z e. other z e;
+        total = rw (eq-eqb c c refl) refl;
+        count = rw (eq-eqb c c refl) refl;
+      }
+    where
+      other : (z : Side) → same-side z Sell ≡ false → shift c Sell old new s C.accounts c (held-cell z) ≡ s C.accounts c (held-cell z)
+      other Buy e = rw (eq-eqb c c refl) refl
+      other Sell e = absurd (true≢false e)
+
+-- and where it does
+pub open-counts : (c v : ℕ) (s : Store) (t : Store) (w : Side) (x y : ℤ) (m n : ℕ) → v + m ≡ s C.accounts c C.account-open-orders + n →
+    Counts (write C.accounts c C.account-open-orders v s) t c w x y 0 0 → Counts s t c w x y m n
+open-counts c v s t w x y m n q e =
+    record {
+      others = λ a ne. e .others a ne ∙ rw (ne-eqb a c ne) refl;
+      opposite = λ z ne. e .opposite z ne ∙ held-other z;
+      total = e .total ∙ ap (λ b. wrap (int b -ℤ x +ℤ y)) (held-other w);
+      count = let f = e .count in let g : write C.accounts c C.account-open-orders v s C.accounts c C.account-open-orders ≡ v = rw (eq-eqb c c refl) refl in omega arith;
+    }
+  where
+    held-other : (z : Side) → write C.accounts c C.account-open-orders v s C.accounts c (held-cell z) ≡ s C.accounts c (held-cell z)
+    held-other Buy = rw (eq-eqb c c refl) refl
+    held-other Sell = rw (eq-eqb c c refl) refl
+
+-- ---- holds
+
+held-price : (z : Side) (p : Option ℤ) (v : ℕ) → int (wrap (W.held z p v)) ≡ W.held z p v
+held-price z none v = int-zero-wraps
+held-price Buy (some p) v = fit-wraps (p *ℤ pos v) (pos 0) int-zero-wraps
+held-price Sell (some p) v = fit-wraps (pos v) (pos 0) int-zero-wraps
+
+pub hold-is : (z c p v : ℕ) → int (hold-word z c p v) ≡ hold (side z) (maybe-price c p) v
+unfolding hold-word hold
+hold-is z c p v = held-price (side z) (price-option (maybe-price c p)) v
+
+itself : (z : Side) → same-side z z ≡ true
+itself Buy = refl
+itself Sell = refl
+
+pub held-one : (o : Order) → held (o .account) (o .side) (o ∷ []) ≡ order-hold o
+held-one o = rw (eq-eqb (o .account) (o .account) refl, itself (o .side)) (+ℤ-idr (order-hold o))
+
+pub open-one : (o : Order) → open-of (o .account) (o ∷ []) ≡ 1
+open-one o = rw (eq-eqb (o .account) (o .account) refl) refl
+
