@@ -3,8 +3,9 @@ pub mod cells;
 
 ghost use mathlib.Core.Path.{_≡_};
 ghost use Prim.Native.Nat.{_<_};
-ghost use Rattle.store.specs.View.{Is, zeros};
-ghost use Rattle.store.specs.Layout.{blocks, cells, start, width, spot, cell, Cell, Holds, Set};
+ghost use lib.ListN.{length};
+ghost use Rattle.store.specs.View.{fill, Is, zeros};
+ghost use Rattle.store.specs.Layout.{blocks, cells, start, width, spot, cell, Cell, Cells, Holds, Set};
 
 pub const HEADER: usize = 0;
 
@@ -83,6 +84,18 @@ pub fn set(m: &mut [u8], b: usize, i: usize, k: usize, v: u64)
     ensures { λ r. ⌜ Set (now (m .entry)) (now (m .exit)) b i k v ⌝ }
 {
     le::put_u64(m, 8 * spot_of(b, i, k), v);
+}
+
+// The numbers vs in the cells of a row, from k on.
+pub fn fill(m: &mut [u8], b: usize, i: usize, k: usize, vs: &[u64])
+    requires { ⌜ Holds (now m) × Cells b i k (length (now vs)) ⌝ }
+    ensures { λ r. ⌜ Is (now (m .exit)) (fill b i k (now (vs .entry)) (cell (now (m .entry)))) ⌝ }
+{
+    let mut j: usize = 0;
+    while j < vs.len() {
+        set(m, b, i, k + j, vs[j]);
+        j += 1;
+    }
 }
 
 // Every cell 0: a gateway with no accounts and no orders.
