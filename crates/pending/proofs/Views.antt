@@ -14,7 +14,7 @@ use Rattle.gateway.specs.Entry.{noticing}
 use Rattle.gateway.specs.Entry as Entry
 use Rattle.gateway.specs.Rest.{Rest, pending}
 use Rattle.store.specs.Cells as C
-use Rattle.store.specs.View.{Row, Store, listed, flag, optional, side, word, in-slot, flights, gateway}
+use Rattle.store.specs.View.{Row, Store, fill, listed, flag, optional, side, word, in-slot, flights, gateway}
 use Rattle.store.proofs.Listed.{listed-ext, listed-more}
 use Rattle.pending.specs.Pending as P
 
@@ -26,6 +26,7 @@ abbrev with-rest : (Rest → Rest) → Gateway → Gateway
 with-rest f g = record { core = g .core; rest = f (g .rest) }
 
 pub notice-view : (a : ℕ) (s : Store) → gateway (P.notice a s) ≡ with-rest (noticing (a ∷ [])) (gateway s)
+unfolding fill
 notice-view a s =
     ap (λ ns. with-rest (λ r. pending (r .depth) (r .trades) ns r) (gateway s))
     (listed-push (λ i. s C.notices i C.notice-account) (λ i. P.notice a s C.notices i C.notice-account) (word s C.notice-rows) a
@@ -37,6 +38,7 @@ tick seq id s p q = record { seq = seq; «trade_id» = id; side = side s; price 
 
 pub trade-view : (seq id x p q : ℕ) (s : Store) →
     gateway (P.trade seq id x p q s) ≡ with-rest (λ r. pending (r .depth) (r .trades ++ (tick seq id x p q ∷ [])) (r .notices) r) (gateway s)
+unfolding fill
 trade-view seq id x p q s =
     ap (λ ts. with-rest (λ r. pending (r .depth) ts (r .notices) r) (gateway s))
     (listed-push (λ i. read (s C.trades i)) (λ i. read (P.trade seq id x p q s C.trades i)) n (tick seq id x p q)
@@ -67,9 +69,11 @@ module _ (sender owner places : ℕ) (s : Store) (few : word s C.flying < most-i
   new = record { number = next; session = optional sender; owner = owner; places = flag places }
 
   old-slot : (n : ℕ) → n < next → next < n + most-in-flight → in-slot (P.take-off sender owner places s) n ≡ in-slot s n
+  unfolding fill
   old-slot n h k = rw (ne-eqb (n % most-in-flight) (next % most-in-flight) (slots-apart n next h k)) refl
 
   new-slot : in-slot (P.take-off sender owner places s) next ≡ new
+  unfolding fill
   new-slot = rw (eq-eqb (next % most-in-flight) (next % most-in-flight) refl) refl
 
   flights-more : flights (P.take-off sender owner places s) ≡ flights s ++ (new ∷ [])
@@ -97,6 +101,7 @@ module _ (sender owner places : ℕ) (s : Store) (few : word s C.flying < most-i
 
   -- the run grows by the next number, which is the last
   pub take-off-view : gateway (P.take-off sender owner places s) ≡ numbered (gateway s)
+  unfolding fill
   take-off-view =
       ap (λ fs. record { core = record { ledger = numbered (gateway s) .core .ledger; flights = fs; accounts = gateway s .core .accounts }; rest = gateway s .rest }) flights-more
 
