@@ -5,8 +5,8 @@ use Prim.Native.Nat.{ℕ, _+_, _-_, _%_, _<_}
 use native.Mathlib.Omega.{arith}
 use Rattle.gateway.specs.Limits.{most-in-flight}
 use Rattle.store.specs.Cells as C
-use Rattle.store.specs.Layout.{cell, Set}
-use Rattle.store.specs.View.{word, fill, Is, Ready}
+use Rattle.store.specs.Layout.{cell, Holds, Set}
+use Rattle.store.specs.View.{word, write, fill, Is, Ready}
 use Rattle.store.proofs.Places.{header-cell}
 use Rattle.store.proofs.Rows.{then-set, is-itself}
 use Rattle.pending.specs.Pending as P
@@ -14,6 +14,9 @@ use Rattle.pending.specs.Pending as P
 pub push-row-is : (xs : List ℕ) {ys zs : List ℕ} (b k : ℕ) (vs : List ℕ) (n : ℕ) → n ≡ word (cell xs) k → k < 32 →
     Is ys (fill b n 0 vs (cell xs)) → Set ys zs C.header 0 k (n + 1) → Is zs (P.push-row b k vs (cell xs))
 push-row-is xs b k vs n e l p q = rw (← e) (then-set p (header-cell k l) q)
+
+pub set-word-is : {xs ys : List ℕ} (k v : ℕ) → Holds xs → k < 32 → Set xs ys C.header 0 k v → Is ys (write C.header 0 k v (cell xs))
+set-word-is k v h l p = then-set (is-itself h) (header-cell k l) p
 
 module _ {xs : List ℕ} (r : Ready xs) where
   pub published-is : {a b c zs : List ℕ} (d : ℕ) → d ≡ word (cell xs) C.delivered →
@@ -33,4 +36,4 @@ module _ {xs : List ℕ} (r : Ready xs) where
   pub land-is : {zs : List ℕ} (last n : ℕ) → last ≡ word (cell xs) C.last → Set xs zs C.header 0 C.flying (last + 1 - n) → Is zs (P.land n (cell xs))
   land-is last n e p = rw (← e) (then-set (is-itself (r .holds)) (header-cell C.flying (omega arith)) p)
 
-pub ruleset laws = (push-row-is, published-is, take-off-is, land-is, arith)
+pub ruleset laws = (push-row-is, set-word-is, published-is, take-off-is, land-is, arith)

@@ -1,9 +1,12 @@
 -- What each operation writes, as a store.
 use Prim.Native.Nat.{ℕ, _+_, _-_, _%_}
 use mathlib.Core.List.{List, [], _∷_}
+use mathlib.Core.Bool.{cond}
+use Rattle.words.specs.Words.{int}
+use Rattle.gateway.specs.Depth.{Key, is-changed}
 use Rattle.gateway.specs.Limits.{most-in-flight}
 use Rattle.store.specs.Cells as C
-use Rattle.store.specs.View.{Store, word, write, fill}
+use Rattle.store.specs.View.{Store, word, write, fill, side, depth}
 
 -- a row behind the others of a block; the word k has how many there are
 abbrev pub push-row : ℕ → ℕ → List ℕ → Store → Store
@@ -32,3 +35,35 @@ take-off sender owner places s =
 -- an event of number n: the commands below n have had theirs
 abbrev pub land : ℕ → Store → Store
 land n s = write C.header 0 C.flying (word s C.last + 1 - n) s
+
+-- ---- changed levels
+
+-- the level of a side's code and a price's word
+abbrev pub key : ℕ → ℕ → Key
+key s p = (side s, int p)
+
+abbrev pub push-level : ℕ → ℕ → Store → Store
+push-level x p = push-row C.changed C.changed-rows (x ∷ p ∷ [])
+
+-- the level changed: it is listed once
+unfoldable pub remember : ℕ → ℕ → Store → Store
+remember x p s = cond (is-changed (key x p) (depth s .changed)) s (push-level x p s)
+
+-- ---- words of the header
+
+abbrev pub set-clock : ℕ → Store → Store
+set-clock = write C.header 0 C.clock
+
+abbrev pub set-delivered : ℕ → Store → Store
+set-delivered = write C.header 0 C.delivered
+
+-- one more than the percent, or 0
+abbrev pub set-collar : ℕ → Store → Store
+set-collar = write C.header 0 C.collar
+
+abbrev pub set-mark : ℕ → Store → Store
+set-mark price = fill C.header 0 C.marked (1 ∷ price ∷ [])
+
+-- the batch is handed over
+abbrev pub clear-batch : Store → Store
+clear-batch = write C.header 0 C.waiting 0

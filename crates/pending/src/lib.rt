@@ -1,4 +1,7 @@
-// What waits to be published or handed over: wallet notices, trades, commands in flight.
+// What waits to be published or handed over: wallet notices, trades, changed levels, the batch, commands in flight; and the words of the header.
+pub mod changed;
+pub mod header;
+
 use store::cells;
 ghost use Prim.Native.Nat.{_+_, _≤_, _<_};
 ghost use lib.ListN.{length};
