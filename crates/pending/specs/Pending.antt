@@ -1,12 +1,20 @@
 -- What each operation writes, as a store.
-use Prim.Native.Nat.{ℕ, _+_, _-_, _%_}
+use Prim.Native.Nat.{ℕ, _+_, _-_, _%_, _^_, _<_}
 use mathlib.Core.List.{List, [], _∷_}
 use mathlib.Core.Bool.{cond}
+use lib.IntN.{ℤ}
+use mir.Syntax.{w64}
+use mir.Val.{ofZ}
+use Rattle.orderbook.specs.declared.MaybePrice as M
+use Rattle.orderbook.specs.declared.MaybeQty as Q
+use Rattle.orderbook.specs.declared.Command.{Command}
+use Rattle.orderbook.specs.declared.Command.the-variants.{Limit, Market, Cancel, Modify, Stop, CancelAll, SetPhase}
+use Rattle.protocol.specs.Codes.{sideCode, tifCode}
 use Rattle.words.specs.Words.{int}
 use Rattle.gateway.specs.Depth.{Key, is-changed}
 use Rattle.gateway.specs.Limits.{most-in-flight}
 use Rattle.store.specs.Cells as C
-use Rattle.store.specs.View.{Store, word, write, fill, side, depth}
+use Rattle.store.specs.View.{Row, Store, word, write, fill, side, depth}
 
 -- a row behind the others of a block; the word k has how many there are
 abbrev pub push-row : ℕ → ℕ → List ℕ → Store → Store
@@ -49,6 +57,60 @@ push-level x p = push-row C.changed C.changed-rows (x ∷ p ∷ [])
 unfoldable pub remember : ℕ → ℕ → Store → Store
 remember x p s = cond (is-changed (key x p) (depth s .changed)) s (push-level x p s)
 
+-- ---- the batch
+
+-- a phase change is never in it
+abbrev pub Batched : Command → Type 0
+Batched (SetPhase p) = ⊥
+Batched (Limit id owner s price qty t d) = Unit {0}
+Batched (Market id owner s qty) = Unit {0}
+Batched (Cancel id owner) = Unit {0}
+Batched (Modify id owner price qty) = Unit {0}
+Batched (Stop id owner s trigger limit qty) = Unit {0}
+Batched (CancelAll owner) = Unit {0}
+
+-- the word of a signed number
+unfoldable pub word-of : ℤ → ℕ
+word-of z = ofZ w64 z
+
+-- whether a number is there, and the number or 0
+abbrev pub qty-flag : Q.MaybeQty → ℕ
+qty-flag Q.the-variants.None = 0
+qty-flag (Q.the-variants.Some q) = 1
+
+abbrev pub qty-word : Q.MaybeQty → ℕ
+qty-word Q.the-variants.None = 0
+qty-word (Q.the-variants.Some q) = q
+
+abbrev pub price-flag : M.MaybePrice → ℕ
+price-flag M.the-variants.None = 0
+price-flag (M.the-variants.Some p) = 1
+
+abbrev pub price-word : M.MaybePrice → ℕ
+price-word M.the-variants.None = 0
+price-word (M.the-variants.Some p) = word-of p
+
+-- a command's row, in the order of Cells; a cell that its kind does not have is 0
+abbrev pub command-row : Command → List ℕ
+command-row (Limit id owner s price qty t d) = 0 ∷ id ∷ owner ∷ sideCode s ∷ word-of price ∷ qty ∷ tifCode t ∷ qty-flag d ∷ qty-word d ∷ 0 ∷ 0 ∷ 0 ∷ []
+command-row (Market id owner s qty) = 1 ∷ id ∷ owner ∷ sideCode s ∷ 0 ∷ qty ∷ 0 ∷ 0 ∷ 0 ∷ 0 ∷ 0 ∷ 0 ∷ []
+command-row (Cancel id owner) = 2 ∷ id ∷ owner ∷ 0 ∷ 0 ∷ 0 ∷ 0 ∷ 0 ∷ 0 ∷ 0 ∷ 0 ∷ 0 ∷ []
+command-row (Modify id owner price qty) = 3 ∷ id ∷ owner ∷ 0 ∷ word-of price ∷ qty ∷ 0 ∷ 0 ∷ 0 ∷ 0 ∷ 0 ∷ 0 ∷ []
+command-row (Stop id owner s trigger limit qty) = 4 ∷ id ∷ owner ∷ sideCode s ∷ 0 ∷ qty ∷ 0 ∷ 0 ∷ 0 ∷ word-of trigger ∷ price-flag limit ∷ price-word limit ∷ []
+command-row (CancelAll owner) = 5 ∷ 0 ∷ owner ∷ 0 ∷ 0 ∷ 0 ∷ 0 ∷ 0 ∷ 0 ∷ 0 ∷ 0 ∷ 0 ∷ []
+command-row (SetPhase p) = 6 ∷ 0 ∷ 0 ∷ 0 ∷ 0 ∷ 0 ∷ 0 ∷ 0 ∷ 0 ∷ 0 ∷ 0 ∷ 0 ∷ []
+
+abbrev pub push-command : Command → Store → Store
+push-command c = push-row C.batch C.waiting (command-row c)
+
+-- it is handed over
+abbrev pub clear-batch : Store → Store
+clear-batch = write C.header 0 C.waiting 0
+
+-- an owner is a number of 32 bits
+pub record CommandFits (r : Row) : Type 0 where
+  pub owner-fits : r C.command-owner < 2 ^ 32
+
 -- ---- words of the header
 
 abbrev pub set-clock : ℕ → Store → Store
@@ -63,7 +125,3 @@ set-collar = write C.header 0 C.collar
 
 abbrev pub set-mark : ℕ → Store → Store
 set-mark price = fill C.header 0 C.marked (1 ∷ price ∷ [])
-
--- the batch is handed over
-abbrev pub clear-batch : Store → Store
-clear-batch = write C.header 0 C.waiting 0

@@ -1,31 +1,21 @@
 // The words of the header that a call sets.
 use store::cells;
-ghost use Prim.Native.Nat.{_<_};
-ghost use mathlib.Core.List.{[], _∷_};
-ghost use Rattle.store.specs.Cells as C;
 ghost use Rattle.store.specs.Layout.{cell, Holds};
-ghost use Rattle.store.specs.View.{write, Is};
+ghost use Rattle.store.specs.View.{Is};
 ghost use Rattle.pending.specs.Pending as P;
-
-fn set_word(m: &mut [u8], k: usize, v: u64)
-    requires { ⌜ Holds (now m) × (k < 32) ⌝ }
-    ensures { λ r. ⌜ Is (now (m .exit)) (write C.header 0 k v (cell (now (m .entry)))) ⌝ }
-{
-    store::set(m, store::HEADER, 0, k, v);
-}
 
 pub fn set_clock(m: &mut [u8], time: u64)
     requires { ⌜ Holds (now m) ⌝ }
     ensures { λ r. ⌜ Is (now (m .exit)) (P.set-clock time (cell (now (m .entry)))) ⌝ }
 {
-    set_word(m, cells::CLOCK, time);
+    crate::set_word(m, cells::CLOCK, time);
 }
 
 pub fn set_delivered(m: &mut [u8], number: u64)
     requires { ⌜ Holds (now m) ⌝ }
     ensures { λ r. ⌜ Is (now (m .exit)) (P.set-delivered number (cell (now (m .entry)))) ⌝ }
 {
-    set_word(m, cells::DELIVERED, number);
+    crate::set_word(m, cells::DELIVERED, number);
 }
 
 // One more than the percent, or 0 for none.
@@ -33,7 +23,7 @@ pub fn set_collar(m: &mut [u8], percent_plus_one: u64)
     requires { ⌜ Holds (now m) ⌝ }
     ensures { λ r. ⌜ Is (now (m .exit)) (P.set-collar «percent_plus_one» (cell (now (m .entry)))) ⌝ }
 {
-    set_word(m, cells::COLLAR, percent_plus_one);
+    crate::set_word(m, cells::COLLAR, percent_plus_one);
 }
 
 // The price is a word.
@@ -43,12 +33,4 @@ pub fn set_mark(m: &mut [u8], price: u64)
 {
     let row = [1, price];
     store::fill(m, store::HEADER, 0, cells::MARKED, &row);
-}
-
-// The batch is handed over.
-pub fn clear_batch(m: &mut [u8])
-    requires { ⌜ Holds (now m) ⌝ }
-    ensures { λ r. ⌜ Is (now (m .exit)) (P.clear-batch (cell (now (m .entry)))) ⌝ }
-{
-    set_word(m, cells::WAITING, 0);
 }

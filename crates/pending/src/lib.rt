@@ -1,4 +1,5 @@
 // What waits to be published or handed over: wallet notices, trades, changed levels, the batch, commands in flight; and the words of the header.
+pub mod batch;
 pub mod changed;
 pub mod header;
 
@@ -8,11 +9,19 @@ ghost use lib.ListN.{length};
 ghost use Rattle.gateway.specs.Limits.{most-in-flight, most-notices, most-trades};
 ghost use Rattle.store.specs.Cells as C;
 ghost use Rattle.store.specs.Layout.{cell, Cells, Holds};
-ghost use Rattle.store.specs.View.{word, Is, Ready};
+ghost use Rattle.store.specs.View.{word, write, Is, Ready};
 ghost use Rattle.pending.specs.Pending as P;
 
 // A command has the slot of its number modulo this.
 const FLIGHT_SLOTS: u64 = 256;
+
+// A word of the header.
+fn set_word(m: &mut [u8], k: usize, v: u64)
+    requires { ⌜ Holds (now m) × (k < 32) ⌝ }
+    ensures { λ r. ⌜ Is (now (m .exit)) (write C.header 0 k v (cell (now (m .entry)))) ⌝ }
+{
+    store::set(m, store::HEADER, 0, k, v);
+}
 
 // A row behind the others of a block; the word k has how many there are.
 fn push_row(m: &mut [u8], b: usize, k: usize, vs: &[u64])

@@ -1,8 +1,8 @@
 use Rattle.pending.proofs.Laws.{set-word-is}
 use native.Mathlib.Omega.{arith}
 use borrow.Author.Needs.{needs}
-use Rattle.pending.proofs.header.set_word.Statement.{statement}
-use Rattle.pending.proofs.header.set_word.Tie as tie
+use Rattle.pending.proofs.set_word.Statement.{statement}
+use Rattle.pending.proofs.set_word.Tie as tie
 
 set-requires : tie.Need-set-requires
 set-requires c κs = search needs

@@ -1,0 +1,135 @@
+// The batch: commands not yet handed over.
+use orderbook::Command;
+use orderbook::MaybePrice;
+use orderbook::MaybeQty;
+use orderbook::Side;
+use orderbook::TimeInForce;
+use protocol::codes;
+use store::cells;
+ghost use mathlib.Core.Path.{_≡_};
+ghost use Prim.Native.Nat.{_<_};
+ghost use Rattle.protocol.specs.Codes.{sideCode, tifCode};
+ghost use Rattle.gateway.specs.Limits.{most-in-batch};
+ghost use Rattle.words.specs.Words.{int};
+ghost use Rattle.store.specs.Cells as C;
+ghost use Rattle.store.specs.Layout.{cell, Holds};
+ghost use Rattle.store.specs.View.{word, Is, Ready};
+ghost use Rattle.pending.specs.Pending as P;
+
+// ---- a command's cells
+
+fn word_of(price: i64) -> u64
+    ensures { λ r. ⌜ r ≡ P.word-of price ⌝ }
+{
+    words::of_i64(price)
+}
+
+fn qty_flag(q: MaybeQty) -> u64
+    ensures { λ r. ⌜ r ≡ P.qty-flag q ⌝ }
+{
+    match q {
+        MaybeQty::None => 0,
+        MaybeQty::Some(_) => 1,
+    }
+}
+
+fn qty_word(q: MaybeQty) -> u64
+    ensures { λ r. ⌜ r ≡ P.qty-word q ⌝ }
+{
+    match q {
+        MaybeQty::None => 0,
+        MaybeQty::Some(n) => n,
+    }
+}
+
+fn price_flag(p: MaybePrice) -> u64
+    ensures { λ r. ⌜ r ≡ P.price-flag p ⌝ }
+{
+    match p {
+        MaybePrice::None => 0,
+        MaybePrice::Some(_) => 1,
+    }
+}
+
+fn price_word(p: MaybePrice) -> u64
+    ensures { λ r. ⌜ r ≡ P.price-word p ⌝ }
+{
+    match p {
+        MaybePrice::None => 0,
+        MaybePrice::Some(n) => word_of(n),
+    }
+}
+
+fn row_of(c: Command) -> [u64; 12]
+    ensures { λ r. ⌜ r ≡ P.command-row c ⌝ }
+{
+    match c {
+        Command::Limit {
+            id,
+            owner,
+            side,
+            price,
+            qty,
+            tif,
+            display,
+        } => {
+            let s = codes::side_code(side) as u64;
+            let p = word_of(price);
+            let t = codes::tif_code(tif) as u64;
+            let f = qty_flag(display);
+            let d = qty_word(display);
+            [0, id, owner as u64, s, p, qty, t, f, d, 0, 0, 0]
+        }
+        Command::Market {
+            id,
+            owner,
+            side,
+            qty,
+        } => {
+            let s = codes::side_code(side) as u64;
+            [1, id, owner as u64, s, 0, qty, 0, 0, 0, 0, 0, 0]
+        }
+        Command::Cancel { id, owner } => [2, id, owner as u64, 0, 0, 0, 0, 0, 0, 0, 0, 0],
+        Command::Modify {
+            id,
+            owner,
+            price,
+            qty,
+        } => {
+            let p = word_of(price);
+            [3, id, owner as u64, 0, p, qty, 0, 0, 0, 0, 0, 0]
+        }
+        Command::Stop {
+            id,
+            owner,
+            side,
+            trigger,
+            limit,
+            qty,
+        } => {
+            let s = codes::side_code(side) as u64;
+            let t = word_of(trigger);
+            let f = price_flag(limit);
+            let l = price_word(limit);
+            [4, id, owner as u64, s, 0, qty, 0, 0, 0, t, f, l]
+        }
+        Command::CancelAll { owner } => [5, 0, owner as u64, 0, 0, 0, 0, 0, 0, 0, 0, 0],
+        Command::SetPhase { phase: _ } => [6, 0, 0, 0, 0, 0, 0, 0, 0, 0, 0, 0],
+    }
+}
+
+pub fn push_command(m: &mut [u8], c: Command)
+    requires { ⌜ Ready (now m) × (word (cell (now m)) C.waiting < most-in-batch) × P.Batched c ⌝ }
+    ensures { λ r. ⌜ Is (now (m .exit)) (P.push-command c (cell (now (m .entry)))) ⌝ }
+{
+    let row = row_of(c);
+    crate::push_row(m, store::BATCH, cells::WAITING, &row);
+}
+
+// It is handed over.
+pub fn clear_batch(m: &mut [u8])
+    requires { ⌜ Holds (now m) ⌝ }
+    ensures { λ r. ⌜ Is (now (m .exit)) (P.clear-batch (cell (now (m .entry)))) ⌝ }
+{
+    crate::set_word(m, cells::WAITING, 0);
+}
