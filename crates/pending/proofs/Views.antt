@@ -26,7 +26,7 @@ use Rattle.pending.specs.Pending as P
 pub listed-push : {A : Type 0} (f g : ℕ → A) (n : ℕ) (x : A) → ((j : ℕ) → j < n → g j ≡ f j) → g n ≡ x → listed g (n + 1) ≡ listed f n ++ (x ∷ [])
 listed-push f g n x h e = listed-more g n ∙ ap (λ l. l ++ (g n ∷ [])) (listed-ext f g n h) ∙ ap (λ y. listed f n ++ (y ∷ [])) e
 
-abbrev with-rest : (Rest → Rest) → Gateway → Gateway
+abbrev pub with-rest : (Rest → Rest) → Gateway → Gateway
 with-rest f g = record { core = g .core; rest = f (g .rest) }
 
 pub notice-view : (a : ℕ) (s : Store) → gateway (P.notice a s) ≡ with-rest (noticing (a ∷ [])) (gateway s)

@@ -4,14 +4,16 @@ use mathlib.Core.List.{List, [], _∷_}
 use mathlib.Core.Bool.{cond}
 use lib.IntN.{ℤ}
 use mir.Syntax.{w64}
-use mir.Val.{ofZ}
+use mir.Val.{SFits, ofZ}
 use Rattle.orderbook.specs.declared.MaybePrice as M
 use Rattle.orderbook.specs.declared.MaybeQty as Q
 use Rattle.orderbook.specs.declared.Command.{Command}
 use Rattle.orderbook.specs.declared.Command.the-variants.{Limit, Market, Cancel, Modify, Stop, CancelAll, SetPhase}
 use Rattle.protocol.specs.Codes.{sideCode, tifCode}
 use Rattle.words.specs.Words.{int}
+use Rattle.gateway.specs.Bytes.{price-flag, price-word}
 use Rattle.gateway.specs.Depth.{Key, is-changed}
+use Rattle.gateway.specs.Ledger.{owner-of}
 use Rattle.gateway.specs.Limits.{most-in-flight}
 use Rattle.store.specs.Cells as C
 use Rattle.store.specs.View.{Row, Store, word, write, fill, side, depth}
@@ -70,10 +72,10 @@ Batched (Stop id owner s trigger limit qty) = Unit {0}
 Batched (CancelAll owner) = Unit {0}
 
 -- the word of a signed number
-unfoldable pub word-of : ℤ → ℕ
+abbrev pub word-of : ℤ → ℕ
 word-of z = ofZ w64 z
 
--- whether a number is there, and the number or 0
+-- whether a quantity is there, and the quantity or 0
 abbrev pub qty-flag : Q.MaybeQty → ℕ
 qty-flag Q.the-variants.None = 0
 qty-flag (Q.the-variants.Some q) = 1
@@ -81,14 +83,6 @@ qty-flag (Q.the-variants.Some q) = 1
 abbrev pub qty-word : Q.MaybeQty → ℕ
 qty-word Q.the-variants.None = 0
 qty-word (Q.the-variants.Some q) = q
-
-abbrev pub price-flag : M.MaybePrice → ℕ
-price-flag M.the-variants.None = 0
-price-flag (M.the-variants.Some p) = 1
-
-abbrev pub price-word : M.MaybePrice → ℕ
-price-word M.the-variants.None = 0
-price-word (M.the-variants.Some p) = word-of p
 
 -- a command's row, in the order of Cells; a cell that its kind does not have is 0
 abbrev pub command-row : Command → List ℕ
@@ -107,7 +101,25 @@ push-command c = push-row C.batch C.waiting (command-row c)
 abbrev pub clear-batch : Store → Store
 clear-batch = write C.header 0 C.waiting 0
 
--- an owner is a number of 32 bits
+-- the owner and the prices of a command are numbers of their Rust types
+abbrev pub MaybeFits : M.MaybePrice → Type 0
+MaybeFits M.the-variants.None = Unit {0}
+MaybeFits (M.the-variants.Some p) = SFits w64 p
+
+abbrev pub PricesFit : Command → Type 0
+PricesFit (Limit id owner s price qty t d) = SFits w64 price
+PricesFit (Market id owner s qty) = Unit {0}
+PricesFit (Cancel id owner) = Unit {0}
+PricesFit (Modify id owner price qty) = SFits w64 price
+PricesFit (Stop id owner s trigger limit qty) = SFits w64 trigger × MaybeFits limit
+PricesFit (CancelAll owner) = Unit {0}
+PricesFit (SetPhase p) = Unit {0}
+
+pub record Typed (c : Command) : Type 0 where
+  pub owner-fits : owner-of c < 2 ^ 32
+  pub prices-fit : PricesFit c
+
+-- a row's owner is a number of 32 bits
 pub record CommandFits (r : Row) : Type 0 where
   pub owner-fits : r C.command-owner < 2 ^ 32
 

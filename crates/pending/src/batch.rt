@@ -9,6 +9,7 @@ use store::cells;
 ghost use mathlib.Core.Path.{_≡_};
 ghost use Prim.Native.Nat.{_<_};
 ghost use Rattle.protocol.specs.Codes.{sideCode, tifCode};
+ghost use Rattle.gateway.specs.Bytes.{price-flag, price-word};
 ghost use Rattle.gateway.specs.Limits.{most-in-batch};
 ghost use Rattle.words.specs.Words.{int};
 ghost use Rattle.store.specs.Cells as C;
@@ -43,7 +44,7 @@ fn qty_word(q: MaybeQty) -> u64
 }
 
 fn price_flag(p: MaybePrice) -> u64
-    ensures { λ r. ⌜ r ≡ P.price-flag p ⌝ }
+    ensures { λ r. ⌜ r ≡ price-flag p ⌝ }
 {
     match p {
         MaybePrice::None => 0,
@@ -52,7 +53,7 @@ fn price_flag(p: MaybePrice) -> u64
 }
 
 fn price_word(p: MaybePrice) -> u64
-    ensures { λ r. ⌜ r ≡ P.price-word p ⌝ }
+    ensures { λ r. ⌜ (r ≡ price-word p) × P.MaybeFits p ⌝ }
 {
     match p {
         MaybePrice::None => 0,
@@ -61,7 +62,7 @@ fn price_word(p: MaybePrice) -> u64
 }
 
 fn row_of(c: Command) -> [u64; 12]
-    ensures { λ r. ⌜ r ≡ P.command-row c ⌝ }
+    ensures { λ r. ⌜ (r ≡ P.command-row c) × P.Typed c ⌝ }
 {
     match c {
         Command::Limit {
@@ -120,7 +121,7 @@ fn row_of(c: Command) -> [u64; 12]
 
 pub fn push_command(m: &mut [u8], c: Command)
     requires { ⌜ Ready (now m) × (word (cell (now m)) C.waiting < most-in-batch) × P.Batched c ⌝ }
-    ensures { λ r. ⌜ Is (now (m .exit)) (P.push-command c (cell (now (m .entry)))) ⌝ }
+    ensures { λ r. ⌜ Is (now (m .exit)) (P.push-command c (cell (now (m .entry)))) × P.Typed c ⌝ }
 {
     let row = row_of(c);
     crate::push_row(m, store::BATCH, cells::WAITING, &row);

@@ -1,4 +1,4 @@
-use mathlib.Core.Path.{ap, _∙_}
+use mathlib.Core.Path.{refl, ap, _∙_}
 use Rattle.words.proofs.Int.{read}
 use Rattle.pending.specs.Pending as P
 use borrow.Author.Needs.{needs}
@@ -15,10 +15,12 @@ word-of-requires : tie.Need-word-of-requires
 word-of-requires c κs = search needs
 
 returns : tie.Need-returns
-returns c = search needs
+returns c = rw (c .enum-told .given .1) (refl, tt)
 
 returns-2 : tie.Need-returns-2
-returns-2 c = rw (c .before .before .p .given .1) (c .word-of .ensures ∙ ap P.word-of (read (c .before .known-told .given .0 .1)))
+returns-2 c =
+    let k = c .before in
+    rw (k .before .p .given .1) (c .word-of .ensures ∙ ap P.word-of (read {x = k .before .p .given .0 .0} (k .known-told .given .0 .1)), record { sfits = k .known-told .given .0 .1 })
 
 pub price-word-spec : {M : Type 1} → statement M
 price-word-spec = tie.close (tie.spec enum-told enum-known-p word-of-requires returns returns-2)

@@ -15,7 +15,7 @@ same-length : tie.Need-same-length
 same-length c = search needs
 
 returns : tie.Need-returns
-returns c = let r = c .before .before .before .before .before in rw (← r .row-of .ensures) (c .before .before .push-row .ensures)
+returns c = let r = c .before .before .before .before .before in (rw (← r .row-of .ensures .0) (c .before .before .push-row .ensures), r .row-of .ensures .1)
 
 pub push-command-spec : {M : Type 1} → statement M
 push-command-spec =

@@ -1,4 +1,6 @@
-use mathlib.Core.Path.{ap, _∙_}
+use native.Mathlib.Omega.{arith}
+use Rattle.gateway.specs.Ledger.{owner-of}
+use mathlib.Core.Path.{refl, ap, _∙_}
 use Rattle.words.proofs.Int.{read}
 use Rattle.pending.specs.Pending as P
 use borrow.Author.Needs.{needs}
@@ -90,36 +92,46 @@ enum-told : tie.Need-enum-told
 enum-told c = search needs
 
 returns : tie.Need-returns
+unfolding owner-of
 returns c =
     let w = c .before .before .before in
     let k = w .before .before in
     let f = k .before .c .given in
     rw (f .1, w .before .side-code .ensures, w .word-of .ensures ∙ ap P.word-of (read {x = f .0 .1 .1 .1 .0} (k .known-told .given .1 .1 .1 .0 .1)), c .before .before .tif-code .ensures, c .before .qty-flag .ensures, c .qty-word .ensures)
+    (refl, record { owner-fits = omega (arith, k .known-told .given .1 .0); prices-fit = record { sfits = k .known-told .given .1 .1 .1 .0 .1 } })
 
 returns-2 : tie.Need-returns-2
-returns-2 c = rw (c .before .before .c2 .given .1, c .side-code2 .ensures)
+unfolding owner-of
+returns-2 c = rw (c .before .before .c2 .given .1, c .side-code2 .ensures) (refl, record { owner-fits = omega (arith, c .before .known-told2 .given .1 .0); prices-fit = tt })
 
 returns-3 : tie.Need-returns-3
-returns-3 c = rw (c .before .c3 .given .1)
+unfolding owner-of
+returns-3 c = rw (c .before .c3 .given .1) (refl, record { owner-fits = omega (arith, c .known-told3 .given .1 .0); prices-fit = tt })
 
 returns-4 : tie.Need-returns-4
+unfolding owner-of
 returns-4 c =
     let k = c .before in
     let f = k .before .c4 .given in
     rw (f .1, c .word-of2 .ensures ∙ ap P.word-of (read {x = f .0 .1 .1 .0} (k .known-told4 .given .1 .1 .0 .1)))
+    (refl, record { owner-fits = omega (arith, k .known-told4 .given .1 .0); prices-fit = record { sfits = k .known-told4 .given .1 .1 .0 .1 } })
 
 returns-5 : tie.Need-returns-5
+unfolding owner-of
 returns-5 c =
     let w = c .before .before in
     let k = w .before .before in
     let f = k .before .c5 .given in
-    rw (f .1, w .before .side-code3 .ensures, w .word-of3 .ensures ∙ ap P.word-of (read {x = f .0 .1 .1 .1 .0} (k .known-told5 .given .1 .1 .1 .0 .1)), c .before .price-flag .ensures, c .price-word .ensures)
+    rw (f .1, w .before .side-code3 .ensures, w .word-of3 .ensures ∙ ap P.word-of (read {x = f .0 .1 .1 .1 .0} (k .known-told5 .given .1 .1 .1 .0 .1)), c .before .price-flag .ensures, c .price-word .ensures .0)
+    (refl, record { owner-fits = omega (arith, k .known-told5 .given .1 .0); prices-fit = (record { sfits = k .known-told5 .given .1 .1 .1 .0 .1 }, c .price-word .ensures .1) })
 
 returns-6 : tie.Need-returns-6
-returns-6 c = rw (c .before .c6 .given .1)
+unfolding owner-of
+returns-6 c = rw (c .before .c6 .given .1) (refl, record { owner-fits = omega (arith, c .known-told6 .given .0); prices-fit = tt })
 
 returns-7 : tie.Need-returns-7
-returns-7 c = search needs
+unfolding owner-of
+returns-7 c = rw (c .enum-told .given .1) (refl, record { owner-fits = omega arith; prices-fit = tt })
 
 pub row-of-spec : {M : Type 1} → statement M
 row-of-spec =

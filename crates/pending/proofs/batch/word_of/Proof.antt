@@ -10,7 +10,7 @@ of-i64-requires : tie.Need-of-i64-requires
 of-i64-requires c κs = search needs
 
 returns : tie.Need-returns
-returns c = word-is _ _ (omega arith) (c .of-i64 .ensures ∙ read (c .before .fits .price .sfits))
+returns c = word-is _ (c .before .args .price) (omega arith) (c .of-i64 .ensures ∙ read {x = c .before .args .price} (c .before .fits .price .sfits))
 
 pub word-of-spec : {M : Type 1} → statement M
 word-of-spec = tie.close (tie.spec of-i64-requires returns)
