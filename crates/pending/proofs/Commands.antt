@@ -1,6 +1,5 @@
 -- A command's row: what is written for it is read back. Assumes nothing.
 use mathlib.Core.Path.{_≡_, refl, sym, ap, _∙_}
-use mathlib.Core.Bool.{cond}
 use mathlib.Core.List.{List, [], _∷_}
 use Prim.Native.Nat.{ℕ, _^_, _<_}
 use native.Mathlib.Omega.{arith}
@@ -25,7 +24,7 @@ use Rattle.gateway.specs.Entry.{queued}
 use Rattle.gateway.specs.Ledger.{owner-of}
 use Rattle.gateway.specs.Rest.{with-batch}
 use Rattle.store.specs.Cells as C
-use Rattle.store.specs.View.{Row, Store, fill, flag, side, tif, maybe-price, command, word, gateway}
+use Rattle.store.specs.View.{Row, Store, fill, side, tif, maybe-price, command, word, gateway}
 use Rattle.pending.specs.Pending as P
 use Rattle.pending.proofs.Views.{listed-push, with-rest}
 
@@ -44,7 +43,7 @@ tif-back Ioc = refl
 tif-back Fok = refl
 tif-back PostOnly = refl
 
-qty-back : (q : Q.MaybeQty) → cond (flag (P.qty-flag q)) (Q.the-variants.Some (P.qty-word q)) Q.the-variants.None ≡ q
+qty-back : (q : Q.MaybeQty) → P.maybe-qty (P.qty-flag q) (P.qty-word q) ≡ q
 qty-back Q.the-variants.None = refl
 qty-back (Q.the-variants.Some q) = refl
 

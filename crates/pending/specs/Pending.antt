@@ -14,9 +14,10 @@ use Rattle.words.specs.Words.{int}
 use Rattle.gateway.specs.Bytes.{price-flag, price-word}
 use Rattle.gateway.specs.Depth.{Key, is-changed}
 use Rattle.gateway.specs.Ledger.{owner-of}
-use Rattle.gateway.specs.Limits.{most-in-flight}
+use Rattle.gateway.specs.Limits.{most-in-flight, most-in-batch}
 use Rattle.store.specs.Cells as C
-use Rattle.store.specs.View.{Row, Store, word, write, fill, side, depth}
+use Rattle.store.specs.Layout.{cell, Holds}
+use Rattle.store.specs.View.{Row, Store, word, write, fill, flag, side, depth}
 
 -- a row behind the others of a block; the word k has how many there are
 abbrev pub push-row : ℕ → ℕ → List ℕ → Store → Store
@@ -84,6 +85,9 @@ abbrev pub qty-word : Q.MaybeQty → ℕ
 qty-word Q.the-variants.None = 0
 qty-word (Q.the-variants.Some q) = q
 
+abbrev pub maybe-qty : ℕ → ℕ → Q.MaybeQty
+maybe-qty n q = cond (flag n) (Q.the-variants.Some q) Q.the-variants.None
+
 -- a command's row, in the order of Cells; a cell that its kind does not have is 0
 abbrev pub command-row : Command → List ℕ
 command-row (Limit id owner s price qty t d) = 0 ∷ id ∷ owner ∷ sideCode s ∷ word-of price ∷ qty ∷ tifCode t ∷ qty-flag d ∷ qty-word d ∷ 0 ∷ 0 ∷ 0 ∷ []
@@ -122,6 +126,12 @@ pub record Typed (c : Command) : Type 0 where
 -- a row's owner is a number of 32 bits
 pub record CommandFits (r : Row) : Type 0 where
   pub owner-fits : r C.command-owner < 2 ^ 32
+
+-- the row i of the batch in xs can be read
+pub record Readable (xs : List ℕ) (i : ℕ) : Type 0 where
+  pub holds : Holds xs
+  pub inside : i < most-in-batch
+  pub fits : CommandFits (cell xs C.batch i)
 
 -- ---- words of the header
 

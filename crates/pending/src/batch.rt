@@ -14,7 +14,7 @@ ghost use Rattle.gateway.specs.Limits.{most-in-batch};
 ghost use Rattle.words.specs.Words.{int};
 ghost use Rattle.store.specs.Cells as C;
 ghost use Rattle.store.specs.Layout.{cell, Holds};
-ghost use Rattle.store.specs.View.{word, Is, Ready};
+ghost use Rattle.store.specs.View.{word, side, tif, maybe-price, command, Is, Ready};
 ghost use Rattle.pending.specs.Pending as P;
 
 // ---- a command's cells
@@ -133,4 +133,172 @@ pub fn clear_batch(m: &mut [u8])
     ensures { λ r. ⌜ Is (now (m .exit)) (P.clear-batch (cell (now (m .entry)))) ⌝ }
 {
     crate::set_word(m, cells::WAITING, 0);
+}
+
+// ---- a command read back
+
+fn side_of(n: u64) -> Side
+    ensures { λ r. ⌜ r ≡ side n ⌝ }
+{
+    if n == 0 { Side::Buy } else { Side::Sell }
+}
+
+fn tif_of(n: u64) -> TimeInForce
+    ensures { λ r. ⌜ r ≡ tif n ⌝ }
+{
+    match n {
+        0 => TimeInForce::Gtc,
+        1 => TimeInForce::Ioc,
+        2 => TimeInForce::Fok,
+        _ => TimeInForce::PostOnly,
+    }
+}
+
+fn qty_of(there: u64, n: u64) -> MaybeQty
+    ensures { λ r. ⌜ r ≡ P.maybe-qty there n ⌝ }
+{
+    if there == 0 {
+        MaybeQty::None
+    } else {
+        MaybeQty::Some(n)
+    }
+}
+
+fn price_of(there: u64, w: u64) -> MaybePrice
+    ensures { λ r. ⌜ r ≡ maybe-price there w ⌝ }
+{
+    if there == 0 {
+        MaybePrice::None
+    } else {
+        MaybePrice::Some(words::to_i64(w))
+    }
+}
+
+// The fields of the row i.
+fn owner_at(m: &[u8], i: usize) -> u32
+    requires { ⌜ P.Readable (now m) i ⌝ }
+    ensures { λ r. ⌜ r ≡ cell (now (m .entry)) C.batch i C.command-owner ⌝ }
+{
+    store::get(m, store::BATCH, i, cells::COMMAND_OWNER) as u32
+}
+
+fn side_at(m: &[u8], i: usize) -> Side
+    requires { ⌜ P.Readable (now m) i ⌝ }
+    ensures { λ r. ⌜ r ≡ side (cell (now (m .entry)) C.batch i C.command-side) ⌝ }
+{
+    side_of(store::get(m, store::BATCH, i, cells::COMMAND_SIDE))
+}
+
+fn tif_at(m: &[u8], i: usize) -> TimeInForce
+    requires { ⌜ P.Readable (now m) i ⌝ }
+    ensures { λ r. ⌜ r ≡ tif (cell (now (m .entry)) C.batch i C.command-tif) ⌝ }
+{
+    tif_of(store::get(m, store::BATCH, i, cells::COMMAND_TIF))
+}
+
+fn display_at(m: &[u8], i: usize) -> MaybeQty
+    requires { ⌜ P.Readable (now m) i ⌝ }
+    ensures { λ r. ⌜ r ≡ P.maybe-qty (cell (now (m .entry)) C.batch i C.command-displayed) (cell (now (m .entry)) C.batch i C.command-display) ⌝ }
+{
+    let there = store::get(m, store::BATCH, i, cells::COMMAND_DISPLAYED);
+    qty_of(
+        there,
+        store::get(m, store::BATCH, i, cells::COMMAND_DISPLAY),
+    )
+}
+
+fn limit_price_at(m: &[u8], i: usize) -> MaybePrice
+    requires { ⌜ P.Readable (now m) i ⌝ }
+    ensures { λ r. ⌜ r ≡ maybe-price (cell (now (m .entry)) C.batch i C.command-limited) (cell (now (m .entry)) C.batch i C.command-limit) ⌝ }
+{
+    let there = store::get(m, store::BATCH, i, cells::COMMAND_LIMITED);
+    price_of(there, store::get(m, store::BATCH, i, cells::COMMAND_LIMIT))
+}
+
+// A price in the cell k.
+fn price_at(m: &[u8], i: usize, k: usize) -> i64
+    requires { ⌜ P.Readable (now m) i × (k < 12) ⌝ }
+    ensures { λ r. ⌜ r ≡ int (cell (now (m .entry)) C.batch i k) ⌝ }
+{
+    words::to_i64(store::get(m, store::BATCH, i, k))
+}
+
+fn limit_at(m: &[u8], i: usize) -> Command
+    requires { ⌜ P.Readable (now m) i × (cell (now m) C.batch i C.command-kind ≡ 0) ⌝ }
+    ensures { λ r. ⌜ r ≡ command (cell (now (m .entry)) C.batch i) ⌝ }
+{
+    Command::Limit {
+        id: store::get(m, store::BATCH, i, cells::COMMAND_ID),
+        owner: owner_at(m, i),
+        side: side_at(m, i),
+        price: price_at(m, i, cells::COMMAND_PRICE),
+        qty: store::get(m, store::BATCH, i, cells::COMMAND_QTY),
+        tif: tif_at(m, i),
+        display: display_at(m, i),
+    }
+}
+
+fn market_at(m: &[u8], i: usize) -> Command
+    requires { ⌜ P.Readable (now m) i × (cell (now m) C.batch i C.command-kind ≡ 1) ⌝ }
+    ensures { λ r. ⌜ r ≡ command (cell (now (m .entry)) C.batch i) ⌝ }
+{
+    Command::Market {
+        id: store::get(m, store::BATCH, i, cells::COMMAND_ID),
+        owner: owner_at(m, i),
+        side: side_at(m, i),
+        qty: store::get(m, store::BATCH, i, cells::COMMAND_QTY),
+    }
+}
+
+fn cancel_at(m: &[u8], i: usize) -> Command
+    requires { ⌜ P.Readable (now m) i × (cell (now m) C.batch i C.command-kind ≡ 2) ⌝ }
+    ensures { λ r. ⌜ r ≡ command (cell (now (m .entry)) C.batch i) ⌝ }
+{
+    Command::Cancel {
+        id: store::get(m, store::BATCH, i, cells::COMMAND_ID),
+        owner: owner_at(m, i),
+    }
+}
+
+fn modify_at(m: &[u8], i: usize) -> Command
+    requires { ⌜ P.Readable (now m) i × (cell (now m) C.batch i C.command-kind ≡ 3) ⌝ }
+    ensures { λ r. ⌜ r ≡ command (cell (now (m .entry)) C.batch i) ⌝ }
+{
+    Command::Modify {
+        id: store::get(m, store::BATCH, i, cells::COMMAND_ID),
+        owner: owner_at(m, i),
+        price: price_at(m, i, cells::COMMAND_PRICE),
+        qty: store::get(m, store::BATCH, i, cells::COMMAND_QTY),
+    }
+}
+
+fn stop_at(m: &[u8], i: usize) -> Command
+    requires { ⌜ P.Readable (now m) i × (cell (now m) C.batch i C.command-kind ≡ 4) ⌝ }
+    ensures { λ r. ⌜ r ≡ command (cell (now (m .entry)) C.batch i) ⌝ }
+{
+    Command::Stop {
+        id: store::get(m, store::BATCH, i, cells::COMMAND_ID),
+        owner: owner_at(m, i),
+        side: side_at(m, i),
+        trigger: price_at(m, i, cells::COMMAND_TRIGGER),
+        limit: limit_price_at(m, i),
+        qty: store::get(m, store::BATCH, i, cells::COMMAND_QTY),
+    }
+}
+
+// The command in the row i.
+pub fn command_at(m: &[u8], i: usize) -> Command
+    requires { ⌜ P.Readable (now m) i ⌝ }
+    ensures { λ r. ⌜ r ≡ command (cell (now (m .entry)) C.batch i) ⌝ }
+{
+    match store::get(m, store::BATCH, i, cells::COMMAND_KIND) {
+        0 => limit_at(m, i),
+        1 => market_at(m, i),
+        2 => cancel_at(m, i),
+        3 => modify_at(m, i),
+        4 => stop_at(m, i),
+        _ => Command::CancelAll {
+            owner: owner_at(m, i),
+        },
+    }
 }

@@ -1,0 +1,49 @@
+use mathlib.Core.Path.{refl, _∙_}
+use Rattle.words.proofs.Int.{read}
+use borrow.Author.Needs.{needs}
+use Rattle.pending.proofs.batch.limit_at.Statement.{statement}
+use Rattle.pending.proofs.batch.limit_at.Tie as tie
+
+get-requires : tie.Need-get-requires
+get-requires c κs = search needs
+
+owner-at-requires : tie.Need-owner-at-requires
+owner-at-requires c κs = search needs
+
+side-at-requires : tie.Need-side-at-requires
+side-at-requires c κs = search needs
+
+price-at-requires : tie.Need-price-at-requires
+price-at-requires c κs = search needs
+
+get-requires-2 : tie.Need-get-requires-2
+get-requires-2 c κs = search needs
+
+tif-at-requires : tie.Need-tif-at-requires
+tif-at-requires c κs = search needs
+
+display-at-requires : tie.Need-display-at-requires
+display-at-requires c κs = search needs
+
+returns : tie.Need-returns
+returns c =
+    let t = c .before in
+    let q = t .before in
+    let p = q .before in
+    let s = p .before in
+    let o = s .before in
+    let g = o .before in
+    rw (g .before .before .pre .1, g .get .ensures, o .owner-at .ensures, s .side-at .ensures, read {x = p .price-at .result} (p .price-at .ok) ∙ p .price-at .ensures, q .get2 .ensures, t .tif-at .ensures, c .display-at .ensures) refl
+
+pub limit-at-spec : {M : Type 1} → statement M
+limit-at-spec =
+    tie.close
+    (tie.spec
+    get-requires
+    owner-at-requires
+    side-at-requires
+    price-at-requires
+    get-requires-2
+    tif-at-requires
+    display-at-requires
+    returns)
