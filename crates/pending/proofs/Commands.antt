@@ -1,11 +1,10 @@
 -- A command's row: what is written for it is read back. Assumes nothing.
 use mathlib.Core.Path.{_≡_, refl, sym, ap, _∙_}
 use mathlib.Core.List.{List, [], _∷_}
-use Prim.Native.Nat.{ℕ, _^_, _<_}
+use Prim.Native.Nat.{ℕ, _+_, _^_, _<_}
 use native.Mathlib.Omega.{arith}
 use borrow.Author.Tests.{eq-eqb, ne-eqb}
 use lib.IntN.{ℤ}
-use lib.ListN.{getD}
 use mir.Syntax.{w64}
 use mir.Val.{ofZ}
 use Rattle.orderbook.specs.declared.Side.{Side}
@@ -24,7 +23,8 @@ use Rattle.gateway.specs.Entry.{queued}
 use Rattle.gateway.specs.Ledger.{owner-of}
 use Rattle.gateway.specs.Rest.{with-batch}
 use Rattle.store.specs.Cells as C
-use Rattle.store.specs.View.{Row, Store, fill, side, tif, maybe-price, command, word, gateway}
+use Rattle.store.specs.Layout.{cell}
+use Rattle.store.specs.View.{Row, Store, fill, listed, side, tif, maybe-price, command, word, gateway}
 use Rattle.pending.specs.Pending as P
 use Rattle.pending.proofs.Views.{listed-push, with-rest}
 
@@ -51,9 +51,8 @@ price-back : (p : M.MaybePrice) → P.MaybeFits p → maybe-price (price-flag p)
 price-back M.the-variants.None f = refl
 price-back (M.the-variants.Some p) f = ap M.the-variants.Some (int-of p f)
 
--- the row by its cells
 abbrev row : Command → Row
-row c k = getD (P.command-row c) k 0
+row c = P.by-cell (P.command-row c)
 
 abbrev cells-of : Row → List ℕ
 cells-of r = r 0 ∷ r 1 ∷ r 2 ∷ r 3 ∷ r 4 ∷ r 5 ∷ r 6 ∷ r 7 ∷ r 8 ∷ r 9 ∷ r 10 ∷ r 11 ∷ []
@@ -85,6 +84,17 @@ row-back (Modify id owner price qty) b f = rw (int-of price f) refl
 row-back (Stop id owner s trigger limit qty) b f = rw (side-back s, int-of trigger (f .0), price-back limit (f .1)) refl
 row-back (CancelAll owner) b f = refl
 row-back (SetPhase p) b f = absurd b
+
+-- ---- a row that is read from the bytes
+
+module _ (xs vs : List ℕ) (i : ℕ) (e : vs ≡ listed (λ j. cell xs C.batch i (0 + j)) 12) where
+  pub read-command : command (P.by-cell vs) ≡ command (cell xs C.batch i)
+  unfolding listed
+  read-command = rw e refl
+
+  pub read-fits : P.CommandFits (cell xs C.batch i) → P.CommandFits (P.by-cell vs)
+  unfolding listed
+  read-fits f = record { owner-fits = rw e (f .owner-fits) }
 
 -- ---- a row joins the batch
 

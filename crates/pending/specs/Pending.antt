@@ -3,6 +3,7 @@ use Prim.Native.Nat.{ℕ, _+_, _-_, _%_, _^_, _<_}
 use mathlib.Core.List.{List, [], _∷_}
 use mathlib.Core.Bool.{cond}
 use lib.IntN.{ℤ}
+use lib.ListN.{getD}
 use mir.Syntax.{w64}
 use mir.Val.{SFits, ofZ}
 use Rattle.orderbook.specs.declared.MaybePrice as M
@@ -14,9 +15,8 @@ use Rattle.words.specs.Words.{int}
 use Rattle.gateway.specs.Bytes.{price-flag, price-word}
 use Rattle.gateway.specs.Depth.{Key, is-changed}
 use Rattle.gateway.specs.Ledger.{owner-of}
-use Rattle.gateway.specs.Limits.{most-in-flight, most-in-batch}
+use Rattle.gateway.specs.Limits.{most-in-flight}
 use Rattle.store.specs.Cells as C
-use Rattle.store.specs.Layout.{cell, Holds}
 use Rattle.store.specs.View.{Row, Store, word, write, fill, flag, side, depth}
 
 -- a row behind the others of a block; the word k has how many there are
@@ -105,6 +105,10 @@ push-command c = push-row C.batch C.waiting (command-row c)
 abbrev pub clear-batch : Store → Store
 clear-batch = write C.header 0 C.waiting 0
 
+-- a row by its cells
+abbrev pub by-cell : List ℕ → Row
+by-cell vs k = getD vs k 0
+
 -- the owner and the prices of a command are numbers of their Rust types
 abbrev pub MaybeFits : M.MaybePrice → Type 0
 MaybeFits M.the-variants.None = Unit {0}
@@ -126,12 +130,6 @@ pub record Typed (c : Command) : Type 0 where
 -- a row's owner is a number of 32 bits
 pub record CommandFits (r : Row) : Type 0 where
   pub owner-fits : r C.command-owner < 2 ^ 32
-
--- the row i of the batch in xs can be read
-pub record Readable (xs : List ℕ) (i : ℕ) : Type 0 where
-  pub holds : Holds xs
-  pub inside : i < most-in-batch
-  pub fits : CommandFits (cell xs C.batch i)
 
 -- ---- words of the header
 

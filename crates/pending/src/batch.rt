@@ -174,131 +174,56 @@ fn price_of(there: u64, w: u64) -> MaybePrice
     }
 }
 
-// The fields of the row i.
-fn owner_at(m: &[u8], i: usize) -> u32
-    requires { ⌜ P.Readable (now m) i ⌝ }
-    ensures { λ r. ⌜ r ≡ cell (now (m .entry)) C.batch i C.command-owner ⌝ }
+fn command_of(r: [u64; 12]) -> Command
+    requires { ⌜ P.CommandFits (P.by-cell r) ⌝ }
+    ensures { λ c. ⌜ c ≡ command (P.by-cell r) ⌝ }
 {
-    store::get(m, store::BATCH, i, cells::COMMAND_OWNER) as u32
-}
-
-fn side_at(m: &[u8], i: usize) -> Side
-    requires { ⌜ P.Readable (now m) i ⌝ }
-    ensures { λ r. ⌜ r ≡ side (cell (now (m .entry)) C.batch i C.command-side) ⌝ }
-{
-    side_of(store::get(m, store::BATCH, i, cells::COMMAND_SIDE))
-}
-
-fn tif_at(m: &[u8], i: usize) -> TimeInForce
-    requires { ⌜ P.Readable (now m) i ⌝ }
-    ensures { λ r. ⌜ r ≡ tif (cell (now (m .entry)) C.batch i C.command-tif) ⌝ }
-{
-    tif_of(store::get(m, store::BATCH, i, cells::COMMAND_TIF))
-}
-
-fn display_at(m: &[u8], i: usize) -> MaybeQty
-    requires { ⌜ P.Readable (now m) i ⌝ }
-    ensures { λ r. ⌜ r ≡ P.maybe-qty (cell (now (m .entry)) C.batch i C.command-displayed) (cell (now (m .entry)) C.batch i C.command-display) ⌝ }
-{
-    let there = store::get(m, store::BATCH, i, cells::COMMAND_DISPLAYED);
-    qty_of(
-        there,
-        store::get(m, store::BATCH, i, cells::COMMAND_DISPLAY),
-    )
-}
-
-fn limit_price_at(m: &[u8], i: usize) -> MaybePrice
-    requires { ⌜ P.Readable (now m) i ⌝ }
-    ensures { λ r. ⌜ r ≡ maybe-price (cell (now (m .entry)) C.batch i C.command-limited) (cell (now (m .entry)) C.batch i C.command-limit) ⌝ }
-{
-    let there = store::get(m, store::BATCH, i, cells::COMMAND_LIMITED);
-    price_of(there, store::get(m, store::BATCH, i, cells::COMMAND_LIMIT))
-}
-
-// A price in the cell k.
-fn price_at(m: &[u8], i: usize, k: usize) -> i64
-    requires { ⌜ P.Readable (now m) i × (k < 12) ⌝ }
-    ensures { λ r. ⌜ r ≡ int (cell (now (m .entry)) C.batch i k) ⌝ }
-{
-    words::to_i64(store::get(m, store::BATCH, i, k))
-}
-
-fn limit_at(m: &[u8], i: usize) -> Command
-    requires { ⌜ P.Readable (now m) i × (cell (now m) C.batch i C.command-kind ≡ 0) ⌝ }
-    ensures { λ r. ⌜ r ≡ command (cell (now (m .entry)) C.batch i) ⌝ }
-{
-    Command::Limit {
-        id: store::get(m, store::BATCH, i, cells::COMMAND_ID),
-        owner: owner_at(m, i),
-        side: side_at(m, i),
-        price: price_at(m, i, cells::COMMAND_PRICE),
-        qty: store::get(m, store::BATCH, i, cells::COMMAND_QTY),
-        tif: tif_at(m, i),
-        display: display_at(m, i),
-    }
-}
-
-fn market_at(m: &[u8], i: usize) -> Command
-    requires { ⌜ P.Readable (now m) i × (cell (now m) C.batch i C.command-kind ≡ 1) ⌝ }
-    ensures { λ r. ⌜ r ≡ command (cell (now (m .entry)) C.batch i) ⌝ }
-{
-    Command::Market {
-        id: store::get(m, store::BATCH, i, cells::COMMAND_ID),
-        owner: owner_at(m, i),
-        side: side_at(m, i),
-        qty: store::get(m, store::BATCH, i, cells::COMMAND_QTY),
-    }
-}
-
-fn cancel_at(m: &[u8], i: usize) -> Command
-    requires { ⌜ P.Readable (now m) i × (cell (now m) C.batch i C.command-kind ≡ 2) ⌝ }
-    ensures { λ r. ⌜ r ≡ command (cell (now (m .entry)) C.batch i) ⌝ }
-{
-    Command::Cancel {
-        id: store::get(m, store::BATCH, i, cells::COMMAND_ID),
-        owner: owner_at(m, i),
-    }
-}
-
-fn modify_at(m: &[u8], i: usize) -> Command
-    requires { ⌜ P.Readable (now m) i × (cell (now m) C.batch i C.command-kind ≡ 3) ⌝ }
-    ensures { λ r. ⌜ r ≡ command (cell (now (m .entry)) C.batch i) ⌝ }
-{
-    Command::Modify {
-        id: store::get(m, store::BATCH, i, cells::COMMAND_ID),
-        owner: owner_at(m, i),
-        price: price_at(m, i, cells::COMMAND_PRICE),
-        qty: store::get(m, store::BATCH, i, cells::COMMAND_QTY),
-    }
-}
-
-fn stop_at(m: &[u8], i: usize) -> Command
-    requires { ⌜ P.Readable (now m) i × (cell (now m) C.batch i C.command-kind ≡ 4) ⌝ }
-    ensures { λ r. ⌜ r ≡ command (cell (now (m .entry)) C.batch i) ⌝ }
-{
-    Command::Stop {
-        id: store::get(m, store::BATCH, i, cells::COMMAND_ID),
-        owner: owner_at(m, i),
-        side: side_at(m, i),
-        trigger: price_at(m, i, cells::COMMAND_TRIGGER),
-        limit: limit_price_at(m, i),
-        qty: store::get(m, store::BATCH, i, cells::COMMAND_QTY),
+    let kind = r[cells::COMMAND_KIND];
+    let id = r[cells::COMMAND_ID];
+    let owner = r[cells::COMMAND_OWNER] as u32;
+    let side = side_of(r[cells::COMMAND_SIDE]);
+    let qty = r[cells::COMMAND_QTY];
+    match kind {
+        0 => Command::Limit {
+            id,
+            owner,
+            side,
+            price: words::to_i64(r[cells::COMMAND_PRICE]),
+            qty,
+            tif: tif_of(r[cells::COMMAND_TIF]),
+            display: qty_of(r[cells::COMMAND_DISPLAYED], r[cells::COMMAND_DISPLAY]),
+        },
+        1 => Command::Market {
+            id,
+            owner,
+            side,
+            qty,
+        },
+        2 => Command::Cancel { id, owner },
+        3 => Command::Modify {
+            id,
+            owner,
+            price: words::to_i64(r[cells::COMMAND_PRICE]),
+            qty,
+        },
+        4 => Command::Stop {
+            id,
+            owner,
+            side,
+            trigger: words::to_i64(r[cells::COMMAND_TRIGGER]),
+            limit: price_of(r[cells::COMMAND_LIMITED], r[cells::COMMAND_LIMIT]),
+            qty,
+        },
+        _ => Command::CancelAll { owner },
     }
 }
 
 // The command in the row i.
 pub fn command_at(m: &[u8], i: usize) -> Command
-    requires { ⌜ P.Readable (now m) i ⌝ }
+    requires { ⌜ Holds (now m) × (i < most-in-batch) × P.CommandFits (cell (now m) C.batch i) ⌝ }
     ensures { λ r. ⌜ r ≡ command (cell (now (m .entry)) C.batch i) ⌝ }
 {
-    match store::get(m, store::BATCH, i, cells::COMMAND_KIND) {
-        0 => limit_at(m, i),
-        1 => market_at(m, i),
-        2 => cancel_at(m, i),
-        3 => modify_at(m, i),
-        4 => stop_at(m, i),
-        _ => Command::CancelAll {
-            owner: owner_at(m, i),
-        },
-    }
+    let mut row = [0; 12];
+    store::read(m, store::BATCH, i, 0, &mut row);
+    command_of(row)
 }
