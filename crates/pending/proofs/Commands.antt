@@ -1,7 +1,9 @@
 -- A command's row: what is written for it is read back. Assumes nothing.
 use mathlib.Core.Path.{_≡_, refl, sym, ap, _∙_}
+use mathlib.Core.Logic.{⊎-elim}
 use mathlib.Core.List.{List, [], _∷_}
-use Prim.Native.Nat.{ℕ, _+_, _^_, _<_}
+use Prim.Native.Nat.{ℕ, _+_, _^_, _≤_, _<_}
+use native.Mathlib.Nat.{eq-or-lt-of-le}
 use native.Mathlib.Omega.{arith}
 use borrow.Author.Tests.{eq-eqb, ne-eqb}
 use lib.IntN.{ℤ}
@@ -107,21 +109,31 @@ module _ (r : Row) (s : Store) where
   row-view =
       ap (λ cs. with-rest (with-batch cs) (gateway s))
       (listed-push (λ i. command (s C.batch i)) (λ i. command (pushed C.batch i)) (word s C.waiting) (command r)
-      (λ j l. rw (ne-eqb j (word s C.waiting) (λ e. omega (arith, e))) refl)
+      (λ j h. rw (ne-eqb j (word s C.waiting) (λ e. omega (arith, e))) refl)
       (rw (eq-eqb (word s C.waiting) (word s C.waiting) refl) refl))
+
+  pushed-other : (j l : ℕ) → j < word s C.waiting → pushed C.batch j l ≡ s C.batch j l
+  unfolding fill
+  pushed-other j l h = rw (ne-eqb j (word s C.waiting) (λ e. omega (arith, e))) refl
 
   pushed-owner : pushed C.batch (word s C.waiting) C.command-owner ≡ r C.command-owner
   unfolding fill
   pushed-owner = rw (eq-eqb (word s C.waiting) (word s C.waiting) refl) refl
 
 module _ (c : Command) (s : Store) (t : P.Typed c) where
-  pub command-view : P.Batched c → gateway (P.push-command c s) ≡ with-rest (queued c) (gateway s)
+  pub command-view : P.Batched c → gateway (P.command-push c s) ≡ with-rest (queued c) (gateway s)
   command-view b =
       ap (λ vs. gateway (P.push-row C.batch C.waiting vs s)) (row-cells c) ∙ row-view (row c) s ∙ ap (λ k. with-rest (queued k) (gateway s)) (row-back c b (t .prices-fit))
 
-  -- and its row can be read
-  pub command-fits : P.CommandFits (P.push-command c s C.batch (word s C.waiting))
-  command-fits =
-      let e : P.push-command c s C.batch (word s C.waiting) C.command-owner ≡ owner-of c =
-      ap (λ vs. P.push-row C.batch C.waiting vs s C.batch (word s C.waiting) C.command-owner) (row-cells c) ∙ pushed-owner (row c) s ∙ row-owner c in
-      record { owner-fits = rw e (t .owner-fits) }
+  -- its row can be read, and so can those before it
+  owner-cell : (j : ℕ) → P.command-push c s C.batch j C.command-owner ≡ pushed (row c) s C.batch j C.command-owner
+  owner-cell j = ap (λ vs. P.push-row C.batch C.waiting vs s C.batch j C.command-owner) (row-cells c)
+
+  pub command-fits : P.CommandFits (P.command-push c s C.batch (word s C.waiting))
+  command-fits = record { owner-fits = rw (owner-cell (word s C.waiting) ∙ pushed-owner (row c) s ∙ row-owner c) (t .owner-fits) }
+
+  pub batch-fits : P.BatchFits s → P.BatchFits (P.command-push c s)
+  batch-fits f j h =
+      ⊎-elim (λ (e : j ≡ word s C.waiting). rw e command-fits)
+      (λ l. record { owner-fits = rw (owner-cell j ∙ pushed-other (row c) s j C.command-owner l) (f j l .owner-fits) })
+      (eq-or-lt-of-le (let l : j ≤ word s C.waiting = omega arith in l))

@@ -34,11 +34,11 @@ side-sell : (t : Bool) → not t ≡ same-side Sell (cond (not t) Sell Buy)
 side-sell true = refl
 side-sell false = refl
 
-pub same-side-0 : (a b : ℕ) → a ≡ 0 → eqb b 0 ≡ same-side (side a) (side b)
-same-side-0 a b e = rw (eq-eqb a 0 e) (side-buy (eqb b 0))
+pub same-as-buy : (a b : ℕ) → a ≡ 0 → eqb b 0 ≡ same-side (side a) (side b)
+same-as-buy a b e = rw (eq-eqb a 0 e) (side-buy (eqb b 0))
 
-pub same-side-1 : (a b : ℕ) → (a ≡ 0 → ⊥) → not (eqb b 0) ≡ same-side (side a) (side b)
-same-side-1 a b e = rw (ne-eqb a 0 e) (side-sell (eqb b 0))
+pub same-as-sell : (a b : ℕ) → (a ≡ 0 → ⊥) → not (eqb b 0) ≡ same-side (side a) (side b)
+same-as-sell a b e = rw (ne-eqb a 0 e) (side-sell (eqb b 0))
 
 -- two words have the same number where they are the same
 pub same-price-is : (a b : ℕ) → a < 2 ^ 64 → b < 2 ^ 64 → eqb a b ≡ same-price (int a) (int b)

@@ -61,7 +61,7 @@ published-view s = refl
 
 -- ---- changed levels
 
-abbrev with-changed : List Key → Rest → Rest
+abbrev pub with-changed : List Key → Rest → Rest
 with-changed ks r = pending (record { resting = r .depth .resting; changed = ks }) (r .trades) (r .notices) r
 
 module _ (x p : ℕ) (s : Store) where
@@ -92,7 +92,7 @@ delivered-view n s = refl
 pub collar-view : (n : ℕ) (s : Store) → gateway (P.set-collar n s) ≡ with-rest (with-collar (optional n)) (gateway s)
 collar-view n s = refl
 
-abbrev with-mark : MaybePrice → Gateway → Gateway
+abbrev pub with-mark : MaybePrice → Gateway → Gateway
 with-mark p g =
     let l = g .core .ledger in
     record { core = record { ledger = record { last = l .last; wallets = l .wallets; orders = l .orders; mark = p }; flights = g .core .flights; accounts = g .core .accounts }; rest = g .rest }

@@ -88,7 +88,7 @@ qty-word (Q.the-variants.Some q) = q
 abbrev pub maybe-qty : ℕ → ℕ → Q.MaybeQty
 maybe-qty n q = cond (flag n) (Q.the-variants.Some q) Q.the-variants.None
 
--- a command's row, in the order of Cells; a cell that its kind does not have is 0
+-- a command's row, in the order of Cells; a cell that its kind does not have is 0. A phase change is never written
 abbrev pub command-row : Command → List ℕ
 command-row (Limit id owner s price qty t d) = 0 ∷ id ∷ owner ∷ sideCode s ∷ word-of price ∷ qty ∷ tifCode t ∷ qty-flag d ∷ qty-word d ∷ 0 ∷ 0 ∷ 0 ∷ []
 command-row (Market id owner s qty) = 1 ∷ id ∷ owner ∷ sideCode s ∷ 0 ∷ qty ∷ 0 ∷ 0 ∷ 0 ∷ 0 ∷ 0 ∷ 0 ∷ []
@@ -98,10 +98,10 @@ command-row (Stop id owner s trigger limit qty) = 4 ∷ id ∷ owner ∷ sideCod
 command-row (CancelAll owner) = 5 ∷ 0 ∷ owner ∷ 0 ∷ 0 ∷ 0 ∷ 0 ∷ 0 ∷ 0 ∷ 0 ∷ 0 ∷ 0 ∷ []
 command-row (SetPhase p) = 6 ∷ 0 ∷ 0 ∷ 0 ∷ 0 ∷ 0 ∷ 0 ∷ 0 ∷ 0 ∷ 0 ∷ 0 ∷ 0 ∷ []
 
-abbrev pub push-command : Command → Store → Store
-push-command c = push-row C.batch C.waiting (command-row c)
+abbrev pub command-push : Command → Store → Store
+command-push c = push-row C.batch C.waiting (command-row c)
 
--- it is handed over
+-- the batch is handed over
 abbrev pub clear-batch : Store → Store
 clear-batch = write C.header 0 C.waiting 0
 
@@ -109,7 +109,7 @@ clear-batch = write C.header 0 C.waiting 0
 abbrev pub by-cell : List ℕ → Row
 by-cell vs k = getD vs k 0
 
--- the owner and the prices of a command are numbers of their Rust types
+-- prices are numbers of 64 bits
 abbrev pub MaybeFits : M.MaybePrice → Type 0
 MaybeFits M.the-variants.None = Unit {0}
 MaybeFits (M.the-variants.Some p) = SFits w64 p
@@ -123,13 +123,17 @@ PricesFit (Stop id owner s trigger limit qty) = SFits w64 trigger × MaybeFits l
 PricesFit (CancelAll owner) = Unit {0}
 PricesFit (SetPhase p) = Unit {0}
 
+-- the owner and the prices of a command are numbers of their Rust types
 pub record Typed (c : Command) : Type 0 where
   pub owner-fits : owner-of c < 2 ^ 32
   pub prices-fit : PricesFit c
 
--- a row's owner is a number of 32 bits
+-- a row's owner is a number of 32 bits, and so in every row of the batch
 pub record CommandFits (r : Row) : Type 0 where
   pub owner-fits : r C.command-owner < 2 ^ 32
+
+abbrev pub BatchFits : Store → Type 0
+BatchFits s = (j : ℕ) → j < word s C.waiting → CommandFits (s C.batch j)
 
 -- ---- words of the header
 

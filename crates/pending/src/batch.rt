@@ -8,10 +8,8 @@ use protocol::codes;
 use store::cells;
 ghost use mathlib.Core.Path.{_≡_};
 ghost use Prim.Native.Nat.{_<_};
-ghost use Rattle.protocol.specs.Codes.{sideCode, tifCode};
 ghost use Rattle.gateway.specs.Bytes.{price-flag, price-word};
 ghost use Rattle.gateway.specs.Limits.{most-in-batch};
-ghost use Rattle.words.specs.Words.{int};
 ghost use Rattle.store.specs.Cells as C;
 ghost use Rattle.store.specs.Layout.{cell, Holds};
 ghost use Rattle.store.specs.View.{word, side, tif, maybe-price, command, Is, Ready};
@@ -61,6 +59,7 @@ fn price_word(p: MaybePrice) -> u64
     }
 }
 
+// A cell that the kind does not have is 0. A phase change is never written.
 fn row_of(c: Command) -> [u64; 12]
     ensures { λ r. ⌜ (r ≡ P.command-row c) × P.Typed c ⌝ }
 {
@@ -119,15 +118,16 @@ fn row_of(c: Command) -> [u64; 12]
     }
 }
 
+// A command joins the batch.
 pub fn push_command(m: &mut [u8], c: Command)
     requires { ⌜ Ready (now m) × (word (cell (now m)) C.waiting < most-in-batch) × P.Batched c ⌝ }
-    ensures { λ r. ⌜ Is (now (m .exit)) (P.push-command c (cell (now (m .entry)))) × P.Typed c ⌝ }
+    ensures { λ r. ⌜ Is (now (m .exit)) (P.command-push c (cell (now (m .entry)))) × P.Typed c ⌝ }
 {
     let row = row_of(c);
     crate::push_row(m, store::BATCH, cells::WAITING, &row);
 }
 
-// It is handed over.
+// The batch is handed over.
 pub fn clear_batch(m: &mut [u8])
     requires { ⌜ Holds (now m) ⌝ }
     ensures { λ r. ⌜ Is (now (m .exit)) (P.clear-batch (cell (now (m .entry)))) ⌝ }
@@ -174,6 +174,7 @@ fn price_of(there: u64, w: u64) -> MaybePrice
     }
 }
 
+// A kind above 4 is a mass cancel.
 fn command_of(r: [u64; 12]) -> Command
     requires { ⌜ P.CommandFits (P.by-cell r) ⌝ }
     ensures { λ c. ⌜ c ≡ command (P.by-cell r) ⌝ }

@@ -9,7 +9,7 @@ ghost use Rattle.gateway.specs.Ledger.{same-side};
 ghost use Rattle.gateway.specs.Limits.{most-changed};
 ghost use Rattle.store.specs.Cells as C;
 ghost use Rattle.store.specs.Layout.{cell, Holds};
-ghost use Rattle.store.specs.View.{side, word, changed-key, depth, Is, Ready};
+ghost use Rattle.store.specs.View.{side, changed-key, depth, Is, Ready};
 ghost use Rattle.pending.specs.Pending as P;
 
 fn same_side(a: u64, b: u64) -> bool
