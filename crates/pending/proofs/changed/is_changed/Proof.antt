@@ -36,7 +36,7 @@ is-at-requires c κs = search needs
 returns : tie.Need-returns Inv-loop μ-loop
 returns c =
     let l = c .before .before .before in
-    sym (l .loop .inv .1 ∙ scan-hit _ _ (l .loop .n) (c .before .before .loop-test .taken) (sym (c .before .is-at .ensures) ∙ c .if1 .taken))
+    sym (l .loop .inv .1 ∙ scan-hit _ _ (l .loop .n) (omega arith) (sym (c .before .is-at .ensures) ∙ c .if1 .taken))
 
 loop-less : tie.Need-loop-less Inv-loop μ-loop
 loop-less c = search needs
@@ -44,10 +44,10 @@ loop-less c = search needs
 loop-again : tie.Need-loop-again Inv-loop μ-loop
 loop-again c =
     let l = c .before .before .before in
-    (omega arith, l .loop .inv .1 ∙ scan-miss _ _ (l .loop .n) (c .before .before .loop-test .taken) (sym (c .before .is-at .ensures) ∙ c .if1 .left))
+    (omega arith, l .loop .inv .1 ∙ scan-miss _ _ (l .loop .n) (omega arith) (sym (c .before .is-at .ensures) ∙ c .if1 .left))
 
 returns-2 : tie.Need-returns-2 Inv-loop μ-loop
-returns-2 c = sym (c .before .loop .inv .1 ∙ scan-none _ _ (c .before .loop .n) (c .loop-test .left))
+returns-2 c = sym (c .before .loop .inv .1 ∙ scan-none _ _ (c .before .loop .n) (omega arith))
 
 pub is-changed-spec : {M : Type 1} → statement M
 is-changed-spec =
