@@ -45,7 +45,7 @@ less-trans (negsuc a) (negsuc b) (negsuc c) h k = lt-ltb c a (omega (arith, ltb-
 both : (a b : ℕ) → leb a b && leb b a ≡ true → a ≡ b
 both a b h = let t = and-eq-true-iff (leb a b) (leb b a) .0 h in let p = leb-true a b (t .0) in let q = leb-true b a (t .1) in omega arith
 
-same-is : (a b : ℤ) → same-price a b ≡ true → a ≡ b
+pub same-is : (a b : ℤ) → same-price a b ≡ true → a ≡ b
 same-is (pos a) (pos b) h = ap pos (both a b h)
 same-is (pos a) (negsuc b) h = absurd (true≢false (sym h))
 same-is (negsuc a) (pos b) h = absurd (true≢false (sym h))

@@ -31,11 +31,11 @@ use Rattle.gateway.specs.Rest.{with-buckets}
 use Rattle.gateway.specs.Calls.{Gateway}
 use Rattle.gateway.proofs.Base.{split}
 use Rattle.store.specs.Cells as C
-use Rattle.store.specs.View.{Row, Store, word, write, side, maybe-price, order, account, wallet, bucket, ledger, depth, gateway, order-room, listed, Bounds}
+use Rattle.store.specs.View.{Row, Store, word, write, fill, side, maybe-price, order, account, wallet, bucket, ledger, depth, gateway, order-room, listed, Bounds}
 use Rattle.store.proofs.Listed.{listed-ext}
 use Rattle.store.proofs.Rows.{put-cell, row-here, row-there, row-unread}
 use Rattle.orders.specs.declared.Live.{Live}
-use Rattle.orders.specs.Orders.{Ordered, live-row, order-of, fill, strike}
+use Rattle.orders.specs.Orders.{Ordered, live-row, order-of, strike}
 use Rattle.orders.specs.Orders as Orders
 use Rattle.orders.proofs.Views.{Touched, Did, put-cells, revised, bounds-from, revise-touched, retire-touched, revise-does, retire-does, live-parts}
 use Rattle.levels.specs.Levels.{size, row}

@@ -13,9 +13,9 @@ use Rattle.table.proofs.Live.{same?}
 use Rattle.gateway.specs.Limits.{owner-slots, most-orders}
 use Rattle.gateway.specs.Ledger.{with-orders}
 use Rattle.store.specs.Cells as C
-use Rattle.store.specs.View.{Row, Store, word, write, side, ledger, depth, gateway, order-room}
+use Rattle.store.specs.View.{Row, Store, word, write, fill, side, ledger, depth, gateway, order-room}
 use Rattle.orders.specs.declared.Live.{Live}
-use Rattle.orders.specs.Orders.{Ordered, order-of, fill}
+use Rattle.orders.specs.Orders.{Ordered, order-of}
 use Rattle.orders.specs.Orders as Orders
 use Rattle.orders.proofs.Views.{Touched, Did, new-row, append-touched, append-does}
 use Rattle.orders.proofs.Room.{make-room-does, make-room-room, make-room-each, make-room-other}

@@ -21,25 +21,15 @@ use Rattle.gateway.specs.Depth.{resting-number}
 use Rattle.gateway.specs.Ledger.{number-of}
 use Rattle.store.specs.Cells as C
 use Rattle.store.specs.Layout.{cell, start, spot, Cell, Holds, Set}
-use Rattle.store.specs.View.{Row, Store, Same, word, write, order, resting, order-room, Is, Ready}
+use Rattle.store.specs.View.{Row, Store, Same, word, write, fill, order, resting, order-room, Is, Ready}
 use Rattle.store.proofs.Places.{header-cell, order-cell, hint-cell, cell-block}
-use Rattle.store.proofs.Rows.{then-set, is-itself, same-write, same-trans}
+use Rattle.store.proofs.Rows.{then-set, then-fill, is-itself, same-write, same-trans}
 use Rattle.orders.specs.declared.Live.{Live}
 use Rattle.orders.specs.declared.Resting.{Resting}
 use Rattle.orders.proofs.Shown.{look-map}
-use Rattle.orders.specs.Orders.{hint-slots, either, Sorted, Marks, FindsRow, Sees, fill, strike, rest, append, places, packed, compact, hint, hint-rows, squeeze, make-room, opened, open-row}
+use Rattle.orders.specs.Orders.{hint-slots, either, Sorted, Marks, FindsRow, Sees, strike, rest, append, places, packed, compact, hint, hint-rows, squeeze, make-room, opened, open-row}
 
 -- ---- what is written
-
-same-fill : (s t : Store) (b i k : ℕ) (vs : List ℕ) → Same s t → Same (fill b i k vs s) (fill b i k vs t)
-unfolding fill
-same-fill s t b i k [] p = p
-same-fill s t b i k (v ∷ vs) p = same-fill (write b i k v s) (write b i k v t) b i (k + 1) vs (same-write s t b i k v p)
-
--- what is filled in after writes that left s
-then-fill : {ys zs : List ℕ} {s : Store} (b i k : ℕ) (vs : List ℕ) → Is ys s → Is zs (fill b i k vs (cell ys)) → Is zs (fill b i k vs s)
-then-fill {ys} {zs} {s} b i k vs p q =
-    record { holds = q .holds; same = λ d j l c. q .same d j l c ∙ same-fill (cell ys) s b i k vs (p .same) d j l c }
 
 pub set-two-is : {xs ys zs : List ℕ} (b i k v w : ℕ) → Holds xs → Cell b i (k + 1) → Set xs ys b i k v → Set ys zs b i (k + 1) w →
     Is zs (fill b i k (v ∷ w ∷ []) (cell xs))

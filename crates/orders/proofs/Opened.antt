@@ -15,8 +15,8 @@ use Rattle.table.proofs.Live.{same?, gap-swap, ascends-open}
 use Rattle.gateway.specs.Depth as D
 use Rattle.gateway.specs.Ledger.{number-of}
 use Rattle.store.specs.Cells as C
-use Rattle.store.specs.View.{Row, Store, word, order, resting, marked, ledger, depth, gateway, order-room}
-use Rattle.orders.specs.Orders.{hint-slots, Flags, Ordered, fill, opened, open-row}
+use Rattle.store.specs.View.{Row, Store, word, fill, order, resting, marked, ledger, depth, gateway, order-room}
+use Rattle.orders.specs.Orders.{hint-slots, Flags, Ordered, opened, open-row}
 use Rattle.orders.proofs.Views.{with-lists, Did, Touched, put-cells, fill-touched, count-touched, hint-touched, untouched, bounds-from}
 
 module _ (s : Store) (i n : ℕ) (d : Ordered s) (room : word s C.order-rows < order-room) (inside : i ≤ word s C.order-rows)

@@ -19,13 +19,13 @@ use Rattle.gateway.specs.Ledger as L
 use Rattle.gateway.specs.Table.{update}
 use Rattle.store.specs.Cells as C
 use Rattle.store.specs.Layout.{cell}
-use Rattle.store.specs.View.{Row, Store, Same, Is, Ready, word, write, side, maybe-price, order, resting, marked, ledger, depth, gateway, order-room, Bounds}
+use Rattle.store.specs.View.{Row, Store, Same, Is, Ready, word, write, fill, side, maybe-price, order, resting, marked, ledger, depth, gateway, order-room, Bounds}
 use Rattle.store.proofs.Places.{header-cell, order-cell}
 use Rattle.store.proofs.Rows.{put-cell, row-here, row-there}
 use Rattle.store.proofs.Frames.{Agree, order-same, resting-same, gateway-same}
 use Rattle.orders.specs.declared.Live.{Live}
 use Rattle.orders.specs.declared.Resting.{Resting}
-use Rattle.orders.specs.Orders.{hint-slots, either, Flags, Sorted, Ordered, order-of, fill, set-leaves, set-price, revise, show, strike, retire, take-off, rest, append}
+use Rattle.orders.specs.Orders.{hint-slots, either, Flags, Sorted, Ordered, order-of, set-leaves, set-price, revise, show, strike, retire, take-off, rest, append}
 use Rattle.orders.proofs.Shown.{shown, shown-ext, shown-more, shown-dead, shown-strike, shown-replace, shown-revive, shown-update, shown-length, shown-parts, look-map}
 
 -- the gateway with other lists of orders

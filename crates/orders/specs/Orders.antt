@@ -10,7 +10,7 @@ use Rattle.table.specs.Table.{Finds, found}
 use Rattle.table.specs.declared.Found.{Found}
 use Rattle.gateway.specs.Ledger.{Order}
 use Rattle.store.specs.Cells as C
-use Rattle.store.specs.View.{Row, Store, word, write, side, maybe-price, order, resting, marked, order-room, Bounds}
+use Rattle.store.specs.View.{Row, Store, word, write, fill, side, maybe-price, order, resting, marked, order-room, Bounds}
 use Rattle.orders.specs.declared.Live.{Live}
 use Rattle.orders.specs.declared.Resting.{Resting}
 
@@ -93,11 +93,6 @@ pub record Sees {A : Type 0} (k : ℕ) (f : Row → A) (number : A → ℕ) (s :
 -- a row's hint has the slot of its number modulo this
 abbrev pub hint-slots : ℕ
 hint-slots = 4096
-
--- vs in the cells of a row from k on
-unfoldable pub fill : ℕ → ℕ → ℕ → List ℕ → Store → Store
-fill b i k [] s = s
-fill b i k (v ∷ vs) s = fill b i (k + 1) vs (write b i k v s)
 
 abbrev pub set-leaves : ℕ → ℕ → ℕ → Store → Store
 set-leaves i leaves hold = fill C.orders i C.order-leaves (leaves ∷ hold ∷ [])

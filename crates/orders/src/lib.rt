@@ -27,8 +27,8 @@ ghost use Rattle.gateway.specs.Depth.{resting-number};
 ghost use Rattle.gateway.specs.Ledger.{number-of};
 ghost use Rattle.store.specs.Cells as C;
 ghost use Rattle.store.specs.Layout.{cell, Cell, Holds};
-ghost use Rattle.store.specs.View.{word, order, resting, order-room, Is, Ready};
-ghost use Rattle.orders.specs.Orders.{Sorted, Marks, FindsRow, Sees, live-row, resting-row, fill, set-leaves, set-price, revise, show, strike, retire, take-off, rest, append, hint, hint-rows, squeeze, make-room, open-row};
+ghost use Rattle.store.specs.View.{word, fill, order, resting, order-room, Is, Ready};
+ghost use Rattle.orders.specs.Orders.{Sorted, Marks, FindsRow, Sees, live-row, resting-row, set-leaves, set-price, revise, show, strike, retire, take-off, rest, append, hint, hint-rows, squeeze, make-room, open-row};
 
 // The live half of a row.
 pub struct Live {

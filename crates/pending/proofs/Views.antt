@@ -1,10 +1,13 @@
 -- What the operations do to the gateway that the cells hold: each changes its own part, and the rest stays by computation. Assumes nothing.
 use mathlib.Core.Path.{_≡_, refl, sym, ap, ap₂, _∙_}
-use mathlib.Core.List.{[], _∷_, _++_}
+use mathlib.Core.Bool.{Bool, true, false, cond}
+use mathlib.Core.List.{List, [], _∷_, _++_}
 use Prim.Native.Nat.{ℕ, zero, suc, _+_, _-_, _%_, _≤_, _<_}
 use native.Mathlib.Omega.{arith}
 use native.Mathlib.Nat.{add-zero}
 use borrow.Author.Tests.{eq-eqb, ne-eqb, le-ltb, lt-ltb}
+use Rattle.orderbook.specs.declared.MaybePrice.{MaybePrice}
+use Rattle.orderbook.specs.declared.MaybePrice.the-variants.{Some}
 use Rattle.protocol.specs.declared.TradeTick.{TradeTick}
 use Rattle.words.specs.Words.{int}
 use Rattle.gateway.specs.Limits.{most-in-flight}
@@ -12,9 +15,10 @@ use Rattle.gateway.specs.Core.{Flight, drop-below}
 use Rattle.gateway.specs.Calls.{Gateway}
 use Rattle.gateway.specs.Entry.{noticing}
 use Rattle.gateway.specs.Entry as Entry
-use Rattle.gateway.specs.Rest.{Rest, pending}
+use Rattle.gateway.specs.Depth.{Key, is-changed, remember}
+use Rattle.gateway.specs.Rest.{Rest, pending, at-time, with-batch, with-delivered, with-collar}
 use Rattle.store.specs.Cells as C
-use Rattle.store.specs.View.{Row, Store, listed, flag, optional, side, word, in-slot, flights, gateway}
+use Rattle.store.specs.View.{Row, Store, fill, listed, flag, optional, side, word, changed-key, in-slot, flights, depth, gateway}
 use Rattle.store.proofs.Listed.{listed-ext, listed-more}
 use Rattle.pending.specs.Pending as P
 
@@ -22,10 +26,11 @@ use Rattle.pending.specs.Pending as P
 pub listed-push : {A : Type 0} (f g : ℕ → A) (n : ℕ) (x : A) → ((j : ℕ) → j < n → g j ≡ f j) → g n ≡ x → listed g (n + 1) ≡ listed f n ++ (x ∷ [])
 listed-push f g n x h e = listed-more g n ∙ ap (λ l. l ++ (g n ∷ [])) (listed-ext f g n h) ∙ ap (λ y. listed f n ++ (y ∷ [])) e
 
-abbrev with-rest : (Rest → Rest) → Gateway → Gateway
+abbrev pub with-rest : (Rest → Rest) → Gateway → Gateway
 with-rest f g = record { core = g .core; rest = f (g .rest) }
 
 pub notice-view : (a : ℕ) (s : Store) → gateway (P.notice a s) ≡ with-rest (noticing (a ∷ [])) (gateway s)
+unfolding fill
 notice-view a s =
     ap (λ ns. with-rest (λ r. pending (r .depth) (r .trades) ns r) (gateway s))
     (listed-push (λ i. s C.notices i C.notice-account) (λ i. P.notice a s C.notices i C.notice-account) (word s C.notice-rows) a
@@ -37,6 +42,7 @@ tick seq id s p q = record { seq = seq; «trade_id» = id; side = side s; price 
 
 pub trade-view : (seq id x p q : ℕ) (s : Store) →
     gateway (P.trade seq id x p q s) ≡ with-rest (λ r. pending (r .depth) (r .trades ++ (tick seq id x p q ∷ [])) (r .notices) r) (gateway s)
+unfolding fill
 trade-view seq id x p q s =
     ap (λ ts. with-rest (λ r. pending (r .depth) ts (r .notices) r) (gateway s))
     (listed-push (λ i. read (s C.trades i)) (λ i. read (P.trade seq id x p q s C.trades i)) n (tick seq id x p q)
@@ -53,6 +59,52 @@ pub published-view : (s : Store) → gateway (P.published s) ≡ with-rest Entry
 unfolding listed
 published-view s = refl
 
+-- ---- changed levels
+
+abbrev pub with-changed : List Key → Rest → Rest
+with-changed ks r = pending (record { resting = r .depth .resting; changed = ks }) (r .trades) (r .notices) r
+
+module _ (x p : ℕ) (s : Store) where
+  pushed-view : gateway (P.push-level x p s) ≡ with-rest (λ r. with-changed (r .depth .changed ++ (P.key x p ∷ [])) r) (gateway s)
+  unfolding fill
+  pushed-view =
+      ap (λ ks. with-rest (with-changed ks) (gateway s))
+      (listed-push (λ i. changed-key (s C.changed i)) (λ i. changed-key (P.push-level x p s C.changed i)) (word s C.changed-rows) (P.key x p)
+      (λ j l. rw (ne-eqb j (word s C.changed-rows) (λ e. omega (arith, e))) refl)
+      (rw (eq-eqb (word s C.changed-rows) (word s C.changed-rows) refl) refl))
+
+  pub remember-view : gateway (P.remember x p s) ≡ with-rest (λ r. with-changed (remember (P.key x p) (r .depth .changed)) r) (gateway s)
+  unfolding P.remember
+  remember-view = go (is-changed (P.key x p) (depth s .changed))
+    where
+      go : (t : Bool) → gateway (cond t s (P.push-level x p s)) ≡ with-rest (λ r. with-changed (cond t (r .depth .changed) (r .depth .changed ++ (P.key x p ∷ []))) r) (gateway s)
+      go true = refl
+      go false = pushed-view
+
+-- ---- words of the header
+
+pub clock-view : (t : ℕ) (s : Store) → gateway (P.set-clock t s) ≡ with-rest (at-time t) (gateway s)
+clock-view t s = refl
+
+pub delivered-view : (n : ℕ) (s : Store) → gateway (P.set-delivered n s) ≡ with-rest (with-delivered n) (gateway s)
+delivered-view n s = refl
+
+pub collar-view : (n : ℕ) (s : Store) → gateway (P.set-collar n s) ≡ with-rest (with-collar (optional n)) (gateway s)
+collar-view n s = refl
+
+abbrev pub with-mark : MaybePrice → Gateway → Gateway
+with-mark p g =
+    let l = g .core .ledger in
+    record { core = record { ledger = record { last = l .last; wallets = l .wallets; orders = l .orders; mark = p }; flights = g .core .flights; accounts = g .core .accounts }; rest = g .rest }
+
+pub mark-view : (p : ℕ) (s : Store) → gateway (P.set-mark p s) ≡ with-mark (Some (int p)) (gateway s)
+unfolding fill
+mark-view p s = refl
+
+pub clear-view : (s : Store) → gateway (P.clear-batch s) ≡ with-rest (with-batch []) (gateway s)
+unfolding listed
+clear-view s = refl
+
 -- ---- commands in flight
 
 -- two numbers of a run of at most 256 have slots of their own
@@ -67,9 +119,11 @@ module _ (sender owner places : ℕ) (s : Store) (few : word s C.flying < most-i
   new = record { number = next; session = optional sender; owner = owner; places = flag places }
 
   old-slot : (n : ℕ) → n < next → next < n + most-in-flight → in-slot (P.take-off sender owner places s) n ≡ in-slot s n
+  unfolding fill
   old-slot n h k = rw (ne-eqb (n % most-in-flight) (next % most-in-flight) (slots-apart n next h k)) refl
 
   new-slot : in-slot (P.take-off sender owner places s) next ≡ new
+  unfolding fill
   new-slot = rw (eq-eqb (next % most-in-flight) (next % most-in-flight) refl) refl
 
   flights-more : flights (P.take-off sender owner places s) ≡ flights s ++ (new ∷ [])
@@ -97,6 +151,7 @@ module _ (sender owner places : ℕ) (s : Store) (few : word s C.flying < most-i
 
   -- the run grows by the next number, which is the last
   pub take-off-view : gateway (P.take-off sender owner places s) ≡ numbered (gateway s)
+  unfolding fill
   take-off-view =
       ap (λ fs. record { core = record { ledger = numbered (gateway s) .core .ledger; flights = fs; accounts = gateway s .core .accounts }; rest = gateway s .rest }) flights-more
 

@@ -1,21 +1,35 @@
 -- What each operation writes, as a store.
-use Prim.Native.Nat.{ℕ, _+_, _-_, _%_}
+use Prim.Native.Nat.{ℕ, _+_, _-_, _%_, _^_, _<_}
+use mathlib.Core.List.{List, [], _∷_}
+use mathlib.Core.Bool.{cond}
+use lib.IntN.{ℤ}
+use lib.ListN.{getD}
+use mir.Syntax.{w64}
+use mir.Val.{SFits, ofZ}
+use Rattle.orderbook.specs.declared.MaybePrice as M
+use Rattle.orderbook.specs.declared.MaybeQty as Q
+use Rattle.orderbook.specs.declared.Command.{Command}
+use Rattle.orderbook.specs.declared.Command.the-variants.{Limit, Market, Cancel, Modify, Stop, CancelAll, SetPhase}
+use Rattle.protocol.specs.Codes.{sideCode, tifCode}
+use Rattle.words.specs.Words.{int}
+use Rattle.gateway.specs.Bytes.{price-flag, price-word}
+use Rattle.gateway.specs.Depth.{Key, is-changed}
+use Rattle.gateway.specs.Ledger.{owner-of}
 use Rattle.gateway.specs.Limits.{most-in-flight}
 use Rattle.store.specs.Cells as C
-use Rattle.store.specs.View.{Store, word, write}
+use Rattle.store.specs.View.{Row, Store, word, write, fill, flag, side, depth}
+
+-- a row behind the others of a block; the word k has how many there are
+abbrev pub push-row : ℕ → ℕ → List ℕ → Store → Store
+push-row b k vs s = write C.header 0 k (word s k + 1) (fill b (word s k) 0 vs s)
 
 -- the wallet of account a changed
 abbrev pub notice : ℕ → Store → Store
-notice a s = write C.header 0 C.notice-rows (word s C.notice-rows + 1) (write C.notices (word s C.notice-rows) C.notice-account a s)
+notice a = push-row C.notices C.notice-rows (a ∷ [])
 
 -- a trade; its side and its price are a code and a word
-abbrev pub trade-row : ℕ → ℕ → ℕ → ℕ → ℕ → ℕ → Store → Store
-trade-row i seq trade side price qty s =
-    write C.trades i C.trade-qty qty
-    (write C.trades i C.trade-price price (write C.trades i C.trade-side side (write C.trades i C.trade-trade-id trade (write C.trades i C.trade-seq seq s))))
-
 abbrev pub trade : ℕ → ℕ → ℕ → ℕ → ℕ → Store → Store
-trade seq id side price qty s = write C.header 0 C.trade-rows (word s C.trade-rows + 1) (trade-row (word s C.trade-rows) seq id side price qty s)
+trade seq id side price qty = push-row C.trades C.trade-rows (seq ∷ id ∷ side ∷ price ∷ qty ∷ [])
 
 -- nothing waits any more, and what was delivered is published
 abbrev pub published : Store → Store
@@ -24,15 +38,114 @@ published s =
     (write C.header 0 C.changed-rows 0 (write C.header 0 C.notice-rows 0 (write C.header 0 C.trade-rows 0 s)))
 
 -- the next command is in flight: its sender is one more than a session's number, or 0
-abbrev pub flight-row : ℕ → ℕ → ℕ → ℕ → Store → Store
-flight-row i sender owner places s =
-    write C.flights i C.flight-places places (write C.flights i C.flight-owner owner (write C.flights i C.flight-sender sender s))
-
 abbrev pub take-off : ℕ → ℕ → ℕ → Store → Store
 take-off sender owner places s =
     write C.header 0 C.flying (word s C.flying + 1)
-    (write C.header 0 C.last (word s C.last + 1) (flight-row ((word s C.last + 1) % most-in-flight) sender owner places s))
+    (write C.header 0 C.last (word s C.last + 1) (fill C.flights ((word s C.last + 1) % most-in-flight) 0 (sender ∷ owner ∷ places ∷ []) s))
 
 -- an event of number n: the commands below n have had theirs
 abbrev pub land : ℕ → Store → Store
 land n s = write C.header 0 C.flying (word s C.last + 1 - n) s
+
+-- ---- changed levels
+
+-- the level of a side's code and a price's word
+abbrev pub key : ℕ → ℕ → Key
+key s p = (side s, int p)
+
+abbrev pub push-level : ℕ → ℕ → Store → Store
+push-level x p = push-row C.changed C.changed-rows (x ∷ p ∷ [])
+
+-- the level changed: it is listed once
+unfoldable pub remember : ℕ → ℕ → Store → Store
+remember x p s = cond (is-changed (key x p) (depth s .changed)) s (push-level x p s)
+
+-- ---- the batch
+
+-- a phase change is never in it
+abbrev pub Batched : Command → Type 0
+Batched (SetPhase p) = ⊥
+Batched (Limit id owner s price qty t d) = Unit {0}
+Batched (Market id owner s qty) = Unit {0}
+Batched (Cancel id owner) = Unit {0}
+Batched (Modify id owner price qty) = Unit {0}
+Batched (Stop id owner s trigger limit qty) = Unit {0}
+Batched (CancelAll owner) = Unit {0}
+
+-- the word of a signed number
+abbrev pub word-of : ℤ → ℕ
+word-of z = ofZ w64 z
+
+-- whether a quantity is there, and the quantity or 0
+abbrev pub qty-flag : Q.MaybeQty → ℕ
+qty-flag Q.the-variants.None = 0
+qty-flag (Q.the-variants.Some q) = 1
+
+abbrev pub qty-word : Q.MaybeQty → ℕ
+qty-word Q.the-variants.None = 0
+qty-word (Q.the-variants.Some q) = q
+
+abbrev pub maybe-qty : ℕ → ℕ → Q.MaybeQty
+maybe-qty n q = cond (flag n) (Q.the-variants.Some q) Q.the-variants.None
+
+-- a command's row, in the order of Cells; a cell that its kind does not have is 0. A phase change is never written
+abbrev pub command-row : Command → List ℕ
+command-row (Limit id owner s price qty t d) = 0 ∷ id ∷ owner ∷ sideCode s ∷ word-of price ∷ qty ∷ tifCode t ∷ qty-flag d ∷ qty-word d ∷ 0 ∷ 0 ∷ 0 ∷ []
+command-row (Market id owner s qty) = 1 ∷ id ∷ owner ∷ sideCode s ∷ 0 ∷ qty ∷ 0 ∷ 0 ∷ 0 ∷ 0 ∷ 0 ∷ 0 ∷ []
+command-row (Cancel id owner) = 2 ∷ id ∷ owner ∷ 0 ∷ 0 ∷ 0 ∷ 0 ∷ 0 ∷ 0 ∷ 0 ∷ 0 ∷ 0 ∷ []
+command-row (Modify id owner price qty) = 3 ∷ id ∷ owner ∷ 0 ∷ word-of price ∷ qty ∷ 0 ∷ 0 ∷ 0 ∷ 0 ∷ 0 ∷ 0 ∷ []
+command-row (Stop id owner s trigger limit qty) = 4 ∷ id ∷ owner ∷ sideCode s ∷ 0 ∷ qty ∷ 0 ∷ 0 ∷ 0 ∷ word-of trigger ∷ price-flag limit ∷ price-word limit ∷ []
+command-row (CancelAll owner) = 5 ∷ 0 ∷ owner ∷ 0 ∷ 0 ∷ 0 ∷ 0 ∷ 0 ∷ 0 ∷ 0 ∷ 0 ∷ 0 ∷ []
+command-row (SetPhase p) = 6 ∷ 0 ∷ 0 ∷ 0 ∷ 0 ∷ 0 ∷ 0 ∷ 0 ∷ 0 ∷ 0 ∷ 0 ∷ 0 ∷ []
+
+abbrev pub command-push : Command → Store → Store
+command-push c = push-row C.batch C.waiting (command-row c)
+
+-- the batch is handed over
+abbrev pub clear-batch : Store → Store
+clear-batch = write C.header 0 C.waiting 0
+
+-- a row by its cells
+abbrev pub by-cell : List ℕ → Row
+by-cell vs k = getD vs k 0
+
+-- prices are numbers of 64 bits
+abbrev pub MaybeFits : M.MaybePrice → Type 0
+MaybeFits M.the-variants.None = Unit {0}
+MaybeFits (M.the-variants.Some p) = SFits w64 p
+
+abbrev pub PricesFit : Command → Type 0
+PricesFit (Limit id owner s price qty t d) = SFits w64 price
+PricesFit (Market id owner s qty) = Unit {0}
+PricesFit (Cancel id owner) = Unit {0}
+PricesFit (Modify id owner price qty) = SFits w64 price
+PricesFit (Stop id owner s trigger limit qty) = SFits w64 trigger × MaybeFits limit
+PricesFit (CancelAll owner) = Unit {0}
+PricesFit (SetPhase p) = Unit {0}
+
+-- the owner and the prices of a command are numbers of their Rust types
+pub record Typed (c : Command) : Type 0 where
+  pub owner-fits : owner-of c < 2 ^ 32
+  pub prices-fit : PricesFit c
+
+-- a row's owner is a number of 32 bits, and so in every row of the batch
+pub record CommandFits (r : Row) : Type 0 where
+  pub owner-fits : r C.command-owner < 2 ^ 32
+
+abbrev pub BatchFits : Store → Type 0
+BatchFits s = (j : ℕ) → j < word s C.waiting → CommandFits (s C.batch j)
+
+-- ---- words of the header
+
+abbrev pub set-clock : ℕ → Store → Store
+set-clock = write C.header 0 C.clock
+
+abbrev pub set-delivered : ℕ → Store → Store
+set-delivered = write C.header 0 C.delivered
+
+-- one more than the percent, or 0
+abbrev pub set-collar : ℕ → Store → Store
+set-collar = write C.header 0 C.collar
+
+abbrev pub set-mark : ℕ → Store → Store
+set-mark price = fill C.header 0 C.marked (1 ∷ price ∷ [])

@@ -2,12 +2,12 @@
 use mathlib.Core.Path.{_≡_, refl, sym, ap, ap₂, _∙_}
 use mathlib.Core.Logic.{_⊎_, ⊎-elim}
 use mathlib.Core.List.{List, [], _∷_, _++_}
-use Prim.Native.Nat.{ℕ, zero, suc, _+_, _<_}
+use Prim.Native.Nat.{ℕ, zero, suc, _+_, _≤_, _<_}
 use native.Mathlib.Nat.{not-suc-le-zero, le-of-suc-le-suc, eq-or-lt-of-le}
 use native.Mathlib.Numerals.{add-one}
 use native.Mathlib.Omega.{arith}
-use lib.ListN.{length, getD, set, length-append, List·getD-append}
-use lib.Seq.{ext-getD, getD-at, getD-set-same, getD-set-other}
+use lib.ListN.{length, getD, take, set, length-append, List·getD-append}
+use lib.Seq.{ext-getD, getD-at, getD-set-same, getD-set-other, take-all, take-suc-set}
 use lib.ListN.{length-set}
 use Rattle.table.proofs.Live.{same?}
 use Rattle.store.specs.View.{listed}
@@ -48,3 +48,11 @@ module _ {A : Type 0} where
       (λ (q : j ≡ i). ap g q ∙ e ∙ sym (ap (λ x. getD (set (listed f n) i v) x v) q ∙ getD-set-same (listed f n) i v v (rw (listed-length f n) h)))
       (λ q. k j m q ∙ sym (getD-set-other (listed f n) i j v v q ∙ listed-at f n j v m))
       (same? j i))
+
+  -- a list that is filled from the front: its first j are f 0, .., f (j - 1)
+  pub front-more : (f : ℕ → A) (l : List A) (j : ℕ) (v : A) → j < length l → take j l ≡ listed f j → v ≡ f j → take (j + 1) (set l j v) ≡ listed f (j + 1)
+  front-more f l j v h p e =
+      ap (λ n. take n (set l j v)) (add-one j) ∙ take-suc-set l j v h ∙ ap₂ (λ (xs : List A) (x : A). xs ++ (x ∷ [])) p e ∙ sym (listed-more f j)
+
+  pub front-all : (f : ℕ → A) (l : List A) (j n : ℕ) → length l ≤ j → take j l ≡ listed f j → j ≡ n → l ≡ listed f n
+  front-all f l j n h p e = sym (take-all j l h) ∙ p ∙ ap (listed f) e

@@ -6,9 +6,9 @@ use mathlib.Core.List.{List}
 use Prim.Native.Nat.{ℕ, zero, suc, _+_, _*_, _^_, _≤_, _<_}
 use native.Mathlib.Nat.{not-suc-le-zero, le-of-suc-le-suc, eq-or-lt-of-le}
 use native.Mathlib.Omega.{arith}
-use borrow.Author.Tests.{eqb-true}
+use borrow.Author.Tests.{eqb-true, leb-true}
 use lib.ListN.{length}
-use lib.Dec.{eqb}
+use lib.Dec.{eqb, leb}
 use Rattle.le.specs.Le.{Outside}
 use Rattle.le.proofs.Laws.{length-put, le-put, le-put-other, le-outside, lt-or-le}
 use Rattle.table.proofs.Live.{same?}
@@ -31,6 +31,9 @@ pass-at f (suc n) t b h =
 ends : (b : ℕ) → b < blocks → start b + width b * rows b ≡ start (suc b)
 unfolding start
 ends b h = eqb-true _ _ (pass-at (λ c. eqb (start c + width c * rows c) (start (suc c))) blocks refl b h)
+
+pub rows-few : (b : ℕ) → b < blocks → rows b ≤ 4096
+rows-few b h = leb-true (rows b) 4096 (pass-at (λ c. leb (rows c) 4096) blocks refl b h)
 
 -- blocks stand in their order
 later : (b c : ℕ) → b < c → c ≤ blocks → start (suc b) ≤ start c

@@ -2,13 +2,17 @@
 use mathlib.Core.Path.{_≡_, refl, sym, ap, _∙_}
 use mathlib.Core.Logic.{⊎-elim}
 use mathlib.Core.Bool.{false, cond, _&&_}
-use mathlib.Core.List.{List}
-use Prim.Native.Nat.{ℕ, _^_, _<_}
+use mathlib.Core.List.{List, [], _∷_, _++_}
+use Prim.Native.Nat.{ℕ, _+_, _^_, _≤_, _<_}
 use borrow.Author.Tests.{eq-eqb, ne-eqb}
+use native.Mathlib.Numerals.{add-one}
+use native.Mathlib.Omega.{arith}
+use lib.ListN.{length, getD, take}
+use lib.Seq.{take-suc, take-all, length-take-le}
 use lib.Dec.{eqb}
 use Rattle.table.proofs.Live.{same?}
-use Rattle.store.specs.Layout.{cell, store, Cell, Holds, Set}
-use Rattle.store.specs.View.{Row, Store, write, Same, Is}
+use Rattle.store.specs.Layout.{cell, store, Cell, Cells, Holds, Set}
+use Rattle.store.specs.View.{Row, Store, write, fill, Same, Is}
 use Rattle.store.proofs.Places.{cell-same, cell-other}
 
 -- what `write` leaves in its own cell, and in another
@@ -76,3 +80,43 @@ module _ (b i k v : ℕ) (s : Store) where
   -- what does not read the cell
   pub row-unread : {B : Type 0} (f : Row → B) → ((r : Row) → f (put-cell k v r) ≡ f r) → (j : ℕ) → f (write b i k v s b j) ≡ f (s b j)
   row-unread f h j = ⊎-elim (λ (e : j ≡ i). rw e (ap f row-here ∙ h (s b i))) (λ n. ap f (row-there j n)) (same? j i)
+
+-- ---- several cells of a row
+
+pub same-fill : (s t : Store) (b i k : ℕ) (vs : List ℕ) → Same s t → Same (fill b i k vs s) (fill b i k vs t)
+unfolding fill
+same-fill s t b i k [] p = p
+same-fill s t b i k (v ∷ vs) p = same-fill (write b i k v s) (write b i k v t) b i (k + 1) vs (same-write s t b i k v p)
+
+-- what is filled in after writes that left s
+pub then-fill : {ys zs : List ℕ} {s : Store} (b i k : ℕ) (vs : List ℕ) → Is ys s → Is zs (fill b i k vs (cell ys)) → Is zs (fill b i k vs s)
+then-fill {ys} {zs} {s} b i k vs p q =
+    record { holds = q .holds; same = λ d j l c. q .same d j l c ∙ same-fill (cell ys) s b i k vs (p .same) d j l c }
+
+-- one cell more
+fill-more : (b i k : ℕ) (vs : List ℕ) (v : ℕ) (s : Store) → fill b i k (vs ++ (v ∷ [])) s ≡ write b i (k + length vs) v (fill b i k vs s)
+unfolding fill
+fill-more b i k [] v s = let e : k + 0 ≡ k = omega arith in rw e refl
+fill-more b i k (u ∷ vs) v s =
+    let e : k + 1 + length vs ≡ k + length (u ∷ vs) = omega arith in
+    fill-more b i (k + 1) vs v (write b i k u s) ∙ ap (λ l. write b i l v (fill b i (k + 1) vs (write b i k u s))) e
+
+pub cell-in : {b i k n : ℕ} (j : ℕ) → Cells b i k n → j < n → Cell b i (k + j)
+cell-in j c h = record { block-is = c .block-is; row-is = c .row-is; cell-is = omega (arith, c .cells-are) }
+
+-- ys is xs with the first j of vs filled in
+abbrev pub Filled : List ℕ → ℕ → ℕ → ℕ → List ℕ → ℕ → List ℕ → Type 0
+Filled xs b i k vs j ys = Is ys (fill b i k (take j vs) (cell xs))
+
+module _ (xs : List ℕ) (b i k : ℕ) (vs : List ℕ) where
+  pub filled-none : Holds xs → Filled xs b i k vs 0 xs
+  unfolding fill
+  filled-none h = is-itself h
+
+  pub filled-more : (j : ℕ) (ys zs : List ℕ) → Cells b i k (length vs) → j < length vs → Filled xs b i k vs j ys → Set ys zs b i (k + j) (getD vs j 0) → Filled xs b i k vs (j + 1) zs
+  filled-more j ys zs c l p q =
+      rw (add-one j, take-suc vs j 0 l, fill-more b i k (take j vs) (getD vs j 0) (cell xs), length-take-le j vs (omega arith))
+      (then-set p (cell-in j c l) q)
+
+  pub filled-all : (j : ℕ) (ys : List ℕ) → length vs ≤ j → Filled xs b i k vs j ys → Is ys (fill b i k vs (cell xs))
+  filled-all j ys l p = rw (take-all j vs l) at p

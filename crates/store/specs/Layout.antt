@@ -38,7 +38,13 @@ pub record Cell (b i k : ℕ) : Type 0 where
   pub row-is : i < rows b
   pub cell-is : k < width b
 
--- its place among all cells, and its number
+-- n cells of that row, from k on
+pub record Cells (b i k n : ℕ) : Type 0 where
+  pub block-is : b < blocks
+  pub row-is : i < rows b
+  pub cells-are : k + n ≤ width b
+
+-- a cell's place among all cells, and its number
 unfoldable pub spot : ℕ → ℕ → ℕ → ℕ
 spot b i k = start b + (width b * i + k)
 

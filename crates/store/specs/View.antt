@@ -40,6 +40,11 @@ Store = ℕ → ℕ → Row
 abbrev pub write : ℕ → ℕ → ℕ → ℕ → Store → Store
 write b i k v s d j l = cond (eqb d b && (eqb j i && eqb l k)) v (s d j l)
 
+-- vs in the cells of a row from k on
+unfoldable pub fill : ℕ → ℕ → ℕ → List ℕ → Store → Store
+fill b i k [] s = s
+fill b i k (v ∷ vs) s = fill b i (k + 1) vs (write b i k v s)
+
 -- the same numbers in every cell of the layout
 abbrev pub Same : Store → Store → Type 0
 Same s t = (b i k : ℕ) → Cell b i k → s b i k ≡ t b i k

@@ -2,9 +2,10 @@
 pub mod cells;
 
 ghost use mathlib.Core.Path.{_≡_};
-ghost use Prim.Native.Nat.{_<_};
-ghost use Rattle.store.specs.View.{Is, zeros};
-ghost use Rattle.store.specs.Layout.{blocks, cells, start, width, spot, cell, Cell, Holds, Set};
+ghost use Prim.Native.Nat.{_+_, _<_};
+ghost use lib.ListN.{length};
+ghost use Rattle.store.specs.View.{fill, listed, Is, zeros};
+ghost use Rattle.store.specs.Layout.{blocks, cells, start, width, spot, cell, Cell, Cells, Holds, Set};
 
 pub const HEADER: usize = 0;
 
@@ -83,6 +84,30 @@ pub fn set(m: &mut [u8], b: usize, i: usize, k: usize, v: u64)
     ensures { λ r. ⌜ Set (now (m .entry)) (now (m .exit)) b i k v ⌝ }
 {
     le::put_u64(m, 8 * spot_of(b, i, k), v);
+}
+
+// The numbers vs in the cells of a row, from k on.
+pub fn fill(m: &mut [u8], b: usize, i: usize, k: usize, vs: &[u64])
+    requires { ⌜ Holds (now m) × Cells b i k (length (now vs)) ⌝ }
+    ensures { λ r. ⌜ Is (now (m .exit)) (fill b i k (now (vs .entry)) (cell (now (m .entry)))) ⌝ }
+{
+    let mut j: usize = 0;
+    while j < vs.len() {
+        set(m, b, i, k + j, vs[j]);
+        j += 1;
+    }
+}
+
+// The cells of a row from k on, as many as there is room for in vs.
+pub fn read(m: &[u8], b: usize, i: usize, k: usize, vs: &mut [u64])
+    requires { ⌜ Holds (now m) × Cells b i k (length (now vs)) ⌝ }
+    ensures { λ r. ⌜ now (vs .exit) ≡ listed (λ j. cell (now (m .entry)) b i (k + j)) (length (now (vs .entry))) ⌝ }
+{
+    let mut j: usize = 0;
+    while j < vs.len() {
+        vs[j] = get(m, b, i, k + j);
+        j += 1;
+    }
 }
 
 // Every cell 0: a gateway with no accounts and no orders.

@@ -12,8 +12,11 @@ add-next c = search needs
 get-requires-2 : tie.Need-get-requires-2
 get-requires-2 c κs = search needs
 
-write-flight-requires : tie.Need-write-flight-requires
-write-flight-requires c κs = search needs
+slice-aggregate-fill : tie.Need-slice-aggregate-fill
+slice-aggregate-fill c = search needs
+
+fill-requires : tie.Need-fill-requires
+fill-requires c κs = search needs
 
 set-requires : tie.Need-set-requires
 set-requires c κs = search needs
@@ -32,10 +35,10 @@ returns c =
     let c₃ = c .before .before in
     let c₂ = c₃ .before .before .before .before in
     let c₁ = c₂ .before .before .before .before in
-    let g₂ = c₁ .before .before in
+    let g₂ = c₁ .before .before .before in
     let g₁ = g₂ .before .before in
     let s = g₁ .before .before .before in
-    take-off-is (s .pre .0) _ _ _ _ _ (g₁ .get .ensures) (g₂ .get2 .ensures) (c₁ .write-flight .ensures) (c₂ .set .ensures) (c₃ .set2 .ensures)
+    take-off-is (s .pre .0) _ _ _ _ _ (g₁ .get .ensures) (g₂ .get2 .ensures) (c₁ .fill .ensures) (c₂ .set .ensures) (c₃ .set2 .ensures)
 
 pub take-off-spec : {M : Type 1} → statement M
 take-off-spec =
@@ -44,7 +47,8 @@ take-off-spec =
     get-requires
     add-next
     get-requires-2
-    write-flight-requires
+    slice-aggregate-fill
+    fill-requires
     set-requires
     add-set
     set-requires-2
