@@ -2,3 +2,4 @@ pub mod Accounts
 pub mod Views
 pub mod Money
 pub mod Placed
+pub mod Changes

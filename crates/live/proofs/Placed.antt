@@ -137,11 +137,15 @@ module _ (s : Store) (d : Sound s) (n : ℕ) (o : Live) (can : CanPlace n o s) w
   new-stored : Stored (new-row roomy n (holding o))
   new-stored = record { hold-is = hold-is (o .side) (o .priced) (o .price) (o .leaves); owner-is = owner-is }
 
+  tables-placed : Tables (place n o s)
+  unfolding place
+  tables-placed = tables-shift _ _ _ _ _ (tables-write _ _ _ grown tables-grown)
+
   pub place-sound : Sound (place n o s)
   unfolding place shift
   place-sound =
       record {
-        tables = tables-shift _ _ _ _ _ (tables-write _ _ _ grown tables-grown);
+        tables = tables-placed;
         held =
             held-swapped place-swapped place-counts (d .held) int-zero (hold-is (o .side) (o .priced) (o .price) (o .leaves) ∙ sym (held-one (order-of n o))) refl (sym (open-one (order-of n o)))
             (each-row (λ r. 0 < r C.order-live → Stored r) (d .held .rows) (λ _. new-stored));

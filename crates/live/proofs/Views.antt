@@ -179,7 +179,7 @@ module _ (s : Store) (d : Sound s) (i : ℕ) (l : i < word s C.order-rows) (m : 
   unfolding strike
   struck-rows = refl
 
-  open-some : 0 < s C.accounts (was C.order-account) C.account-open-orders
+  pub open-some : 0 < s C.accounts (was C.order-account) C.account-open-orders
   open-some =
       let (low, high, from, to) = live-parts s i (d .tables .ordered) l ended-row struck (retire-touched s i (d .tables .ordered) l) (struck-rows) in
       omega (arith, d .held .counts (was C.order-account) (stored .owner-is), open-parts (was C.order-account) low (order was ∷ []) [] high, open-one (order was), ap (open-of (was C.order-account)) (from ∙ ap (λ x. low ++ (x ++ high)) picked))

@@ -1,0 +1,131 @@
+-- What each function leaves in the bytes is the ledger's change. Assumes nothing.
+use mathlib.Core.Path.{_≡_, refl, sym, ap, ap₂, _∙_}
+use mathlib.Core.Bool.{true, false, cond}
+use mathlib.Core.List.{List}
+use mathlib.Core.Option.{Option, none, some}
+use Prim.Native.Nat.{ℕ, _≤_, _<_}
+use native.Mathlib.Omega.{arith}
+use lib.Dec.{eqb}
+use Rattle.words.specs.Words.{int}
+use Rattle.gateway.specs.Limits.{owner-slots}
+use Rattle.gateway.specs.Table.{update}
+use Rattle.gateway.specs.Ledger.{Order, Ledger, number-of, remove, with-orders, with-leaves, with-price, change, paid-to}
+use Rattle.gateway.specs.Ledger as Ledger
+use Rattle.gateway.specs.Calls.{Gateway}
+use Rattle.gateway.proofs.Base.{split}
+use Rattle.store.specs.Cells as C
+use Rattle.store.specs.Layout.{cell}
+use Rattle.store.specs.View.{Row, Store, word, side, order, ledger, gateway, order-room, Is}
+use Rattle.store.proofs.Places.{header-cell, order-cell}
+use Rattle.store.proofs.Frames.{Agree}
+use Rattle.orders.specs.declared.Live.{Live}
+use Rattle.orders.specs.Orders.{live-row}
+use Rattle.orders.proofs.Views.{revised, find-at, live-some}
+use Rattle.sound.specs.Sound.{Sound, State, Becomes}
+use Rattle.sound.proofs.Kept.{becomes}
+use Rattle.live.specs.Live.{At, number-at, with-ledger, placing, CanPlace, revise, retire, left, pay, place}
+use Rattle.live.proofs.Views.{revise-view, revise-sound, retire-view, retire-sound, open-some}
+use Rattle.live.proofs.Money.{with-wallets, pay-view, pay-sound, pay-orders, pay-words}
+use Rattle.live.proofs.Placed.{place-view, place-sound}
+
+abbrev leaving : ℕ → (Order → Order) → ℕ → Ledger → Ledger
+leaving n f v l = with-orders (Ledger.left n f v (l .orders)) l
+
+live-row-same : (q r : Row) → Agree 16 q r → live-row q ≡ live-row r
+live-row-same q r h = rw (h C.order-account (omega arith), h C.order-client-ref (omega arith), h C.order-side (omega arith), h C.order-priced (omega arith), h C.order-price (omega arith), h C.order-leaves (omega arith), h C.order-hold (omega arith))
+
+module _ {xs : List ℕ} (st : State xs) {i : ℕ} {o : Live} (a : At i o (cell xs)) where
+  abbrev s : Store
+  s = cell xs
+
+  abbrev d : Sound s
+  d = st .sound
+
+  abbrev n : ℕ
+  n = number-at i s
+
+  abbrev was : Order
+  was = order (s C.orders i)
+
+  -- what the operations need
+  pub row-small : i < order-room
+  row-small = omega (arith, a .inside, d .tables .ordered .bounds .orders-fit)
+
+  pub owner-small : o .account < owner-slots
+  owner-small = rw (a .is) (d .held .rows i (a .inside) (a .live) .owner-is)
+
+  pub some-live : 0 < word s C.live-orders
+  some-live = live-some s i (d .tables .ordered) (a .inside) (a .live)
+
+  pub some-open : 0 < s C.accounts (o .account) C.account-open-orders
+  some-open = rw (a .is) (open-some s d i (a .inside) (a .live))
+
+  pub set-leaves-becomes : {ys : List ℕ} (v : ℕ) → Is ys (revise i o (o .priced) (o .price) v s) → Becomes ys (with-ledger (change (Ledger.set-leaves n v)) (gateway s))
+  unfolding change
+  set-leaves-becomes v h =
+      let r = s C.orders i in
+      let k = rw (a .is) at h in
+      becomes k (revise-sound s d i (a .inside) (a .live) (r C.order-priced) (r C.order-price) v) (revise-view s d i (a .inside) (a .live) (r C.order-priced) (r C.order-price) v (with-leaves v) refl)
+
+  pub retire-becomes : {ys : List ℕ} → Is ys (retire i o s) → Becomes ys (with-ledger (change (Ledger.retire n)) (gateway s))
+  unfolding change
+  retire-becomes h = becomes (rw (a .is) at h) (retire-sound s d i (a .inside) (a .live)) (retire-view s d i (a .inside) (a .live))
+
+  left-becomes : {ys : List ℕ} (c p v : ℕ) (f : Order → Order) → with-leaves v (f was) ≡ revised c p v was → Is ys (left i o c p v s) → Becomes ys (with-ledger (leaving n f v) (gateway s))
+  unfolding left
+  left-becomes {ys} c p v f e h =
+      split
+      (λ b. Is ys (cond b (retire i (live-row (s C.orders i)) s) (revise i (live-row (s C.orders i)) c p v s)) →
+          Becomes ys (with-ledger (λ l. with-orders (cond b (remove n (l .orders)) (update number-of n (λ x. with-leaves v (f x)) (l .orders))) l) (gateway s)))
+      (eqb v 0)
+      (λ _ k. becomes k (retire-sound s d i (a .inside) (a .live)) (retire-view s d i (a .inside) (a .live)))
+      (λ _ k. becomes k (revise-sound s d i (a .inside) (a .live) c p v) (revise-view s d i (a .inside) (a .live) c p v (λ x. with-leaves v (f x)) e))
+      (rw (a .is) at h)
+
+  pub reprice-becomes : {ys : List ℕ} (p v : ℕ) → Is ys (left i o 1 p v s) → Becomes ys (with-ledger (change (Ledger.reprice n (int p) v)) (gateway s))
+  unfolding change
+  reprice-becomes p v h = left-becomes 1 p v (with-price (int p)) refl h
+
+  pub pay-becomes : {ys : List ℕ} (p q : ℕ) → Is ys (pay (o .account) (side (o .side)) p q s) → Becomes ys (with-ledger (λ l. with-wallets (paid-to (int p) q (l .wallets) was) l) (gateway s))
+  pay-becomes p q h =
+      becomes h (pay-sound (o .account) (side (o .side)) p q s owner-small d)
+      (pay-view (o .account) (side (o .side)) p q s owner-small was (ap (λ x. x .account) (sym (a .is))) (ap (λ x. side (x .side)) (sym (a .is))))
+
+  -- the order is still there
+  pub pay-at : {ys : List ℕ} (p q : ℕ) → Is ys (pay (o .account) (side (o .side)) p q s) → At i o (cell ys)
+  pay-at {ys} p q h =
+      record {
+        inside = rw word-is (a .inside);
+        live = rw (row-is C.order-live (omega arith)) (a .live);
+        is = a .is ∙ sym (live-row-same (cell ys C.orders i) (s C.orders i) row-is);
+      }
+    where
+      row-is : Agree 16 (cell ys C.orders i) (s C.orders i)
+      row-is k l = h .same C.orders i k (order-cell i k row-small l) ∙ ap (λ (r : Row). r k) (pay-orders (o .account) (side (o .side)) p q s owner-small i)
+
+      word-is : word (cell ys) C.order-rows ≡ word s C.order-rows
+      word-is = h .same C.header 0 C.order-rows (header-cell C.order-rows (omega arith)) ∙ pay-words (o .account) (side (o .side)) p q s owner-small C.order-rows
+
+  pub pay-number : {ys : List ℕ} (p q : ℕ) → Is ys (pay (o .account) (side (o .side)) p q s) → number-at i (cell ys) ≡ n
+  pay-number p q h =
+      h .same C.orders i C.order-number (order-cell i C.order-number row-small (omega arith)) ∙ ap (λ (r : Row). r C.order-number) (pay-orders (o .account) (side (o .side)) p q s owner-small i)
+
+pub traded-becomes : {xs ys zs : List ℕ} (st : State xs) {i : ℕ} {o : Live} (a : At i o (cell xs)) (p q v : ℕ) →
+    Is ys (pay (o .account) (side (o .side)) p q (cell xs)) → Is zs (left i o (o .priced) (o .price) v (cell ys)) →
+    Becomes zs (with-ledger (change (Ledger.fill (number-at i (cell xs)) (int p) q v)) (gateway (cell xs)))
+unfolding change Ledger.pay
+traded-becomes {xs} {ys} st {i} {o} a p q v h k =
+    let b = pay-becomes st a p q h in
+    let c = pay-at st a p q h in
+    let e = left-becomes (b .state) c (o .priced) (o .price) v (λ x. x) (rw (c .is) refl) k in
+    record {
+      state = e .state;
+      gateway-is =
+          e .gateway-is
+          ∙ ap₂ (λ m g. with-ledger (leaving m (λ x. x) v) g) (pay-number st a p q h) (b .gateway-is)
+          ∙ sym (ap (λ f. with-ledger (λ l. leaving (number-at i (cell xs)) (λ x. x) v (with-wallets (Ledger.pay (int p) q f (l .wallets)) l)) (gateway (cell xs)))
+          (find-at (cell xs) i (st .sound .tables .ordered) (a .inside) (a .live)));
+    }
+
+pub place-becomes : {xs ys : List ℕ} (st : State xs) (n : ℕ) (o : Live) → CanPlace n o (cell xs) → Is ys (place n o (cell xs)) → Becomes ys (with-ledger (placing n o) (gateway (cell xs)))
+place-becomes {xs} st n o c h = becomes h (place-sound (cell xs) (st .sound) n o c) (place-view (cell xs) (st .sound) n o c)
