@@ -6,27 +6,29 @@ use mathlib.Core.Option.{Option, none, some}
 use Prim.Native.Nat.{ℕ, _≤_, _<_}
 use native.Mathlib.Omega.{arith}
 use lib.Dec.{eqb}
+use Rattle.orderbook.specs.declared.Side.{Side}
 use Rattle.words.specs.Words.{int}
-use Rattle.gateway.specs.Limits.{owner-slots}
+use Rattle.gateway.specs.Limits.{owner-slots, most-orders}
 use Rattle.gateway.specs.Table.{update}
 use Rattle.gateway.specs.Ledger.{Order, Ledger, number-of, remove, with-orders, with-leaves, with-price, change, paid-to}
 use Rattle.gateway.specs.Ledger as Ledger
 use Rattle.gateway.specs.Calls.{Gateway}
 use Rattle.gateway.proofs.Base.{split}
 use Rattle.store.specs.Cells as C
-use Rattle.store.specs.Layout.{cell}
+use Rattle.store.specs.Layout.{cell, Holds}
 use Rattle.store.specs.View.{Row, Store, word, side, order, ledger, gateway, order-room, Is}
 use Rattle.store.proofs.Places.{header-cell, order-cell}
 use Rattle.store.proofs.Frames.{Agree}
 use Rattle.orders.specs.declared.Live.{Live}
-use Rattle.orders.specs.Orders.{live-row}
+use Rattle.orders.specs.Orders.{live-row, make-room}
 use Rattle.orders.proofs.Views.{revised, find-at, live-some}
 use Rattle.sound.specs.Sound.{Sound, State, Becomes}
 use Rattle.sound.proofs.Kept.{becomes}
+use Rattle.sound.proofs.Totals.{open-few}
 use Rattle.live.specs.Live.{At, number-at, with-ledger, placing, CanPlace, revise, retire, left, pay, place}
 use Rattle.live.proofs.Views.{revise-view, revise-sound, retire-view, retire-sound, open-some}
 use Rattle.live.proofs.Money.{with-wallets, pay-view, pay-sound, pay-orders, pay-words}
-use Rattle.live.proofs.Placed.{place-view, place-sound}
+use Rattle.live.proofs.Placed.{room, word-kept, place-view, place-sound}
 
 abbrev leaving : ℕ → (Order → Order) → ℕ → Ledger → Ledger
 leaving n f v l = with-orders (Ledger.left n f v (l .orders)) l
@@ -48,16 +50,16 @@ module _ {xs : List ℕ} (st : State xs) {i : ℕ} {o : Live} (a : At i o (cell 
   was = order (s C.orders i)
 
   -- what the operations need
-  pub row-small : i < order-room
+  row-small : i < order-room
   row-small = omega (arith, a .inside, d .tables .ordered .bounds .orders-fit)
 
   pub owner-small : o .account < owner-slots
   owner-small = rw (a .is) (d .held .rows i (a .inside) (a .live) .owner-is)
 
-  pub some-live : 0 < word s C.live-orders
+  some-live : 0 < word s C.live-orders
   some-live = live-some s i (d .tables .ordered) (a .inside) (a .live)
 
-  pub some-open : 0 < s C.accounts (o .account) C.account-open-orders
+  some-open : 0 < s C.accounts (o .account) C.account-open-orders
   some-open = rw (a .is) (open-some s d i (a .inside) (a .live))
 
   pub set-leaves-becomes : {ys : List ℕ} (v : ℕ) → Is ys (revise i o (o .priced) (o .price) v s) → Becomes ys (with-ledger (change (Ledger.set-leaves n v)) (gateway s))
@@ -70,6 +72,13 @@ module _ {xs : List ℕ} (st : State xs) {i : ℕ} {o : Live} (a : At i o (cell 
   pub retire-becomes : {ys : List ℕ} → Is ys (retire i o s) → Becomes ys (with-ledger (change (Ledger.retire n)) (gateway s))
   unfolding change
   retire-becomes h = becomes (rw (a .is) at h) (retire-sound s d i (a .inside) (a .live)) (retire-view s d i (a .inside) (a .live))
+
+  -- what `end` and `leave` ask, and `revise`
+  abbrev pub Needs : Type 0
+  Needs = Holds xs × (i < order-room) × (o .account < owner-slots) × (0 < word s C.live-orders) × (0 < s C.accounts (o .account) C.account-open-orders)
+
+  pub needs-met : Needs
+  needs-met = (st .holds, row-small, owner-small, some-live, some-open)
 
   left-becomes : {ys : List ℕ} (c p v : ℕ) (f : Order → Order) → with-leaves v (f was) ≡ revised c p v was → Is ys (left i o c p v s) → Becomes ys (with-ledger (leaving n f v) (gateway s))
   unfolding left
@@ -106,6 +115,10 @@ module _ {xs : List ℕ} (st : State xs) {i : ℕ} {o : Live} (a : At i o (cell 
       word-is : word (cell ys) C.order-rows ≡ word s C.order-rows
       word-is = h .same C.header 0 C.order-rows (header-cell C.order-rows (omega arith)) ∙ pay-words (o .account) (side (o .side)) p q s owner-small C.order-rows
 
+  -- the side as the code reads it
+  pub paid : {ys : List ℕ} (p q : ℕ) (w : Side) → w ≡ side (o .side) → Is ys (pay (o .account) w p q s) → Is ys (pay (o .account) (side (o .side)) p q s)
+  paid p q w e h = rw (← e) h
+
   pub pay-number : {ys : List ℕ} (p q : ℕ) → Is ys (pay (o .account) (side (o .side)) p q s) → number-at i (cell ys) ≡ n
   pay-number p q h =
       h .same C.orders i C.order-number (order-cell i C.order-number row-small (omega arith)) ∙ ap (λ (r : Row). r C.order-number) (pay-orders (o .account) (side (o .side)) p q s owner-small i)
@@ -129,3 +142,15 @@ traded-becomes {xs} {ys} st {i} {o} a p q v h k =
 
 pub place-becomes : {xs ys : List ℕ} (st : State xs) (n : ℕ) (o : Live) → CanPlace n o (cell xs) → Is ys (place n o (cell xs)) → Becomes ys (with-ledger (placing n o) (gateway (cell xs)))
 place-becomes {xs} st n o c h = becomes h (place-sound (cell xs) (st .sound) n o c) (place-view (cell xs) (st .sound) n o c)
+
+-- the table has room, and the count of the account's orders is far from its end
+pub place-room : {xs ys : List ℕ} (st : State xs) (n : ℕ) (o : Live) → CanPlace n o (cell xs) → Is ys (make-room (cell xs)) →
+    Holds ys × (word (cell ys) C.order-rows < order-room) × (word (cell ys) C.live-orders < order-room)
+place-room {xs} {ys} st n o c h =
+    let at : (k : ℕ) → k < 32 → word (cell ys) k ≡ word (make-room (cell xs)) k = λ k l. h .same C.header 0 k (header-cell k l) in
+    (h .holds, rw (at C.order-rows (omega arith)) (room (cell xs) (st .sound) n o c),
+     omega (arith, at C.live-orders (omega arith), word-kept (cell xs) (st .sound) n o c C.live-orders (λ e. omega arith), c .room))
+
+pub open-small : {xs : List ℕ} → State xs → (a : ℕ) → a < owner-slots → cell xs C.accounts a C.account-open-orders ≤ most-orders
+open-small {xs} st a l =
+    omega (arith, st .sound .held .counts a l, open-few a (ledger (cell xs) .orders), st .sound .tables .ordered .counted .live-count, st .sound .tables .live-few)

@@ -3,3 +3,5 @@ pub mod Views
 pub mod Money
 pub mod Placed
 pub mod Changes
+pub mod Notices
+pub mod Laws

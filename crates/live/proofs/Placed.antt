@@ -37,13 +37,13 @@ module _ (s : Store) (d : Sound s) (n : ℕ) (o : Live) (can : CanPlace n o s) w
   made = make-room-does s (d .tables .ordered)
 
   -- what squeezing leaves alone
-  word-kept : (k : ℕ) → (k ≡ C.order-rows → ⊥) → word roomy k ≡ word s k
+  pub word-kept : (k : ℕ) → (k ≡ C.order-rows → ⊥) → word roomy k ≡ word s k
   word-kept k ne = make-room-other s (d .tables .ordered) C.header 0 k (λ e. omega arith) (λ e. omega arith) (λ e. ne)
 
   account-kept : (a k : ℕ) → roomy C.accounts a k ≡ s C.accounts a k
   account-kept a k = make-room-other s (d .tables .ordered) C.accounts a k (λ e. omega arith) (λ e. omega arith) (λ e f. omega arith)
 
-  room : word roomy C.order-rows < order-room
+  pub room : word roomy C.order-rows < order-room
   room = make-room-room s (d .tables .ordered) (omega (arith, can .room, d .tables .resting-few))
 
   above : (j : ℕ) → j < word roomy C.order-rows → roomy C.orders j C.order-number < n

@@ -4,9 +4,10 @@ use mathlib.Core.Bool.{true, false, cond, _&&_, true≢false}
 use mathlib.Core.Logic.{⊎-elim}
 use mathlib.Core.Option.{Option, none, some}
 use mathlib.Core.List.{List, [], _∷_, _++_}
-use Prim.Native.Nat.{ℕ, suc, _+_, _<_}
+use Prim.Native.Nat.{ℕ, suc, _+_, _≤_, _<_}
 use native.Mathlib.Omega.{arith}
 use borrow.Author.Tests.{ne-eqb}
+use lib.ListN.{length}
 use lib.Dec.{eqb}
 use lib.IntN.{ℤ, pos, _+ℤ_, _-ℤ_, +ℤ-idl, +ℤ-idr, +ℤ-assoc}
 use Rattle.orderbook.specs.declared.Side.{Side}
@@ -64,6 +65,10 @@ module _ (a : ℕ) where
   pub open-parts : (l x y h : List Order) → open-of a (l ++ (y ++ h)) + open-of a x ≡ open-of a (l ++ (x ++ h)) + open-of a y
   open-parts l x y h =
       omega (arith, open-append l (y ++ h), open-append y h, open-append l (x ++ h), open-append x h)
+
+  pub open-few : (l : List Order) → open-of a l ≤ length l
+  open-few [] = omega arith
+  open-few (o ∷ l) = split (λ b. cond b (suc (open-of a l)) (open-of a l) ≤ suc (length l)) (eqb (o .account) a) (λ e. let t = open-few l in omega arith) (λ e. let t = open-few l in omega arith)
 
   -- orders of another account, and of the other side
   pub held-foreign : (z : Side) (l : List Order) → Each (λ o. o .account ≡ a → ⊥) l → held a z l ≡ pos 0

@@ -1,0 +1,124 @@
+-- What the functions write: one law for each way through the code. Assumes nothing.
+use mathlib.Core.Path.{_≡_, refl, sym, ap, ap₂, _∙_}
+use mathlib.Core.Bool.{Bool, true, false, cond, not}
+use mathlib.Core.List.{List, [], _∷_}
+use Prim.Native.Nat.{ℕ, _+_, _-_, _%_, _^_, _<_}
+use native.Mathlib.Omega.{arith}
+use borrow.Author.Tests.{eq-eqb, ne-eqb}
+use lib.Dec.{eqb}
+use lib.IntN.{_+ℤ_, _-ℤ_}
+use Rattle.orderbook.specs.declared.Side.{Side}
+use Rattle.orderbook.specs.declared.Side.the-variants.{Buy, Sell}
+use Rattle.orderbook.specs.declared.MaybePrice.the-variants.{None, Some}
+use Rattle.protocol.specs.declared.Balance.{Balance}
+use Rattle.words.specs.Words.{int, wrap}
+use Rattle.words.proofs.Wrap.{wrap-int}
+use Rattle.wallet.specs.declared.Wallet.{Wallet}
+use Rattle.wallet.specs.Wallet as W
+use Rattle.gateway.specs.Limits.{owner-slots}
+use Rattle.gateway.specs.Ledger.{hold, price-option}
+use Rattle.gateway.proofs.Base.{split}
+use Rattle.store.specs.Cells as C
+use Rattle.store.specs.Layout.{cell, Holds, Set}
+use Rattle.store.specs.View.{Store, Same, Is, write, fill, word, flag, side, maybe-price}
+use Rattle.store.proofs.Places.{header-cell, account-cell}
+use Rattle.store.proofs.Rows.{same-write, same-fill, then-set, is-itself}
+use Rattle.orders.specs.declared.Live.{Live}
+use Rattle.orders.specs.Orders.{hint-slots}
+use Rattle.orders.specs.Orders as Orders
+use Rattle.sound.specs.Sound.{held-cell}
+use Rattle.live.specs.Live.{hold-word, shift, revise, retire, left, holding, place, funds, settle, pay}
+
+pub side-buy : (n : ℕ) → n ≡ 0 → Buy ≡ side n
+side-buy n e = rw (eq-eqb n 0 e) refl
+
+pub side-sell : (n : ℕ) → (n ≡ 0 → ⊥) → Sell ≡ side n
+side-sell n e = rw (ne-eqb n 0 e) refl
+
+price-is : (b : Bool) (p : ℕ) → W.price-of b (int p) ≡ price-option (cond b (Some (int p)) None)
+price-is true p = refl
+price-is false p = refl
+
+pub hold-of-is : (z c p v r : ℕ) (w : Side) → r < 2 ^ 64 → w ≡ side z → int r ≡ W.held w (W.price-of (not (eqb c 0)) (int p)) v → r ≡ hold-word z c p v
+unfolding hold-word hold
+hold-of-is z c p v r w f e h = sym (wrap-int r f) ∙ ap wrap (h ∙ ap₂ (λ x y. W.held x y v) e (price-is (not (eqb c 0)) p))
+
+held-small : (z : Side) → held-cell z < 16
+held-small Buy = omega arith
+held-small Sell = omega arith
+
+pub shift-is : {xs ys : List ℕ} (a k t r old new : ℕ) (z : Side) → Holds xs → a < owner-slots → k ≡ held-cell z → t ≡ cell xs C.accounts a k → r ≡ wrap (int t -ℤ int old +ℤ int new) →
+    Set xs ys C.accounts a k r → Is ys (shift a z old new (cell xs))
+unfolding shift
+shift-is {xs} {ys} a k t r old new z h l e f g p =
+    let q : Set xs ys C.accounts a (held-cell z) (wrap (int (cell xs C.accounts a (held-cell z)) -ℤ int old +ℤ int new)) = rw (← e, ← f, ← g) p in
+    then-set (is-itself h) (account-cell a (held-cell z) l (held-small z)) q
+
+then-shift : {ys zs : List ℕ} {s : Store} (a : ℕ) (z : Side) (old new : ℕ) → a < owner-slots → Is ys s → Is zs (shift a z old new (cell ys)) → Is zs (shift a z old new s)
+unfolding shift
+then-shift {ys} {zs} {s} a z old new l p q =
+    let e : cell ys C.accounts a (held-cell z) ≡ s C.accounts a (held-cell z) = p .same C.accounts a (held-cell z) (account-cell a (held-cell z) l (held-small z)) in
+    record {
+      holds = q .holds;
+      same = λ d j k c.
+          q .same d j k c ∙ same-write (cell ys) s C.accounts a (held-cell z) _ (p .same) d j k c
+          ∙ ap (λ v. write C.accounts a (held-cell z) (wrap (int v -ℤ int old +ℤ int new)) s d j k) e;
+    }
+
+pub revise-is : (xs : List ℕ) {ys zs : List ℕ} (i : ℕ) (o : Live) (c p v h : ℕ) (w : Side) → o .account < owner-slots → h ≡ hold-word (o .side) c p v → w ≡ side (o .side) →
+    Is ys (Orders.revise i c p v h (cell xs)) → Is zs (shift (o .account) w (o .hold) h (cell ys)) → Is zs (revise i o c p v (cell xs))
+unfolding revise
+revise-is xs i o c p v h w l e f p₁ p₂ = rw (← e, ← f) (then-shift (o .account) w (o .hold) h l p₁ p₂)
+
+pub retire-is : (xs : List ℕ) {ys zs us : List ℕ} (i : ℕ) (o : Live) (n : ℕ) (w : Side) → o .account < owner-slots → n ≡ cell xs C.accounts (o .account) C.account-open-orders → w ≡ side (o .side) →
+    Is ys (Orders.retire i (cell xs)) → Set ys zs C.accounts (o .account) C.account-open-orders (n - 1) → Is us (shift (o .account) w (o .hold) 0 (cell zs)) → Is us (retire i o (cell xs))
+unfolding retire
+retire-is xs i o n w l e f p q r =
+    rw (← e, ← f) (then-shift (o .account) w (o .hold) 0 l (then-set p (account-cell (o .account) C.account-open-orders l (omega arith)) q) r)
+
+pub left-done : {ys : List ℕ} (s : Store) (i : ℕ) (o : Live) (c p v : ℕ) → v ≡ 0 → Is ys (retire i o s) → Is ys (left i o c p v s)
+unfolding left
+left-done s i o c p v e h = rw (eq-eqb v 0 e) h
+
+pub left-open : {ys : List ℕ} (s : Store) (i : ℕ) (o : Live) (c p v : ℕ) → (v ≡ 0 → ⊥) → Is ys (revise i o c p v s) → Is ys (left i o c p v s)
+unfolding left
+left-open s i o c p v e h = rw (ne-eqb v 0 e) h
+
+pub settle-is : {xs ys zs : List ℕ} (a : ℕ) (z : Side) (p q : ℕ) (w r : Wallet) → Holds xs → a < owner-slots → w .cash ≡ cell xs C.accounts a C.account-cash → w .position ≡ cell xs C.accounts a C.account-position →
+    r .cash < 2 ^ 64 → r .position < 2 ^ 64 → W.balance-of r ≡ W.settled z (int p) q (W.balance-of w) →
+    Set xs ys C.accounts a C.account-cash (r .cash) → Set ys zs C.accounts a C.account-position (r .position) → Is zs (settle a z p q (cell xs))
+unfolding settle
+settle-is {xs} {ys} {zs} a z p q w r h l e f c d g s t =
+    let b : W.settle z (int p) q (W.funds (W.balance-of w)) ≡ W.settle z (int p) q (funds a (cell xs)) = ap₂ (λ x y. W.settle z (int p) q (record { cash = int x; position = int y })) e f in
+    let u : r .cash ≡ wrap (W.settle z (int p) q (funds a (cell xs)) .cash) = sym (wrap-int (r .cash) c) ∙ ap wrap (ap (λ (x : Balance). x .cash) g ∙ ap (λ x. x .cash) b) in
+    let v : r .position ≡ wrap (W.settle z (int p) q (funds a (cell xs)) .position) = sym (wrap-int (r .position) d) ∙ ap wrap (ap (λ (x : Balance). x .position) g ∙ ap (λ x. x .position) b) in
+    rw (← u, ← v) (then-set (then-set (is-itself h) (account-cell a C.account-cash l (omega arith)) s) (account-cell a C.account-position l (omega arith)) t)
+
+pub pay-none : {xs : List ℕ} (a : ℕ) (z : Side) (p q n : ℕ) → Holds xs → n ≡ cell xs C.accounts a C.account-funded → n ≡ 0 → Is xs (pay a z p q (cell xs))
+unfolding pay
+pay-none {xs} a z p q n h e f = rw (eq-eqb (cell xs C.accounts a C.account-funded) 0 (sym e ∙ f)) (is-itself h)
+
+pub pay-some : (xs : List ℕ) {ys : List ℕ} (a : ℕ) (z : Side) (p q n : ℕ) → n ≡ cell xs C.accounts a C.account-funded → (n ≡ 0 → ⊥) → Is ys (settle a z p q (cell xs)) → Is ys (pay a z p q (cell xs))
+unfolding pay
+pay-some xs a z p q n e f h = rw (ne-eqb (cell xs C.accounts a C.account-funded) 0 (λ g. f (e ∙ g))) h
+
+same-append : (n : ℕ) (o : Live) (s t : Store) → Same s t → Same (Orders.append n o s) (Orders.append n o t)
+unfolding Orders.append
+same-append n o s t p =
+    let i : word s C.order-rows ≡ word t C.order-rows = p C.header 0 C.order-rows (header-cell C.order-rows (omega arith)) in
+    let k : word s C.live-orders ≡ word t C.live-orders = p C.header 0 C.live-orders (header-cell C.live-orders (omega arith)) in
+    rw (i, k) (same-write _ _ C.hints (n % hint-slots) C.hint-row _ (same-fill _ _ C.header 0 C.order-rows _ (same-fill s t C.orders (word t C.order-rows) C.order-number _ p)))
+
+pub place-is : (xs : List ℕ) {ys zs us vs : List ℕ} (n : ℕ) (o : Live) (h c : ℕ) (w : Side) → o .account < owner-slots → h ≡ hold-word (o .side) (o .priced) (o .price) (o .leaves) →
+    c ≡ cell xs C.accounts (o .account) C.account-open-orders → w ≡ side (o .side) → Is ys (Orders.make-room (cell xs)) →
+    Is zs (Orders.append n (record { account = o .account; «client_ref» = o .«client_ref»; side = o .side; priced = o .priced; price = o .price; leaves = o .leaves; hold = h }) (cell ys)) →
+    Set zs us C.accounts (o .account) C.account-open-orders (c + 1) → Is vs (shift (o .account) w 0 h (cell us)) → Is vs (place n o (cell xs))
+unfolding place
+place-is xs {ys} n o h c w l e f g p q r t =
+    let o′ : Live = record { account = o .account; «client_ref» = o .«client_ref»; side = o .side; priced = o .priced; price = o .price; leaves = o .leaves; hold = h } in
+    rw (← e, ← f, ← g)
+    (then-shift (o .account) w 0 h l
+    (then-set (record { holds = q .holds; same = λ d j k b. q .same d j k b ∙ same-append n o′ (cell ys) (Orders.make-room (cell xs)) (p .same) d j k b })
+    (account-cell (o .account) C.account-open-orders l (omega arith)) r) t)
+
+pub ruleset laws = (side-buy, side-sell, hold-of-is, shift-is, revise-is, retire-is, left-done, left-open, settle-is, pay-none, pay-some, arith)

@@ -1,0 +1,13 @@
+use borrow.Author.Needs.{needs}
+use Rattle.live.proofs.Laws.{laws}
+use Rattle.live.proofs.side_of.Statement.{statement}
+use Rattle.live.proofs.side_of.Tie as tie
+
+returns : tie.Need-returns
+returns c = search (laws, needs)
+
+returns-2 : tie.Need-returns-2
+returns-2 c = search (laws, needs)
+
+pub side-of-spec : {M : Type 1} → statement M
+side-of-spec = tie.close (tie.spec returns returns-2)
