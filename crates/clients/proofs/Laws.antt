@@ -160,8 +160,7 @@ some-funds-is xs i f x e p = rw e p
 pub add-account-is : (xs : List ℕ) {a b zs : List ℕ} (x : Account) (y : Bucket) → y ≡ Throttle.full (x .«messages_per_second») →
     Is a (P.set-limits (x .id) x (cell xs)) → Is b (P.set-funds (x .id) (x .funds) (cell a)) → Is zs (P.set-bucket (x .id) y (cell b)) → Is zs (P.add-account x (cell xs))
 add-account-is xs x y e p q r =
-    let z : Bucket = Throttle.full (x .«messages_per_second») in
-    then-cells C.accounts (x .id) ((C.account-tokens, z .tokens) ∷ (C.account-refilled, z .refilled) ∷ [])
+    then-cells C.accounts (x .id) (P.bucket-cells (Throttle.full (x .«messages_per_second»)))
     (then-cells C.accounts (x .id) (P.funds-cells (x .funds)) p q) (rw e at r)
 
 pub log-in-is : (xs : List ℕ) {ys zs : List ℕ} (i a : ℕ) → a < owner-slots →

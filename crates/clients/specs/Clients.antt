@@ -81,26 +81,36 @@ unfoldable pub put-cells : ℕ → ℕ → List (ℕ × ℕ) → Store → Store
 put-cells b i [] s = s
 put-cells b i (c ∷ cs) s = put-cells b i cs (write b i (c .0) (c .1) s)
 
+abbrev pub wallet-cells : Wallet → List (ℕ × ℕ)
+wallet-cells w =
+    (C.account-cash, w .cash) ∷ (C.account-position, w .position) ∷ (C.account-cash-held, w .«cash_held»)
+    ∷ (C.account-position-held, w .«position_held») ∷ []
+
 abbrev pub set-wallet : ℕ → Wallet → Store → Store
-set-wallet i w =
-    put-cells C.accounts i
-    ((C.account-cash, w .cash) ∷ (C.account-position, w .position) ∷ (C.account-cash-held, w .«cash_held»)
-    ∷ (C.account-position-held, w .«position_held») ∷ [])
+set-wallet i w = put-cells C.accounts i (wallet-cells w)
+
+abbrev pub bucket-cells : Bucket → List (ℕ × ℕ)
+bucket-cells b = (C.account-tokens, b .tokens) ∷ (C.account-refilled, b .refilled) ∷ []
 
 abbrev pub set-bucket : ℕ → Bucket → Store → Store
-set-bucket i b = put-cells C.accounts i ((C.account-tokens, b .tokens) ∷ (C.account-refilled, b .refilled) ∷ [])
+set-bucket i b = put-cells C.accounts i (bucket-cells b)
+
+abbrev pub limit-cells : Account → List (ℕ × ℕ)
+limit-cells a =
+    (C.account-exists, 1) ∷ (C.account-token, a .token) ∷ (C.account-max-open, a .«max_open_orders»)
+    ∷ (C.account-rate, a .«messages_per_second») ∷ []
 
 abbrev pub set-limits : ℕ → Account → Store → Store
-set-limits i a =
-    put-cells C.accounts i
-    ((C.account-exists, 1) ∷ (C.account-token, a .token) ∷ (C.account-max-open, a .«max_open_orders»)
-    ∷ (C.account-rate, a .«messages_per_second») ∷ [])
+set-limits i a = put-cells C.accounts i (limit-cells a)
 
 -- the funds that an account starts with, which it owns at first
 abbrev pub fund-cells : ℕ → ℕ → List (ℕ × ℕ)
 fund-cells cash position =
     (C.account-funded, 1) ∷ (C.account-funds-cash, cash) ∷ (C.account-funds-position, position) ∷ (C.account-cash, cash)
     ∷ (C.account-position, position) ∷ []
+
+abbrev pub fund : ℕ → ℕ → ℕ → Store → Store
+fund i cash position = put-cells C.accounts i (fund-cells cash position)
 
 -- the word of a signed number
 abbrev pub word-of : ℤ → ℕ
@@ -110,9 +120,6 @@ abbrev pub funds-cells : F.MaybeFunds → List (ℕ × ℕ)
 funds-cells F.the-variants.None = (C.account-funded, 0) ∷ []
 funds-cells (F.the-variants.Some f) = fund-cells (word-of (f .cash)) (word-of (f .position))
 
-abbrev pub fund : ℕ → ℕ → ℕ → Store → Store
-fund i cash position = put-cells C.accounts i (fund-cells cash position)
-
 abbrev pub set-funds : ℕ → F.MaybeFunds → Store → Store
 set-funds i f = put-cells C.accounts i (funds-cells f)
 
@@ -121,11 +128,13 @@ abbrev pub add-account : Account → Store → Store
 add-account a s =
     set-bucket (a .id) (Throttle.full (a .«messages_per_second»)) (set-funds (a .id) (a .funds) (set-limits (a .id) a s))
 
+abbrev pub connect-cells : ℕ → List (ℕ × ℕ)
+connect-cells t =
+    (C.session-connected, 1) ∷ (C.session-account, 0) ∷ (C.session-last-received, t) ∷ (C.session-last-sent, t) ∷ (C.session-closing, 0)
+    ∷ (C.session-subscribed, 0) ∷ []
+
 abbrev pub connect : ℕ → ℕ → Store → Store
-connect i t =
-    put-cells C.sessions i
-    ((C.session-connected, 1) ∷ (C.session-account, 0) ∷ (C.session-last-received, t) ∷ (C.session-last-sent, t) ∷ (C.session-closing, 0)
-    ∷ (C.session-subscribed, 0) ∷ [])
+connect i t = put-cells C.sessions i (connect-cells t)
 
 abbrev pub set-received : ℕ → ℕ → Store → Store
 set-received i t = write C.sessions i C.session-last-received t
