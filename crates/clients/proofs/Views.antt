@@ -4,9 +4,10 @@ use mathlib.Core.Logic.{_⊎_, ⊎-elim}
 use mathlib.Core.Bool.{Bool, true, false, cond}
 use mathlib.Core.Option.{Option, none, some, Option·map}
 use mathlib.Core.List.{List, [], _∷_}
-use Prim.Native.Nat.{ℕ, _+_, _-_, _≤_, _<_}
+use Prim.Native.Nat.{ℕ, _+_, _-_, _^_, _≤_, _<_}
 use native.Mathlib.Omega.{arith}
 use borrow.Author.Tests.{eq-eqb, ne-eqb}
+use lib.IntN.{ℤ}
 use lib.ListN.{set}
 use lib.Dec.{eqb}
 use Rattle.accounts.specs.declared.Account.{Account}
@@ -20,7 +21,7 @@ use Rattle.risk.specs.declared.Bucket.{Bucket}
 use Rattle.risk.specs.Throttle as Throttle
 use Rattle.gateway.specs.Limits.{owner-slots, session-slots}
 use Rattle.gateway.specs.Ledger as Ledger
-use Rattle.gateway.specs.Ledger.{step, funds-of}
+use Rattle.gateway.specs.Ledger.{step, fits, funds-of}
 use Rattle.gateway.specs.Core.{Core, system, core-step}
 use Rattle.gateway.specs.Rest as Rest
 use Rattle.gateway.specs.Rest.{with-sessions, with-buckets, update-session}
@@ -233,3 +234,61 @@ leave-view a s = go (flag a)
 pub forget-view : (i : ℕ) (s : Store) → i < session-slots → gateway (P.forget i s) ≡ with-rest (without-session i) (gateway s)
 forget-view i s l =
     let n = P.logged-in (s C.sessions i) in gone-view i (P.leave n s) l ∙ ap (with-rest (without-session i)) (leave-view n s)
+
+-- ---- a new account
+
+int-back : (z : ℤ) → fits z ≡ true → int (P.word-of z) ≡ z
+unfolding int
+int-back z h = word-back z h
+
+-- its row, by its funds
+module _ (i token most rate : ℕ) (s : Store) where
+  abbrev new : F.MaybeFunds → Account
+  new f = record { id = i; token = token; «max_open_orders» = most; «messages_per_second» = rate; funds = f }
+
+  abbrev new-row : F.MaybeFunds → Row
+  new-row f = P.add-account (new f) s C.accounts i
+
+  new-account : (f : F.MaybeFunds) → MaybeFundsFit f → account i (new-row f) ≡ some (new f)
+  unfolding put-cells
+  new-account F.the-variants.None h = rw (eq-eqb i i refl) refl
+  new-account (F.the-variants.Some f) h = rw (eq-eqb i i refl, int-back (f .cash) (h .0), int-back (f .position) (h .1)) refl
+
+  new-wallet : (f : F.MaybeFunds) → MaybeFundsFit f → wallet (new-row f) ≡ funds-of f
+  unfolding put-cells
+  new-wallet F.the-variants.None h = rw (eq-eqb i i refl) refl
+  new-wallet (F.the-variants.Some f) h = rw (eq-eqb i i refl, int-back (f .cash) (h .0), int-back (f .position) (h .1)) refl
+
+  new-bucket : (f : F.MaybeFunds) → bucket (new-row f) ≡ Throttle.full rate
+  unfolding put-cells
+  new-bucket f = rw (eq-eqb i i refl) refl
+
+  new-limits : (f : F.MaybeFunds) → most < 2 ^ 32 → rate < 2 ^ 32 → P.LimitsFit (new-row f)
+  unfolding put-cells
+  new-limits F.the-variants.None m r = record { max-open-fits = rw (eq-eqb i i refl) m; rate-fits = rw (eq-eqb i i refl) r }
+  new-limits (F.the-variants.Some f) m r = record { max-open-fits = rw (eq-eqb i i refl) m; rate-fits = rw (eq-eqb i i refl) r }
+
+touched-by-add : (a : Account) (s : Store) → Touched (a .id) s (P.add-account a s)
+touched-by-add a s =
+    let u = P.set-limits (a .id) a s in
+    let v = P.set-funds (a .id) (a .funds) u in
+    touched-then (a .id) s v (P.add-account a s)
+    (touched-then (a .id) s u v (touched-cells (a .id) (P.limit-cells a) s) (touched-cells (a .id) (P.funds-cells (a .funds)) u))
+    (touched-cells (a .id) (P.bucket-cells (Throttle.full (a .«messages_per_second»))) v)
+
+pub add-account-view : (a : Account) (s : Store) → MaybeFundsFit (a .funds) → a .id < word s C.owner-limit → word s C.owner-limit ≤ owner-slots →
+    gateway (P.add-account a s) ≡ record { core = core-step system (Ledger.account a) (gateway s .core); rest = joined a (gateway s .rest) }
+unfolding step
+add-account-view a s f l m =
+    let i = a .id in
+    let h = touched-by-add a s in
+    lists-are i s t h
+    (accounts-set i s t h a l (new-account i (a .token) (a .«max_open_orders») (a .«messages_per_second») s (a .funds) f))
+    (wallets-set i s t h (funds-of (a .funds)) (omega arith) (new-wallet i (a .token) (a .«max_open_orders») (a .«messages_per_second») s (a .funds) f))
+    (buckets-set i s t h (Throttle.full (a .«messages_per_second»)) (omega arith) (new-bucket i (a .token) (a .«max_open_orders») (a .«messages_per_second») s (a .funds)))
+  where
+    t : Store
+    t = P.add-account a s
+
+pub add-account-limits : (a : Account) (s : Store) → a .«max_open_orders» < 2 ^ 32 → a .«messages_per_second» < 2 ^ 32 → P.LimitsFit (P.add-account a s C.accounts (a .id))
+add-account-limits a s m r = new-limits (a .id) (a .token) (a .«max_open_orders») (a .«messages_per_second») s (a .funds) m r
