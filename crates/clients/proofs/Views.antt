@@ -38,7 +38,7 @@ use Rattle.clients.proofs.Laws.{plus-one}
 -- ---- one row of a block
 
 -- t is s but for the row i of the block b
-abbrev Rows : ℕ → ℕ → Store → Store → Type 0
+abbrev pub Rows : ℕ → ℕ → Store → Store → Type 0
 Rows b i s t = (j : ℕ) → (j ≡ i → ⊥) → t b j ≡ s b j
 
 -- where f reads the same in that row, the list stays; else one of it changes
@@ -52,13 +52,13 @@ module _ {A : Type 0} (f : ℕ → Row → A) (b i n : ℕ) (s t : Store) (h : R
   rows-set v l e = listed-set (λ j. f j (s b j)) (λ j. f j (t b j)) n i v l e (λ j m ne. ap (f j) (h j ne))
 
 -- other rows stay
-write-other : (b i k v : ℕ) (s : Store) (j l : ℕ) → (j ≡ i → ⊥) → write b i k v s b j l ≡ s b j l
+pub write-other : (b i k v : ℕ) (s : Store) (j l : ℕ) → (j ≡ i → ⊥) → write b i k v s b j l ≡ s b j l
 write-other b i k v s j l ne = rw (eq-eqb b b refl, ne-eqb j i ne) refl
 
-write-rows : (b i k v : ℕ) (s : Store) → Rows b i s (write b i k v s)
+pub write-rows : (b i k v : ℕ) (s : Store) → Rows b i s (write b i k v s)
 write-rows b i k v s j ne = λ d l. write-other b i k v s j l ne d
 
-cells-rows : (b i : ℕ) (cs : List (ℕ × ℕ)) (s : Store) → Rows b i s (put-cells b i cs s)
+pub cells-rows : (b i : ℕ) (cs : List (ℕ × ℕ)) (s : Store) → Rows b i s (put-cells b i cs s)
 unfolding put-cells
 cells-rows b i [] s j ne = refl
 cells-rows b i (c ∷ cs) s j ne = cells-rows b i cs (write b i (c .0) (c .1) s) j ne ∙ write-rows b i (c .0) (c .1) s j ne
@@ -107,10 +107,11 @@ module _ (i : ℕ) (s : Store) (l : i < session-slots) where
   pub subscribed-view : gateway (P.set-subscribed i s) ≡ with-rest (update-session i Rest.set-subscribed) (gateway s)
   subscribed-view = update-view i C.session-subscribed 1 Rest.set-subscribed s l (rw (eq-eqb i i refl) (map-maybe Rest.set-subscribed connected _))
 
+  pub named-account : (a : ℕ) → session (write C.sessions i C.session-account (a + 1) s C.sessions i) ≡ Option·map (Rest.set-account a) (session (s C.sessions i))
+  named-account a = rw (eq-eqb i i refl, plus-one (a + 1) a refl) (map-maybe (Rest.set-account a) connected _)
+
   account-view : (a : ℕ) → gateway (write C.sessions i C.session-account (a + 1) s) ≡ with-rest (update-session i (Rest.set-account a)) (gateway s)
-  account-view a =
-      update-view i C.session-account (a + 1) (Rest.set-account a) s l
-      (rw (eq-eqb i i refl, plus-one (a + 1) a refl) (map-maybe (Rest.set-account a) connected _))
+  account-view a = update-view i C.session-account (a + 1) (Rest.set-account a) s l (named-account a)
 
   gone-view : gateway (write C.sessions i C.session-connected 0 s) ≡ with-rest (without-session i) (gateway s)
   gone-view = session-view i C.session-connected 0 s none l (rw (eq-eqb i i refl) refl)
