@@ -141,8 +141,8 @@ pub then-write : {ys zs : List ℕ} {s : Store} (b i k v : ℕ) → Is ys s → 
 then-write {ys} {zs} {s} b i k v p q =
     record { holds = q .holds; same = λ d j l c. q .same d j l c ∙ same-write (cell ys) s b i k v (p .same) d j l c }
 
-pub set-cell-is : {xs ys : List ℕ} (i k v : ℕ) → Holds xs → i < session-slots → k < 8 → Set xs ys C.sessions i k v → Is ys (write C.sessions i k v (cell xs))
-set-cell-is i k v h l m p = then-set (is-itself h) (session-cell i k l m) p
+pub set-cell-is : {xs ys : List ℕ} (b i k v : ℕ) → Holds xs → Cell b i k → Set xs ys b i k v → Is ys (write b i k v (cell xs))
+set-cell-is b i k v h c p = then-set (is-itself h) c p
 
 -- the words of an i64
 pub fund-is : {zs : List ℕ} (s : Store) (i c p : ℕ) (f : Funds) → c < 2 ^ 64 → p < 2 ^ 64 → int c ≡ f .cash → int p ≡ f .position →

@@ -1,14 +1,14 @@
 -- Sessions and accounts name each other: the session that an account's row names is the one that the definitions find. Assumes nothing.
 use mathlib.Core.Path.{_≡_, refl, sym, ap, _∙_}
 use mathlib.Core.Logic.{_⊎_, ⊎-elim}
-use mathlib.Core.Bool.{Bool, true, false, cond, not, _&&_, and-eq-true-iff}
+use mathlib.Core.Bool.{true, false, cond}
 use mathlib.Core.Option.{Option, none, some, Option·map}
 use mathlib.Core.List.{List, [], _∷_}
 use Prim.Native.Nat.{ℕ, zero, suc, _+_, _-_, _≤_, _<_}
 use native.Mathlib.Nat.{not-suc-le-zero, le-of-suc-le-suc}
 use native.Mathlib.Omega.{arith}
-use borrow.Author.Tests.{eq-eqb, ne-eqb, eqb-false, not-true}
-use lib.ListN.{length, getD, List·getD-eq-default}
+use borrow.Author.Tests.{eq-eqb, ne-eqb}
+use lib.ListN.{length, getD}
 use lib.Dec.{eqb}
 use Rattle.accounts.specs.declared.Account.{Account}
 use Rattle.accounts.specs.declared.MaybeFunds as F
@@ -27,7 +27,7 @@ use Rattle.store.proofs.Places.{session-cell, account-cell}
 use Rattle.clients.specs.Clients as P
 use Rattle.clients.specs.Clients.{put-cells, Linked}
 use Rattle.clients.proofs.Laws.{plus-one, account-known}
-use Rattle.clients.proofs.Views.{write-other, write-rows, cells-rows, named-account}
+use Rattle.clients.proofs.Views.{write-row, write-rows, write-cell, cells-rows, spares, cells-spare, cells-block, named-account}
 
 -- the account of the session in slot i, and the cell of account a that names its session
 abbrev pub account-in : Store → ℕ → Option ℕ
@@ -119,39 +119,33 @@ linked-zeros =
       back = λ a i l e. absurd (omega arith);
     }
 
--- another cell of the row, or another row
-other-cell : (b i k v : ℕ) (s : Store) (j l : ℕ) → (l ≡ k → ⊥) → write b i k v s b j l ≡ s b j l
-other-cell b i k v s j l ne =
-    ⊎-elim (λ (e : j ≡ i). rw (e, eq-eqb b b refl, eq-eqb i i refl, ne-eqb l k ne) refl) (λ n. write-other b i k v s j l n) (same? j i)
-
 -- a cell of a session behind the first two: when it was heard, closing, subscribed
 pub linked-cell : (i k v : ℕ) (s : Store) → C.session-account < k → Linked s → Linked (write C.sessions i k v s)
 linked-cell i k v s l c =
     linked-ext s (write C.sessions i k v s)
     (λ j m.
-    two-cells (write C.sessions i k v s C.sessions j) (s C.sessions j) (other-cell C.sessions i k v s j C.session-connected (λ e. omega (arith, e)))
-    (other-cell C.sessions i k v s j C.session-account (λ e. omega (arith, e))))
+    two-cells (write C.sessions i k v s C.sessions j) (s C.sessions j) (write-cell C.sessions i k v s j C.session-connected (λ e. omega (arith, e)))
+    (write-cell C.sessions i k v s j C.session-account (λ e. omega (arith, e))))
     (λ a m. refl) c
 
 -- cells of an account's row, none of them its session
-abbrev spared : List (ℕ × ℕ) → Bool
-spared [] = true
-spared (c ∷ cs) = not (eqb C.account-session (c .0)) && spared cs
-
-linked-cells : (i : ℕ) (cs : List (ℕ × ℕ)) (s : Store) → spared cs ≡ true → Linked s → Linked (put-cells C.accounts i cs s)
-unfolding put-cells
-linked-cells i [] s t k = k
-linked-cells i (c ∷ cs) s t k =
-    let u = and-eq-true-iff (not (eqb C.account-session (c .0))) (spared cs) .0 t in
-    linked-cells i cs (write C.accounts i (c .0) (c .1) s) (u .1)
-    (linked-ext s (write C.accounts i (c .0) (c .1) s) (λ j l. refl)
-    (λ a l. other-cell C.accounts i (c .0) (c .1) s a C.account-session (eqb-false C.account-session (c .0) (not-true (eqb C.account-session (c .0)) (u .0)))) k)
+linked-cells : (i : ℕ) (cs : List (ℕ × ℕ)) (s : Store) → spares C.account-session cs ≡ true → Linked s → Linked (put-cells C.accounts i cs s)
+linked-cells i cs s t k =
+    linked-ext s (put-cells C.accounts i cs s)
+    (λ j l.
+    two-cells (put-cells C.accounts i cs s C.sessions j) (s C.sessions j) (cells-block C.accounts i cs s C.sessions j C.session-connected refl)
+    (cells-block C.accounts i cs s C.sessions j C.session-account refl))
+    (λ a l. cells-spare C.accounts i C.account-session cs s a t) k
 
 pub linked-wallet : (i : ℕ) (w : Wallet) (s : Store) → Linked s → Linked (P.set-wallet i w s)
 linked-wallet i w s k = linked-cells i (P.wallet-cells w) s refl k
 
 pub linked-bucket : (i : ℕ) (b : Bucket) (s : Store) → Linked s → Linked (P.set-bucket i b s)
 linked-bucket i b s k = linked-cells i (P.bucket-cells b) s refl k
+
+pub linked-open-orders : (i n : ℕ) (s : Store) → Linked s → Linked (P.set-open-orders i n s)
+linked-open-orders i n s k =
+    linked-ext s (P.set-open-orders i n s) (λ j l. refl) (λ a l. write-cell C.accounts i C.account-open-orders n s a C.account-session (λ e. omega (arith, e))) k
 
 linked-funds : (i : ℕ) (f : F.MaybeFunds) (s : Store) → Linked s → Linked (P.set-funds i f s)
 linked-funds i F.the-variants.None s k = linked-cells i ((C.account-funded, 0) ∷ []) s refl k
@@ -228,7 +222,7 @@ linked-log-in i a s li la e n z k =
     relinked i a s (P.log-in i a s) li la (apart n z)
     (joined (ap account-of (named-account i s li a) ∙ account-set a (session (s C.sessions i)) e) (rw (eq-eqb a a refl) refl))
     (λ j ne. ap (λ r. account-of (session r)) (write-rows C.sessions i C.session-account (a + 1) s j ne))
-    (λ b ne. write-other C.accounts a C.account-session (i + 1) s b C.account-session ne) k
+    (λ b ne. write-row C.accounts a C.account-session (i + 1) s b C.account-session ne) k
 
 -- a session that goes, and the account that it was logged in for
 module _ (i : ℕ) (s : Store) (l : i < session-slots) (k : Linked s) where
@@ -248,7 +242,7 @@ module _ (i : ℕ) (s : Store) (l : i < session-slots) (k : Linked s) where
       let u = k .forth i a l e in
       let t = write C.accounts a C.account-session 0 s in
       relinked i a s (write C.sessions i C.session-connected 0 t) l (u .0) (joined e (u .1)) (apart (gone t) (rw (eq-eqb a a refl) refl)) (others t)
-      (λ b ne. write-other C.accounts a C.account-session 0 s b C.account-session ne) k
+      (λ b ne. write-row C.accounts a C.account-session 0 s b C.account-session ne) k
 
   by-account : (n : ℕ) → optional n ≡ account-in s i → Linked (write C.sessions i C.session-connected 0 (P.leave n s))
   by-account n e =

@@ -1,14 +1,14 @@
 -- What the operations do to the gateway that the cells hold: each changes its own part, and the rest stays by computation. Assumes nothing.
 use mathlib.Core.Path.{_≡_, refl, sym, ap, ap₂, _∙_}
 use mathlib.Core.Logic.{_⊎_, ⊎-elim}
-use mathlib.Core.Bool.{Bool, true, false, cond}
+use mathlib.Core.Bool.{Bool, true, false, cond, not, _&&_, and-eq-true-iff}
 use mathlib.Core.Option.{Option, none, some, Option·map}
 use mathlib.Core.List.{List, [], _∷_}
 use Prim.Native.Nat.{ℕ, _+_, _-_, _^_, _≤_, _<_}
 use native.Mathlib.Omega.{arith}
-use borrow.Author.Tests.{eq-eqb, ne-eqb}
+use borrow.Author.Tests.{eq-eqb, ne-eqb, eqb-false, not-true}
 use lib.IntN.{ℤ}
-use lib.ListN.{set}
+use lib.ListN.{set, List·getD-eq-default}
 use lib.Dec.{eqb}
 use Rattle.accounts.specs.declared.Account.{Account}
 use Rattle.accounts.specs.declared.Funds.{Funds}
@@ -22,7 +22,8 @@ use Rattle.risk.specs.Throttle as Throttle
 use Rattle.gateway.specs.Limits.{owner-slots, session-slots}
 use Rattle.gateway.specs.Ledger as Ledger
 use Rattle.gateway.specs.Ledger.{step, fits, funds-of}
-use Rattle.gateway.specs.Core.{Core, system, core-step}
+use Rattle.gateway.specs.Core.{account-at, system, core-step}
+use Rattle.gateway.specs.Entry.{wallet-at, bucket-at}
 use Rattle.gateway.specs.Rest as Rest
 use Rattle.gateway.specs.Rest.{with-sessions, with-buckets, update-session}
 use Rattle.gateway.specs.Calls.{Gateway, fresh-session, without-session, joined}
@@ -30,7 +31,7 @@ use Rattle.gateway.specs.Fits.{MaybeFundsFit}
 use Rattle.gateway.proofs.Money.{word-back}
 use Rattle.store.specs.Cells as C
 use Rattle.store.specs.View.{Row, Store, word, write, listed, flag, maybe, optional, account, wallet, bucket, session, gateway}
-use Rattle.store.proofs.Listed.{listed-at, listed-ext, listed-set}
+use Rattle.store.proofs.Listed.{listed-at, listed-length, listed-ext, listed-set}
 use Rattle.clients.specs.Clients as P
 use Rattle.clients.specs.Clients.{put-cells}
 use Rattle.clients.proofs.Laws.{plus-one}
@@ -51,17 +52,41 @@ module _ {A : Type 0} (f : ℕ → Row → A) (b i n : ℕ) (s t : Store) (h : R
   rows-set : (v : A) → i < n → f i (t b i) ≡ v → listed (λ j. f j (t b j)) n ≡ set (listed (λ j. f j (s b j)) n) i v
   rows-set v l e = listed-set (λ j. f j (s b j)) (λ j. f j (t b j)) n i v l e (λ j m ne. ap (f j) (h j ne))
 
--- other rows stay
-pub write-other : (b i k v : ℕ) (s : Store) (j l : ℕ) → (j ≡ i → ⊥) → write b i k v s b j l ≡ s b j l
-write-other b i k v s j l ne = rw (eq-eqb b b refl, ne-eqb j i ne) refl
+-- what a write leaves: other rows, other cells of its row, other blocks
+pub write-row : (b i k v : ℕ) (s : Store) (j l : ℕ) → (j ≡ i → ⊥) → write b i k v s b j l ≡ s b j l
+write-row b i k v s j l ne = rw (eq-eqb b b refl, ne-eqb j i ne) refl
 
 pub write-rows : (b i k v : ℕ) (s : Store) → Rows b i s (write b i k v s)
-write-rows b i k v s j ne = λ d l. write-other b i k v s j l ne d
+write-rows b i k v s j ne = λ d l. write-row b i k v s j l ne d
+
+pub write-cell : (b i k v : ℕ) (s : Store) (j l : ℕ) → (l ≡ k → ⊥) → write b i k v s b j l ≡ s b j l
+write-cell b i k v s j l ne =
+    ⊎-elim (λ (e : j ≡ i). rw (e, eq-eqb b b refl, eq-eqb i i refl, ne-eqb l k ne) refl) (λ n. write-row b i k v s j l n) (same? j i)
+
+write-block : (b i k v : ℕ) (s : Store) (d j l : ℕ) → eqb d b ≡ false → write b i k v s d j l ≡ s d j l
+write-block b i k v s d j l e = rw e refl
 
 pub cells-rows : (b i : ℕ) (cs : List (ℕ × ℕ)) (s : Store) → Rows b i s (put-cells b i cs s)
 unfolding put-cells
 cells-rows b i [] s j ne = refl
 cells-rows b i (c ∷ cs) s j ne = cells-rows b i cs (write b i (c .0) (c .1) s) j ne ∙ write-rows b i (c .0) (c .1) s j ne
+
+-- none of the cells is k
+abbrev pub spares : ℕ → List (ℕ × ℕ) → Bool
+spares k [] = true
+spares k (c ∷ cs) = not (eqb k (c .0)) && spares k cs
+
+pub cells-spare : (b i k : ℕ) (cs : List (ℕ × ℕ)) (s : Store) (j : ℕ) → spares k cs ≡ true → put-cells b i cs s b j k ≡ s b j k
+unfolding put-cells
+cells-spare b i k [] s j t = refl
+cells-spare b i k (c ∷ cs) s j t =
+    let u = and-eq-true-iff (not (eqb k (c .0))) (spares k cs) .0 t in
+    cells-spare b i k cs (write b i (c .0) (c .1) s) j (u .1) ∙ write-cell b i (c .0) (c .1) s j k (eqb-false k (c .0) (not-true (eqb k (c .0)) (u .0)))
+
+pub cells-block : (b i : ℕ) (cs : List (ℕ × ℕ)) (s : Store) (d j l : ℕ) → eqb d b ≡ false → put-cells b i cs s d j l ≡ s d j l
+unfolding put-cells
+cells-block b i [] s d j l e = refl
+cells-block b i (c ∷ cs) s d j l e = cells-block b i cs (write b i (c .0) (c .1) s) d j l e ∙ write-block b i (c .0) (c .1) s d j l e
 
 -- ---- sessions
 
@@ -211,16 +236,23 @@ bucket-view i b s l =
     t : Store
     t = P.set-bucket i b s
 
--- the session of an account is no part of the gateway: it is counted from the sessions
-link-view : (a v : ℕ) (s : Store) → gateway (write C.accounts a C.account-session v s) ≡ gateway s
+-- a cell that the gateway does not show
+cache-view : (i k v : ℕ) (s : Store) → account i (write C.accounts i k v s C.accounts i) ≡ account i (s C.accounts i) →
+    wallet (write C.accounts i k v s C.accounts i) ≡ wallet (s C.accounts i) → bucket (write C.accounts i k v s C.accounts i) ≡ bucket (s C.accounts i) →
+    gateway (write C.accounts i k v s) ≡ gateway s
 unfolding put-cells
-link-view a v s =
-    let h = touched-cells a ((C.account-session, v) ∷ []) s in
-    lists-are a s t h (accounts-kept a s t h (rw (eq-eqb a a refl) refl)) (wallets-kept a s t h (rw (eq-eqb a a refl) refl))
-    (buckets-kept a s t h (rw (eq-eqb a a refl) refl))
+cache-view i k v s p q r =
+    let h = touched-cells i ((k, v) ∷ []) s in lists-are i s t h (accounts-kept i s t h p) (wallets-kept i s t h q) (buckets-kept i s t h r)
   where
     t : Store
-    t = write C.accounts a C.account-session v s
+    t = write C.accounts i k v s
+
+-- an account's session and its open orders are counted, not kept
+link-view : (a v : ℕ) (s : Store) → gateway (write C.accounts a C.account-session v s) ≡ gateway s
+link-view a v s = cache-view a C.account-session v s (rw (eq-eqb a a refl) refl) (rw (eq-eqb a a refl) refl) (rw (eq-eqb a a refl) refl)
+
+pub open-orders-view : (i n : ℕ) (s : Store) → gateway (P.set-open-orders i n s) ≡ gateway s
+open-orders-view i n s = cache-view i C.account-open-orders n s (rw (eq-eqb i i refl) refl) (rw (eq-eqb i i refl) refl) (rw (eq-eqb i i refl) refl)
 
 pub log-in-view : (i a : ℕ) (s : Store) → i < session-slots → gateway (P.log-in i a s) ≡ with-rest (update-session i (Rest.set-account a)) (gateway s)
 log-in-view i a s l = link-view a (i + 1) (write C.sessions i C.session-account (a + 1) s) ∙ account-view i s l a
@@ -235,6 +267,26 @@ leave-view a s = go (flag a)
 pub forget-view : (i : ℕ) (s : Store) → i < session-slots → gateway (P.forget i s) ≡ with-rest (without-session i) (gateway s)
 forget-view i s l =
     let n = P.logged-in (s C.sessions i) in gone-view i (P.leave n s) l ∙ ap (with-rest (without-session i)) (leave-view n s)
+
+-- ---- what the readers' rows are in the gateway
+
+module _ (i : ℕ) (s : Store) where
+  pub account-at-row : i < word s C.owner-limit → account-at i (gateway s .core) ≡ account i (s C.accounts i)
+  account-at-row l = listed-at (λ j. account j (s C.accounts j)) (word s C.owner-limit) i none l
+
+  pub account-past : word s C.owner-limit ≤ i → account-at i (gateway s .core) ≡ none
+  account-past l =
+      List·getD-eq-default (gateway s .core .accounts) none {n = i} (rw (listed-length (λ j. account j (s C.accounts j)) (word s C.owner-limit)) l)
+
+  pub wallet-at-row : i < owner-slots → wallet-at i (gateway s .core) ≡ wallet (s C.accounts i)
+  wallet-at-row l = listed-at (λ j. wallet (s C.accounts j)) owner-slots i none l
+
+  pub bucket-at-row : i < owner-slots → bucket-at i (gateway s .rest) ≡ bucket (s C.accounts i)
+  bucket-at-row l = listed-at (λ j. bucket (s C.accounts j)) owner-slots i (Throttle.full 0) l
+
+-- the funds of a wallet's words
+pub wallet-is-funds : (r : Row) → flag (r C.account-funded) ≡ true → wallet r ≡ some (W.funds (W.balance-of (P.wallet-words r)))
+wallet-is-funds r e = rw e refl
 
 -- ---- a new account
 

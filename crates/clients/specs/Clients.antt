@@ -123,6 +123,10 @@ funds-cells (F.the-variants.Some f) = fund-cells (word-of (f .cash)) (word-of (f
 abbrev pub set-funds : ℕ → F.MaybeFunds → Store → Store
 set-funds i f = put-cells C.accounts i (funds-cells f)
 
+-- a count that is kept beside the orders
+abbrev pub set-open-orders : ℕ → ℕ → Store → Store
+set-open-orders i n = write C.accounts i C.account-open-orders n
+
 -- a new account; it has no live orders and no session, and those cells stay
 abbrev pub add-account : Account → Store → Store
 add-account a s =

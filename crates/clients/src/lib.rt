@@ -58,6 +58,14 @@ pub fn max_open(m: &[u8], i: usize) -> u64
     store::get(m, store::ACCOUNTS, i, cells::ACCOUNT_MAX_OPEN)
 }
 
+// How many messages a second the account may send.
+pub fn rate(m: &[u8], i: usize) -> u32
+    requires { ⌜ Holds (now m) × (i < owner-slots) × P.LimitsFit (cell (now m) C.accounts i) ⌝ }
+    ensures { λ r. ⌜ r ≡ cell (now (m .entry)) C.accounts i C.account-rate ⌝ }
+{
+    store::get(m, store::ACCOUNTS, i, cells::ACCOUNT_RATE) as u32
+}
+
 pub fn open_orders(m: &[u8], i: usize) -> u64
     requires { ⌜ Holds (now m) × (i < owner-slots) ⌝ }
     ensures { λ r. ⌜ r ≡ cell (now (m .entry)) C.accounts i C.account-open-orders ⌝ }
@@ -137,6 +145,14 @@ pub fn bucket_at(m: &[u8], i: usize) -> Bucket
     }
 }
 
+// One cell.
+fn set_cell(m: &mut [u8], b: usize, i: usize, k: usize, v: u64)
+    requires { ⌜ Holds (now m) × Cell b i k ⌝ }
+    ensures { λ r. ⌜ Is (now (m .exit)) (write b i k v (cell (now (m .entry)))) ⌝ }
+{
+    store::set(m, b, i, k, v);
+}
+
 pub fn set_wallet(m: &mut [u8], i: usize, w: Wallet)
     requires { ⌜ Holds (now m) × (i < owner-slots) ⌝ }
     ensures { λ r. ⌜ Is (now (m .exit)) (P.set-wallet i w (cell (now (m .entry)))) ⌝ }
@@ -159,6 +175,14 @@ pub fn set_bucket(m: &mut [u8], i: usize, b: Bucket)
 {
     store::set(m, store::ACCOUNTS, i, cells::ACCOUNT_TOKENS, b.tokens);
     store::set(m, store::ACCOUNTS, i, cells::ACCOUNT_REFILLED, b.refilled);
+}
+
+// How many live orders the account has.
+pub fn set_open_orders(m: &mut [u8], i: usize, n: u64)
+    requires { ⌜ Holds (now m) × (i < owner-slots) ⌝ }
+    ensures { λ r. ⌜ Is (now (m .exit)) (P.set-open-orders i n (cell (now (m .entry)))) ⌝ }
+{
+    set_cell(m, store::ACCOUNTS, i, cells::ACCOUNT_OPEN_ORDERS, n);
 }
 
 fn set_limits(m: &mut [u8], i: usize, a: Account)
@@ -376,40 +400,32 @@ pub fn connect(m: &mut [u8], s: usize, at: u64)
     store::set(m, store::SESSIONS, s, cells::SESSION_SUBSCRIBED, 0);
 }
 
-// One cell of a session's row.
-fn set_cell(m: &mut [u8], s: usize, k: usize, v: u64)
-    requires { ⌜ Holds (now m) × (s < session-slots) × (k < 8) ⌝ }
-    ensures { λ r. ⌜ Is (now (m .exit)) (write C.sessions s k v (cell (now (m .entry)))) ⌝ }
-{
-    store::set(m, store::SESSIONS, s, k, v);
-}
-
 pub fn set_received(m: &mut [u8], s: usize, at: u64)
     requires { ⌜ Holds (now m) × (s < session-slots) ⌝ }
     ensures { λ r. ⌜ Is (now (m .exit)) (P.set-received s at (cell (now (m .entry)))) ⌝ }
 {
-    set_cell(m, s, cells::SESSION_LAST_RECEIVED, at);
+    set_cell(m, store::SESSIONS, s, cells::SESSION_LAST_RECEIVED, at);
 }
 
 pub fn set_sent(m: &mut [u8], s: usize, at: u64)
     requires { ⌜ Holds (now m) × (s < session-slots) ⌝ }
     ensures { λ r. ⌜ Is (now (m .exit)) (P.set-sent s at (cell (now (m .entry)))) ⌝ }
 {
-    set_cell(m, s, cells::SESSION_LAST_SENT, at);
+    set_cell(m, store::SESSIONS, s, cells::SESSION_LAST_SENT, at);
 }
 
 pub fn set_closing(m: &mut [u8], s: usize)
     requires { ⌜ Holds (now m) × (s < session-slots) ⌝ }
     ensures { λ r. ⌜ Is (now (m .exit)) (P.set-closing s (cell (now (m .entry)))) ⌝ }
 {
-    set_cell(m, s, cells::SESSION_CLOSING, 1);
+    set_cell(m, store::SESSIONS, s, cells::SESSION_CLOSING, 1);
 }
 
 pub fn set_subscribed(m: &mut [u8], s: usize)
     requires { ⌜ Holds (now m) × (s < session-slots) ⌝ }
     ensures { λ r. ⌜ Is (now (m .exit)) (P.set-subscribed s (cell (now (m .entry)))) ⌝ }
 {
-    set_cell(m, s, cells::SESSION_SUBSCRIBED, 1);
+    set_cell(m, store::SESSIONS, s, cells::SESSION_SUBSCRIBED, 1);
 }
 
 // The session and the account name each other.
@@ -417,7 +433,13 @@ pub fn log_in(m: &mut [u8], s: usize, account: usize)
     requires { ⌜ Holds (now m) × (s < session-slots) × (account < owner-slots) ⌝ }
     ensures { λ r. ⌜ Is (now (m .exit)) (P.log-in s account (cell (now (m .entry)))) ⌝ }
 {
-    set_cell(m, s, cells::SESSION_ACCOUNT, account as u64 + 1);
+    set_cell(
+        m,
+        store::SESSIONS,
+        s,
+        cells::SESSION_ACCOUNT,
+        account as u64 + 1,
+    );
     store::set(
         m,
         store::ACCOUNTS,
@@ -451,5 +473,5 @@ pub fn forget(m: &mut [u8], s: usize)
 {
     let a = session_at(m, s).account_of();
     leave(m, a);
-    set_cell(m, s, cells::SESSION_CONNECTED, 0);
+    set_cell(m, store::SESSIONS, s, cells::SESSION_CONNECTED, 0);
 }

@@ -13,7 +13,7 @@ returns : tie.Need-returns
 returns c =
     let d = c .before .before in
     let s = d .before .before .before in
-    set-cell-is _ _ _ (s .pre .0) (s .pre .1) (s .pre .2) (d .set .ensures)
+    set-cell-is _ _ _ _ (s .pre .0) (s .pre .1) (d .set .ensures)
 
 pub set-cell-spec : {M : Type 1} → statement M
 set-cell-spec = tie.close (tie.spec set-requires same-length returns)
