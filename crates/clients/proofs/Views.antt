@@ -329,6 +329,9 @@ touched-by-add a s =
     (touched-then (a .id) s u v (touched-cells (a .id) (P.limit-cells a) s) (touched-cells (a .id) (P.funds-cells (a .funds)) u))
     (touched-cells (a .id) (P.bucket-cells (Throttle.full (a .«messages_per_second»))) v)
 
+pub add-account-rows : (a : Account) (s : Store) → Rows C.accounts (a .id) s (P.add-account a s)
+add-account-rows a s = touched-by-add a s .rows
+
 pub add-account-view : (a : Account) (s : Store) → MaybeFundsFit (a .funds) → a .id < word s C.owner-limit → word s C.owner-limit ≤ owner-slots →
     gateway (P.add-account a s) ≡ record { core = core-step system (Ledger.account a) (gateway s .core); rest = joined a (gateway s .rest) }
 unfolding step

@@ -33,6 +33,10 @@ pub record LimitsFit (r : Row) : Type 0 where
   pub max-open-fits : r C.account-max-open < 2 ^ 32
   pub rate-fits : r C.account-rate < 2 ^ 32
 
+-- and so for every account
+pub record Limited (s : Store) : Type 0 where
+  pub limits : (i : ℕ) → i < owner-slots → LimitsFit (s C.accounts i)
+
 abbrev pub funds : Row → F.MaybeFunds
 funds r =
     cond (flag (r C.account-funded))
