@@ -1,12 +1,12 @@
 -- What the readers find and what the writers write. Assumes nothing.
 use mathlib.Core.Path.{_≡_, refl, sym, ap, _∙_}
-use mathlib.Core.Logic.{_⊎_, ⊎-elim}
+use mathlib.Core.Logic.{⊎-elim}
 use mathlib.Core.Bool.{Bool, true, false, cond, not, Bool·not-not, _&&_}
 use mathlib.Core.Option.{Option, none, some}
 use mathlib.Core.List.{List, [], _∷_}
 use Prim.Native.Nat.{ℕ, zero, suc, _+_, _-_, _^_, _≤_, _<_}
 use native.Mathlib.Omega.{arith}
-use borrow.Author.Tests.{ltb-true, eq-eqb, ne-eqb}
+use borrow.Author.Tests.{ltb-true, ne-eqb}
 use lib.Dec.{eqb, ltb}
 use lib.ListN.{List·getD-eq-default}
 use mathlib.Core.Bool.{and-eq-true-iff}
@@ -24,26 +24,34 @@ use Rattle.gateway.specs.Rest as Rest
 use Rattle.gateway.specs.Rest.{is-open, is-present, is-subscribed, account-of, session-at}
 use Rattle.store.specs.Cells as C
 use Rattle.store.specs.Layout.{blocks, rows, width, cell, Cell, Holds, Set}
-use Rattle.store.specs.View.{Row, Store, Same, write, flag, optional, account, wallet, session, gateway, Is}
+use Rattle.store.specs.View.{Row, Store, Same, write, flag, maybe, optional, account, wallet, session, gateway, Is}
 use Rattle.store.proofs.Listed.{listed-at, listed-length}
-use Rattle.store.proofs.Places.{session-cell, account-cell}
+use Rattle.store.proofs.Places.{account-cell}
 use Rattle.store.proofs.Rows.{then-set, is-itself, same-write}
 use Rattle.clients.specs.declared.Session.{Session}
 use Rattle.clients.specs.Clients as P
-use Rattle.clients.specs.Clients.{put-cells, session-words, session-row, session-in, logged-in, AccountOf, Linked}
+use Rattle.clients.specs.Clients.{put-cells, session-words, session-in, logged-in, AccountOf, Linked}
 
 -- ---- readers
 
 -- a value is there where its flag is set
+there : {A : Type 0} (n : ℕ) (a : A) → flag n ≡ is-some (maybe n a)
+there n a = go (flag n)
+  where
+    go : (b : Bool) → b ≡ is-some (cond b (some a) none)
+    go true = refl
+    go false = refl
+
+-- the row of an account
 module _ (xs : List ℕ) (i : ℕ) where
   abbrev row : Row
   row = cell xs C.accounts i
 
   pub account-there : flag (row C.account-exists) ≡ is-some (account i row)
-  account-there = ⊎-elim (λ e. rw e refl) (λ ne. rw (ne-eqb (row C.account-exists) 0 ne) refl) (same? (row C.account-exists) 0)
+  account-there = there (row C.account-exists) _
 
   pub wallet-there : flag (row C.account-funded) ≡ is-some (wallet row)
-  wallet-there = ⊎-elim (λ e. rw e refl) (λ ne. rw (ne-eqb (row C.account-funded) 0 ne) refl) (same? (row C.account-funded) 0)
+  wallet-there = there (row C.account-funded) _
 
   pub funds-some : (b : Bool) (c p : ℕ) (f : Funds) → b ≡ flag (row C.account-funded) → b ≡ true →
       c ≡ row C.account-funds-cash → p ≡ row C.account-funds-position → f ≡ record { cash = int c; position = int p } → F.the-variants.Some f ≡ P.funds row
@@ -105,7 +113,7 @@ past-slots xs i x l e =
 
 -- stores one after the other in one row
 pub data Sets (b i : ℕ) : List ℕ → List (ℕ × ℕ) → List ℕ → Type 0 where
-  last-set : {xs ys : List ℕ} {k v : ℕ} → Set xs ys b i k v → Sets b i xs ((k, v) ∷ []) ys
+  no-sets : {xs : List ℕ} → Sets b i xs [] xs
   then-sets : {xs ys zs : List ℕ} {k v : ℕ} {cs : List (ℕ × ℕ)} → Set xs ys b i k v → Sets b i ys cs zs → Sets b i xs ((k, v) ∷ cs) zs
 
 -- the cells stand in a row of this width
@@ -113,11 +121,10 @@ abbrev within : ℕ → List (ℕ × ℕ) → Bool
 within w [] = true
 within w (c ∷ cs) = ltb (c .0) w && within w cs
 
-pub after-sets : {xs zs : List ℕ} {s : Store} {b i : ℕ} {cs : List (ℕ × ℕ)} → b < blocks → i < rows b → within (width b) cs ≡ true →
+after-sets : {xs zs : List ℕ} {s : Store} {b i : ℕ} {cs : List (ℕ × ℕ)} → b < blocks → i < rows b → within (width b) cs ≡ true →
     Is xs s → Sets b i xs cs zs → Is zs (put-cells b i cs s)
 unfolding put-cells
-after-sets {b = b} h l t p (last-set {k = k} q) =
-    then-set p (record { block-is = h; row-is = l; cell-is = ltb-true k (width b) (and-eq-true-iff (ltb k (width b)) true .0 t .0) }) q
+after-sets h l t p no-sets = p
 after-sets {b = b} h l t p (then-sets {k = k} {cs = cs} q r) =
     let u = and-eq-true-iff (ltb k (width b)) (within (width b) cs) .0 t in
     after-sets h l (u .1) (then-set p (record { block-is = h; row-is = l; cell-is = ltb-true k (width b) (u .0) }) q) r
@@ -151,7 +158,7 @@ fund-is s i c p f h k e g q = rw (← e, ← g, of-int c h, of-int p k) q
 
 pub no-funds-is : {xs zs : List ℕ} (i : ℕ) (f : F.MaybeFunds) → Holds xs → i < owner-slots → f ≡ F.the-variants.None →
     Set xs zs C.accounts i C.account-funded 0 → Is zs (P.set-funds i f (cell xs))
-no-funds-is i f h l e p = rw e (sets-is C.accounts i ((C.account-funded, 0) ∷ []) h (omega arith) l refl (last-set p))
+no-funds-is i f h l e p = rw e (sets-is C.accounts i ((C.account-funded, 0) ∷ []) h (omega arith) l refl (then-sets p no-sets))
 
 pub some-funds-is : {zs : List ℕ} (xs : List ℕ) (i : ℕ) (f : F.MaybeFunds) (x : Funds) → f ≡ F.the-variants.Some x →
     Is zs (P.fund i (P.word-of (x .cash)) (P.word-of (x .position)) (cell xs)) → Is zs (P.set-funds i f (cell xs))

@@ -1,8 +1,8 @@
 -- The limits of every account stay within 32 bits. Assumes nothing.
-use mathlib.Core.Path.{_≡_, refl, sym, _∙_}
-use mathlib.Core.Logic.{_⊎_, ⊎-elim}
+use mathlib.Core.Path.{_≡_, refl, sym}
+use mathlib.Core.Logic.{⊎-elim}
 use mathlib.Core.Bool.{Bool, true, false, cond}
-use mathlib.Core.List.{List, [], _∷_}
+use mathlib.Core.List.{List}
 use Prim.Native.Nat.{ℕ, _+_, _-_, _^_, _<_}
 use native.Mathlib.Omega.{arith}
 use Rattle.accounts.specs.declared.Account.{Account}
@@ -15,7 +15,7 @@ use Rattle.store.specs.View.{Row, Store, Same, write, flag, zeros}
 use Rattle.store.proofs.Places.{account-cell}
 use Rattle.clients.specs.Clients as P
 use Rattle.clients.specs.Clients.{put-cells, LimitsFit, Limited}
-use Rattle.clients.proofs.Views.{write-cell, spares, cells-spare, cells-block, add-account-rows, add-account-limits}
+use Rattle.clients.proofs.Views.{write-cell, spares, cells-spare, add-account-rows, add-account-limits}
 
 -- the two limits are those of a row that fits
 same-limits : (q r : Row) → q C.account-max-open ≡ r C.account-max-open → q C.account-rate ≡ r C.account-rate → LimitsFit r → LimitsFit q

@@ -1,7 +1,7 @@
 -- Sessions and accounts name each other: the session that an account's row names is the one that the definitions find. Assumes nothing.
 use mathlib.Core.Path.{_≡_, refl, sym, ap, _∙_}
-use mathlib.Core.Logic.{_⊎_, ⊎-elim}
-use mathlib.Core.Bool.{true, false, cond}
+use mathlib.Core.Logic.{⊎-elim}
+use mathlib.Core.Bool.{true, false}
 use mathlib.Core.Option.{Option, none, some, Option·map}
 use mathlib.Core.List.{List, [], _∷_}
 use Prim.Native.Nat.{ℕ, zero, suc, _+_, _-_, _≤_, _<_}
@@ -21,7 +21,7 @@ use Rattle.gateway.specs.Limits.{owner-slots, session-slots}
 use Rattle.gateway.specs.Rest as Rest
 use Rattle.gateway.specs.Rest.{account-of, logged-in, session-from, session-of}
 use Rattle.store.specs.Cells as C
-use Rattle.store.specs.View.{Row, Store, Same, write, listed, flag, optional, session, gateway, zeros}
+use Rattle.store.specs.View.{Row, Store, Same, write, listed, optional, session, gateway, zeros}
 use Rattle.store.proofs.Listed.{listed-at, listed-length}
 use Rattle.store.proofs.Places.{session-cell, account-cell}
 use Rattle.clients.specs.Clients as P

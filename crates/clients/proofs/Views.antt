@@ -1,6 +1,6 @@
 -- What the operations do to the gateway that the cells hold: each changes its own part, and the rest stays by computation. Assumes nothing.
-use mathlib.Core.Path.{_≡_, refl, sym, ap, ap₂, _∙_}
-use mathlib.Core.Logic.{_⊎_, ⊎-elim}
+use mathlib.Core.Path.{_≡_, refl, sym, ap, _∙_}
+use mathlib.Core.Logic.{⊎-elim}
 use mathlib.Core.Bool.{Bool, true, false, cond, not, _&&_, and-eq-true-iff}
 use mathlib.Core.Option.{Option, none, some, Option·map}
 use mathlib.Core.List.{List, [], _∷_}
@@ -30,7 +30,7 @@ use Rattle.gateway.specs.Calls.{Gateway, fresh-session, without-session, joined
 use Rattle.gateway.specs.Fits.{MaybeFundsFit}
 use Rattle.gateway.proofs.Money.{word-back}
 use Rattle.store.specs.Cells as C
-use Rattle.store.specs.View.{Row, Store, word, write, listed, flag, maybe, optional, account, wallet, bucket, session, gateway}
+use Rattle.store.specs.View.{Row, Store, word, write, listed, flag, maybe, account, wallet, bucket, session, gateway}
 use Rattle.store.proofs.Listed.{listed-at, listed-length, listed-ext, listed-set}
 use Rattle.clients.specs.Clients as P
 use Rattle.clients.specs.Clients.{put-cells}

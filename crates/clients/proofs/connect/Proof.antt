@@ -1,4 +1,4 @@
-use Rattle.clients.proofs.Laws.{last-set, then-sets, sets-is}
+use Rattle.clients.proofs.Laws.{no-sets, then-sets, sets-is}
 use native.Mathlib.Omega.{arith}
 use mathlib.Core.Path.{refl}
 use borrow.Author.Needs.{needs}
@@ -35,7 +35,7 @@ returns c =
     let c₂ = c₃ .before .before .before .before in
     let c₁ = c₂ .before .before .before .before in
     let s = c₁ .before .before .before in
-    sets-is _ _ _ (s .pre .0) (omega arith) (s .pre .1) refl (then-sets (c₁ .set .ensures) (then-sets (c₂ .set2 .ensures) (then-sets (c₃ .set3 .ensures) (then-sets (c₄ .set4 .ensures) (then-sets (c₅ .set5 .ensures) (last-set (c₆ .set6 .ensures)))))))
+    sets-is _ _ _ (s .pre .0) (omega arith) (s .pre .1) refl (then-sets (c₁ .set .ensures) (then-sets (c₂ .set2 .ensures) (then-sets (c₃ .set3 .ensures) (then-sets (c₄ .set4 .ensures) (then-sets (c₅ .set5 .ensures) (then-sets (c₆ .set6 .ensures) no-sets))))))
 
 pub connect-spec : {M : Type 1} → statement M
 connect-spec =

@@ -1,4 +1,4 @@
-use Rattle.clients.proofs.Laws.{last-set, then-sets, sets-is}
+use Rattle.clients.proofs.Laws.{no-sets, then-sets, sets-is}
 use native.Mathlib.Omega.{arith}
 use mathlib.Core.Path.{refl}
 use borrow.Author.Needs.{needs}
@@ -19,7 +19,7 @@ returns c =
     let c₂ = c .before .before in
     let c₁ = c₂ .before .before .before .before in
     let s = c₁ .before .before .before in
-    sets-is _ _ _ (s .pre .0) (omega arith) (s .pre .1) refl (then-sets (c₁ .set .ensures) (last-set (c₂ .set2 .ensures)))
+    sets-is _ _ _ (s .pre .0) (omega arith) (s .pre .1) refl (then-sets (c₁ .set .ensures) (then-sets (c₂ .set2 .ensures) no-sets))
 
 pub set-bucket-spec : {M : Type 1} → statement M
 set-bucket-spec = tie.close (tie.spec set-requires set-requires-2 same-length returns)
