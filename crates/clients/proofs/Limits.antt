@@ -1,5 +1,5 @@
 -- The limits of every account stay within 32 bits. Assumes nothing.
-use mathlib.Core.Path.{_≡_, refl, sym}
+use mathlib.Core.Path.{_≡_, refl}
 use mathlib.Core.Logic.{⊎-elim}
 use mathlib.Core.Bool.{Bool, true, false, cond}
 use mathlib.Core.List.{List}
@@ -11,7 +11,8 @@ use Rattle.risk.specs.declared.Bucket.{Bucket}
 use Rattle.table.proofs.Live.{same?}
 use Rattle.gateway.specs.Limits.{owner-slots}
 use Rattle.store.specs.Cells as C
-use Rattle.store.specs.View.{Row, Store, Same, write, flag, zeros}
+use Rattle.store.specs.Layout.{cell}
+use Rattle.store.specs.View.{Row, Store, Is, write, flag, zeros}
 use Rattle.store.proofs.Places.{account-cell}
 use Rattle.clients.specs.Clients as P
 use Rattle.clients.specs.Clients.{put-cells, LimitsFit, Limited}
@@ -25,10 +26,11 @@ pub limited-ext : (s t : Store) → ((i : ℕ) → i < owner-slots → t C.accou
     ((i : ℕ) → i < owner-slots → t C.accounts i C.account-rate ≡ s C.accounts i C.account-rate) → Limited s → Limited t
 limited-ext s t p q k = record { limits = λ i l. same-limits (t C.accounts i) (s C.accounts i) (p i l) (q i l) (k .limits i l) }
 
-pub limited-same : (s t : Store) → Same s t → Limited s → Limited t
-limited-same s t e k =
-    limited-ext s t (λ i l. sym (e C.accounts i C.account-max-open (account-cell i C.account-max-open l (omega arith))))
-    (λ i l. sym (e C.accounts i C.account-rate (account-cell i C.account-rate l (omega arith)))) k
+-- bytes that hold the store
+pub limited-is : {ys : List ℕ} {s : Store} → Is ys s → Limited s → Limited (cell ys)
+limited-is {ys} {s} h k =
+    limited-ext s (cell ys) (λ i l. h .same C.accounts i C.account-max-open (account-cell i C.account-max-open l (omega arith)))
+    (λ i l. h .same C.accounts i C.account-rate (account-cell i C.account-rate l (omega arith))) k
 
 pub limited-zeros : Limited zeros
 limited-zeros = record { limits = λ i l. record { max-open-fits = omega arith; rate-fits = omega arith } }
