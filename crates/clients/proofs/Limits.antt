@@ -16,7 +16,8 @@ use Rattle.store.specs.View.{Row, Store, Is, write, flag, zeros}
 use Rattle.store.proofs.Places.{account-cell}
 use Rattle.clients.specs.Clients as P
 use Rattle.clients.specs.Clients.{put-cells, LimitsFit, Limited}
-use Rattle.clients.proofs.Views.{write-cell, spares, cells-spare, add-account-rows, add-account-limits}
+use Rattle.clients.proofs.Rows.{write-cell, spares, cells-spare}
+use Rattle.clients.proofs.Views.{add-account-rows, add-account-limits}
 
 -- the two limits are those of a row that fits
 same-limits : (q r : Row) → q C.account-max-open ≡ r C.account-max-open → q C.account-rate ≡ r C.account-rate → LimitsFit r → LimitsFit q

@@ -28,7 +28,8 @@ use Rattle.store.proofs.Places.{session-cell, account-cell}
 use Rattle.clients.specs.Clients as P
 use Rattle.clients.specs.Clients.{put-cells, Linked}
 use Rattle.clients.proofs.Laws.{plus-one, account-known}
-use Rattle.clients.proofs.Views.{write-row, write-rows, write-cell, cells-rows, spares, cells-spare, cells-block, named-account}
+use Rattle.clients.proofs.Rows.{write-row, write-rows, write-cell, cells-rows, spares, cells-spare, cells-block}
+use Rattle.clients.proofs.Views.{named-account}
 
 -- the account of the session in slot i, and the cell of account a that names its session
 abbrev pub account-in : Store → ℕ → Option ℕ
