@@ -101,7 +101,7 @@ linked-ext s t p q k =
     }
 
 -- two cells of a session's row tell its account
-two-cells : (q r : Row) → q C.session-connected ≡ r C.session-connected → q C.session-account ≡ r C.session-account → account-of (session q) ≡ account-of (session r)
+pub two-cells : (q r : Row) → q C.session-connected ≡ r C.session-connected → q C.session-account ≡ r C.session-account → account-of (session q) ≡ account-of (session r)
 two-cells q r e f =
     let g : P.logged-in q ≡ P.logged-in r = rw (e, f) refl in
     sym (account-known q) ∙ ap optional g ∙ account-known r

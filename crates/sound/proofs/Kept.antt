@@ -7,20 +7,24 @@ use Rattle.orderbook.specs.declared.Side.{Side}
 use Rattle.orderbook.specs.declared.Side.the-variants.{Buy, Sell}
 use Rattle.words.specs.Words.{int, wrap}
 use Rattle.table.proofs.Live.{live-ext, ascends-ext}
-use Rattle.gateway.specs.Limits.{owner-slots, most-levels}
+use Rattle.gateway.specs.Limits.{owner-slots, session-slots, most-levels}
 use Rattle.gateway.specs.Ledger.{order-hold, held, open-of}
 use Rattle.gateway.specs.Depth as Depth
 use Rattle.gateway.specs.Calls.{Gateway}
 use Rattle.store.specs.Cells as C
 use Rattle.store.specs.Layout.{cell, Holds}
-use Rattle.store.specs.View.{Row, Store, Same, Is, Bounds, word, order, ledger, depth, gateway}
-use Rattle.store.proofs.Places.{header-cell, account-cell}
+use Rattle.gateway.specs.Rest.{account-of}
+use Rattle.store.specs.View.{Row, Store, Same, Is, Bounds, word, write, order, session, ledger, depth, gateway}
+use Rattle.store.proofs.Places.{header-cell, account-cell, session-cell, command-cell}
+use Rattle.store.proofs.Rows.{put-cell, row-unread}
+use Rattle.clients.proofs.Links.{two-cells, linked-ext}
+use Rattle.clients.proofs.Limits.{limited-ext}
 use Rattle.store.proofs.Frames.{Agree, order-same, gateway-same}
 use Rattle.orders.specs.Orders.{Ordered}
 use Rattle.orders.proofs.Views.{Keeps, live-kept, resting-kept, ordered-kept, same-keeps, bounds-same}
 use Rattle.levels.specs.Levels.{block, count, key, row, size, entries, best}
 use Rattle.levels.proofs.Laws.{count-cell, block-cell}
-use Rattle.sound.specs.Sound.{Stored, held-cell, Held, Levels, Tables, Sound, State, Becomes}
+use Rattle.sound.specs.Sound.{Stored, held-cell, Held, Levels, Clients, Tables, Sound, State, Becomes}
 
 -- for each side
 pub sided : (P : Side → Type 0) → P Buy → P Sell → (z : Side) → P z
@@ -68,6 +72,26 @@ levels-kept {s} {t} z n r e d =
       are = ap (best z) (rw n (live-ext (λ r. 1) (row z s) (row z t) (size z s) r)) ∙ d .are ∙ sym (ap (Depth.levels z) e);
     }
 
+-- ---- accounts, sessions and the batch
+
+-- the cells of an account's row that it speaks of
+abbrev pub marks : Row → ℕ × ℕ × ℕ
+marks r = (r C.account-session, r C.account-max-open, r C.account-rate)
+
+pub clients-kept : {s t : Store} → ((i : ℕ) → i < session-slots → account-of (session (t C.sessions i)) ≡ account-of (session (s C.sessions i))) →
+    ((a : ℕ) → a < owner-slots → marks (t C.accounts a) ≡ marks (s C.accounts a)) → word t C.waiting ≡ word s C.waiting →
+    ((j : ℕ) → j < word s C.waiting → t C.batch j C.command-owner ≡ s C.batch j C.command-owner) → Clients s → Clients t
+clients-kept {s} {t} p q n b d =
+    record {
+      linked = linked-ext s t p (λ a l. ap (λ x. x .0) (q a l)) (d .linked);
+      limited = limited-ext s t (λ a l. ap (λ x. x .1) (q a l)) (λ a l. ap (λ x. x .2) (q a l)) (d .limited);
+      batch = λ j l. let h : j < word s C.waiting = rw n at l in record { owner-fits = rw (b j h) (d .batch j h .owner-fits) };
+    }
+
+-- a cell of an account's row that it does not speak of
+pub clients-write : (a k v : ℕ) (s : Store) → ((r : Row) → marks (put-cell k v r) ≡ marks r) → Clients s → Clients (write C.accounts a k v s)
+clients-write a k v s h = clients-kept (λ i l. refl) (λ b l. row-unread C.accounts a k v s marks h b) refl (λ j l. refl)
+
 -- ---- what changes neither orders nor levels
 
 pub record Beside (s t : Store) : Type 0 where
@@ -94,8 +118,8 @@ module _ {s t : Store} (e : Beside s t) (g : Grown s t) where
         run = g .run;
       }
 
-  pub sound-beside : ((a : ℕ) → a < owner-slots → caches t a ≡ caches s a) → Sound s → Sound t
-  sound-beside c d = record { tables = tables-beside (d .tables); held = held-kept (e .keeps) c (d .held) }
+  pub sound-beside : ((a : ℕ) → a < owner-slots → caches t a ≡ caches s a) → (Clients s → Clients t) → Sound s → Sound t
+  sound-beside c f d = record { tables = tables-beside (d .tables); held = held-kept (e .keeps) c (d .held); clients = f (d .clients) }
 
 -- ---- from a program to its bytes
 
@@ -127,6 +151,21 @@ module _ (s t : Store) (e : Same s t) (d : Sound s) where
       at : (k : ℕ) → k < 16 → t C.accounts a k ≡ s C.accounts a k
       at k q = sym (e C.accounts a k (account-cell a k l q))
 
+  mark-same : (a : ℕ) → a < owner-slots → marks (t C.accounts a) ≡ marks (s C.accounts a)
+  mark-same a l = λ i. (at C.account-session (omega arith) i, at C.account-max-open (omega arith) i, at C.account-rate (omega arith) i)
+    where
+      at : (k : ℕ) → k < 16 → t C.accounts a k ≡ s C.accounts a k
+      at k q = sym (e C.accounts a k (account-cell a k l q))
+
+  clients-same : Clients s → Clients t
+  clients-same =
+      clients-kept
+      (λ i l.
+      two-cells (t C.sessions i) (s C.sessions i) (sym (e C.sessions i C.session-connected (session-cell i C.session-connected l (omega arith))))
+      (sym (e C.sessions i C.session-account (session-cell i C.session-account l (omega arith)))))
+      mark-same (word-same C.waiting (omega arith))
+      (λ j l. sym (e C.batch j C.command-owner (command-cell j C.command-owner (omega (arith, bounds .batch-fits)) (omega arith))))
+
   pub sound-same : Sound t
   sound-same =
       sound-beside
@@ -136,7 +175,7 @@ module _ (s t : Store) (e : Same s t) (d : Sound s) where
         last-is = rw (word-same C.last (omega arith)) (omega arith);
         run = rw (word-same C.flying (omega arith), word-same C.last (omega arith)) (d .tables .run);
       })
-      cache-same d
+      cache-same clients-same d
 
 -- a program whose store is sound and holds the gateway g
 pub becomes : {ys : List ℕ} {s : Store} {g : Gateway} → Is ys s → Sound s → gateway s ≡ g → Becomes ys g

@@ -13,6 +13,8 @@ use Rattle.gateway.specs.Calls.{Gateway}
 use Rattle.store.specs.Cells as C
 use Rattle.store.specs.Layout.{cell, Holds}
 use Rattle.store.specs.View.{Row, Store, word, order, ledger, depth, gateway}
+use Rattle.pending.specs.Pending.{BatchFits}
+use Rattle.clients.specs.Clients.{Limited, Linked}
 use Rattle.orders.specs.Orders.{Ordered}
 use Rattle.levels.specs.Levels.{key, row, size, entries, best}
 
@@ -39,6 +41,14 @@ pub record Levels (z : Side) (s : Store) : Type 0 where
   pub rising : Ascends key (row z s) (size z s)
   pub are : best z (entries z s) ≡ Depth.levels z (depth s .resting)
 
+-- ---- accounts, sessions and the batch
+
+-- sessions and accounts name each other, and what is read as 32 bits fits
+pub record Clients (s : Store) : Type 0 where
+  pub linked : Linked s
+  pub limited : Limited s
+  pub batch : BatchFits s
+
 -- ---- the whole
 
 -- the tables are in order, and in bounds
@@ -55,6 +65,7 @@ pub record Tables (s : Store) : Type 0 where
 pub record Sound (s : Store) : Type 0 where
   pub tables : Tables s
   pub held : Held s
+  pub clients : Clients s
 
 -- a state stands in xs: document 01's premise that it is the one the last call left
 pub record State (xs : List ℕ) : Type 0 where

@@ -93,6 +93,12 @@ pub then-fill : {ys zs : List ℕ} {s : Store} (b i k : ℕ) (vs : List ℕ) →
 then-fill {ys} {zs} {s} b i k vs p q =
     record { holds = q .holds; same = λ d j l c. q .same d j l c ∙ same-fill (cell ys) s b i k vs (p .same) d j l c }
 
+-- another block
+pub fill-elsewhere : (b i k : ℕ) (vs : List ℕ) (s : Store) (d j l : ℕ) → (d ≡ b → ⊥) → fill b i k vs s d j l ≡ s d j l
+unfolding fill
+fill-elsewhere b i k [] s d j l n = refl
+fill-elsewhere b i k (v ∷ vs) s d j l n = fill-elsewhere b i (k + 1) vs (write b i k v s) d j l n ∙ rw (ne-eqb d b n) refl
+
 -- one cell more
 fill-more : (b i k : ℕ) (vs : List ℕ) (v : ℕ) (s : Store) → fill b i k (vs ++ (v ∷ [])) s ≡ write b i (k + length vs) v (fill b i k vs s)
 unfolding fill
