@@ -4,7 +4,7 @@ ghost use mathlib.Core.Path.{_≡_};
 ghost use Prim.Native.Nat.{_+_, _*_, _%_, _≤_, _<_};
 ghost use lib.ListN.{length};
 ghost use Rattle.le.specs.Le.{put};
-ghost use Rattle.table.specs.Table.{keyAt, markAt, Room, Sorted, Between, Finds, Moved, Opened, Closed, Compacted};
+ghost use Rattle.table.specs.Table.{keyAt, markAt, Room, Sorted, Between, Counted, Finds, Moved, Opened, Closed, Compacted};
 
 pub enum Found {
     At(usize),
@@ -25,22 +25,37 @@ pub fn mark_at(m: &[u8], base: usize, stride: usize, mark: usize, i: usize) -> u
     le::get_u8(m, base + stride * i + mark)
 }
 
-// The first row whose key is not below `key`.
+// Of `many` rows, each w behind the one before it, how many have a key below `key`. The keys are added up: no jump depends on one.
+fn count(m: &[u8], base: usize, stride: usize, lo: usize, w: usize, many: usize, key: u64) -> usize
+    requires { ⌜ Sorted base stride (lo + w * many) (now m) × (0 < w) ⌝ }
+    ensures { λ r. ⌜ Counted (keyAt base stride (now (m .entry))) key lo w many r ⌝ }
+{
+    let mut c: usize = 0;
+    let mut i: usize = 0;
+    while i < many {
+        let at = lo + w * i + (w - 1);
+        i += 1;
+        if key_at(m, base, stride, at) < key {
+            c += 1;
+        }
+    }
+    c
+}
+
+// The first row whose key is not below `key`. Of the rows in doubt, which are `left` from lo on, an eighth is left in a turn.
 pub fn lower_bound(m: &[u8], base: usize, stride: usize, n: usize, key: u64) -> usize
     requires { ⌜ Sorted base stride n (now m) ⌝ }
     ensures { λ r. ⌜ Between (keyAt base stride (now (m .entry))) n key r r ⌝ }
 {
     let mut lo: usize = 0;
-    let mut hi: usize = n;
-    while lo < hi {
-        let mid = lo + (hi - lo) / 2;
-        if key_at(m, base, stride, mid) < key {
-            lo = mid + 1;
-        } else {
-            hi = mid;
-        }
+    let mut left: usize = n;
+    while 7 <= left {
+        let w = (left + 1) / 8;
+        let c = count(m, base, stride, lo, w, 7, key);
+        lo += w * c;
+        left -= w * 7;
     }
-    lo
+    lo + count(m, base, stride, lo, 1, left, key)
 }
 
 pub fn find(m: &[u8], base: usize, stride: usize, mark: usize, n: usize, key: u64) -> Found
