@@ -100,16 +100,48 @@ pub fn find_hinted(
     Found::At(hint)
 }
 
+fn move_word(m: &mut [u8], from: usize, to: usize)
+    requires { ⌜ (from + 8 ≤ length (now m)) × (to + 8 ≤ length (now m)) ⌝ }
+    ensures { λ r. ⌜ Moved (now (m .entry)) (now (m .exit)) from to 8 ⌝ }
+{
+    let v = le::get_u64(m, from);
+    le::put_u64(m, to, v);
+}
+
 // Words are moved from the last to the first, or from the first to the last, so that none is overwritten before it has moved.
+fn up_four(m: &mut [u8], from: usize, to: usize)
+    requires { ⌜ (from ≤ to) × (to + 32 ≤ length (now m)) ⌝ }
+    ensures { λ r. ⌜ Moved (now (m .entry)) (now (m .exit)) from to 32 ⌝ }
+{
+    move_word(m, from + 8 + 8 + 8, to + 8 + 8 + 8);
+    move_word(m, from + 8 + 8, to + 8 + 8);
+    move_word(m, from + 8, to + 8);
+    move_word(m, from, to);
+}
+
+fn down_four(m: &mut [u8], from: usize, to: usize)
+    requires { ⌜ (to ≤ from) × (from + 32 ≤ length (now m)) ⌝ }
+    ensures { λ r. ⌜ Moved (now (m .entry)) (now (m .exit)) from to 32 ⌝ }
+{
+    move_word(m, from, to);
+    move_word(m, from + 8, to + 8);
+    move_word(m, from + 16, to + 16);
+    move_word(m, from + 24, to + 24);
+}
+
+// Four words a turn, and then those that are left.
 fn move_up(m: &mut [u8], from: usize, to: usize, len: usize)
     requires { ⌜ (from ≤ to) × (to + len ≤ length (now m)) × (len % 8 ≡ 0) ⌝ }
     ensures { λ r. ⌜ Moved (now (m .entry)) (now (m .exit)) from to len ⌝ }
 {
     let mut k: usize = len;
+    while 32 <= k {
+        k -= 32;
+        up_four(m, from + k, to + k);
+    }
     while 0 < k {
         k -= 8;
-        let v = le::get_u64(m, from + k);
-        le::put_u64(m, to + k, v);
+        move_word(m, from + k, to + k);
     }
 }
 
@@ -118,9 +150,12 @@ fn move_down(m: &mut [u8], from: usize, to: usize, len: usize)
     ensures { λ r. ⌜ Moved (now (m .entry)) (now (m .exit)) from to len ⌝ }
 {
     let mut k: usize = 0;
+    while 32 <= len - k {
+        down_four(m, from + k, to + k);
+        k += 32;
+    }
     while k < len {
-        let v = le::get_u64(m, from + k);
-        le::put_u64(m, to + k, v);
+        move_word(m, from + k, to + k);
         k += 8;
     }
 }
