@@ -108,6 +108,10 @@ module _ {ks : ℕ → ℕ} {n : ℕ} where
       (eq-or-lt-of-le q))
       (lt-or-le j i)
 
+  -- a key above the last one is nowhere
+  pub finds-past : (ms : ℕ → ℕ) {k : ℕ} → Ascends (λ k. k) ks n → ks (n - 1) < k → Finds ks ms n k Nothing
+  finds-past ms s h = λ j l e. absurd (omega (arith, ascends-le s j (n - 1) (omega arith) (omega arith)))
+
   -- where the row that has the key is dead, there is none
   pub finds-dead : (ms : ℕ → ℕ) {k : ℕ} (i : ℕ) → Ascends (λ k. k) ks n → i < n → ks i ≡ k → ms i ≡ 0 → Finds ks ms n k Nothing
   finds-dead ms i s h e d = λ j l q.

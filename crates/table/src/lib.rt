@@ -42,26 +42,33 @@ fn count(m: &[u8], base: usize, stride: usize, lo: usize, w: usize, many: usize,
     c
 }
 
-// The first row whose key is not below `key`. Of the rows in doubt, which are `left` from lo on, an eighth is left in a turn.
+// The first row whose key is not below `key`. Of the rows in doubt, which are `left` from lo on, a quarter is left in a turn.
 pub fn lower_bound(m: &[u8], base: usize, stride: usize, n: usize, key: u64) -> usize
     requires { ⌜ Sorted base stride n (now m) ⌝ }
     ensures { λ r. ⌜ Between (keyAt base stride (now (m .entry))) n key r r ⌝ }
 {
     let mut lo: usize = 0;
     let mut left: usize = n;
-    while 7 <= left {
-        let w = (left + 1) / 8;
-        let c = count(m, base, stride, lo, w, 7, key);
+    while 3 <= left {
+        let w = (left + 1) / 4;
+        let c = count(m, base, stride, lo, w, 3, key);
         lo += w * c;
-        left -= w * 7;
+        left -= w * 3;
     }
     lo + count(m, base, stride, lo, 1, left, key)
 }
 
+// A key above the last one is not searched for.
 pub fn find(m: &[u8], base: usize, stride: usize, mark: usize, n: usize, key: u64) -> Found
     requires { ⌜ Sorted base stride n (now m) × (mark < stride) ⌝ }
     ensures { λ r. ⌜ Finds (keyAt base stride (now (m .entry))) (markAt base stride mark (now (m .entry))) n key r ⌝ }
 {
+    if n == 0 {
+        return Found::Nothing;
+    }
+    if key_at(m, base, stride, n - 1) < key {
+        return Found::Nothing;
+    }
     let i = lower_bound(m, base, stride, n, key);
     if n <= i {
         return Found::Nothing;

@@ -23,10 +23,10 @@ count-requires : tie.Need-count-requires Inv-loop μ-loop
 count-requires c κs = (first-rows _ (c .before .before .before .pre) (omega arith), omega arith)
 
 mul-lo : tie.Need-mul-lo Inv-loop μ-loop
-mul-lo c = omega (arith, mono ((c .before .before .loop .left + 1) / 8) (c .count .ensures .few), rows-few (c .before .before .before .before .pre .room))
+mul-lo c = omega (arith, mono ((c .before .before .loop .left + 1) / 4) (c .count .ensures .few), rows-few (c .before .before .before .before .pre .room))
 
 add-lo : tie.Need-add-lo Inv-loop μ-loop
-add-lo c = omega (arith, mono ((c .before .before .loop .left + 1) / 8) (c .count .ensures .few), rows-few (c .before .before .before .before .pre .room))
+add-lo c = omega (arith, mono ((c .before .before .loop .left + 1) / 4) (c .count .ensures .few), rows-few (c .before .before .before .before .pre .room))
 
 mul-left : tie.Need-mul-left Inv-loop μ-loop
 mul-left c = omega arith
@@ -41,7 +41,7 @@ loop-again : tie.Need-loop-again Inv-loop μ-loop
 loop-again c =
     let l = c .before .before in
     let s = l .before .before in
-    between-counted (s .args .key) (l .loop .lo) (l .loop .left) ((l .loop .left + 1) / 8) 7 (c .count .result) (s .pre .asc) (l .loop .inv) (omega arith) (omega arith) (omega arith) (c .count .ensures)
+    between-counted (s .args .key) (l .loop .lo) (l .loop .left) ((l .loop .left + 1) / 4) 3 (c .count .result) (s .pre .asc) (l .loop .inv) (omega arith) (omega arith) (omega arith) (c .count .ensures)
 
 count-requires-2 : tie.Need-count-requires-2 Inv-loop μ-loop
 count-requires-2 c κs = (first-rows _ (c .before .before .before .pre) (omega arith), omega arith)
