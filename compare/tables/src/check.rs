@@ -37,6 +37,8 @@ struct Both {
     live: Vec<u64>,
     /// The orders in the levels: what each shows.
     shown: Vec<(Side, i64, u64)>,
+    squeezes: usize,
+    most_levels: usize,
 }
 
 impl Both {
@@ -49,6 +51,8 @@ impl Both {
             given: vec![0],
             live: Vec::new(),
             shown: Vec::new(),
+            squeezes: 0,
+            most_levels: 0,
         }
     }
 
@@ -69,7 +73,9 @@ impl Both {
             return;
         };
         let live = self.random.live();
+        let rows = self.state.cell(HEADER, 0, ORDER_ROWS);
         self.state.add(number, live);
+        self.squeezes += usize::from(self.state.cell(HEADER, 0, ORDER_ROWS) <= rows);
         self.orders.add(number, live);
         self.given.push(number);
         self.live.push(number);
@@ -77,7 +83,11 @@ impl Both {
 
     fn remove(&mut self) -> Result<(), String> {
         let number = self.number();
-        equal("remove", self.state.remove(number), self.orders.remove(number))?;
+        equal(
+            "remove",
+            self.state.remove(number),
+            self.orders.remove(number),
+        )?;
         self.live.retain(|&live| live != number);
         Ok(())
     }
@@ -110,7 +120,9 @@ impl Both {
     /// A price among `prices`, or near an end of the range.
     fn price(&mut self, prices: u64) -> i64 {
         match self.random.below(50) {
-            0 => self.random.pick(&[i64::MIN, i64::MIN + 1, -1, 0, 1, i64::MAX - 1, i64::MAX]),
+            0 => self
+                .random
+                .pick(&[i64::MIN, i64::MIN + 1, -1, 0, 1, i64::MAX - 1, i64::MAX]),
             _ => self.random.below(prices) as i64 - prices as i64 / 2,
         }
     }
@@ -171,29 +183,54 @@ impl Both {
                     true => self.price(prices),
                     false => self.random.pick(&self.shown).1,
                 };
-                equal("level", self.state.level(side, price), self.levels.level(side, price))?;
+                equal(
+                    "level",
+                    self.state.level(side, price),
+                    self.levels.level(side, price),
+                )?;
             }
         }
         for (side, _, count) in LEVELS {
             let size = self.state.cell(HEADER, 0, count);
             equal("size", size as usize, self.levels.half(side).len())?;
+            self.most_levels = self.most_levels.max(size as usize);
         }
         Ok(())
     }
 
     fn order_rows(&self) -> Result<(), String> {
         let rows = self.state.cell(HEADER, 0, ORDER_ROWS) as usize;
-        let cells = |row: usize| [0, 1, 2, 3, 4, 5, 6, 7, 8, 9, 10].map(|k| self.state.cell(ORDERS, row, k));
+        let cells = |row: usize| {
+            [0, 1, 2, 3, 4, 5, 6, 7, 8, 9, 10].map(|k| self.state.cell(ORDERS, row, k))
+        };
         let live_rows = (0..rows).map(cells).filter(|row| row[1] == 1);
         let rows_of = |(number, live): (u64, Live)| {
             let (account, side) = (u64::from(live.account), live.side as u64);
             let (price, held) = (live.price as u64, live.held as u64);
-            [number, 1, 0, 1, account, live.client_ref, side, 1, price, live.leaves, held]
+            [
+                number,
+                1,
+                0,
+                1,
+                account,
+                live.client_ref,
+                side,
+                1,
+                price,
+                live.leaves,
+                held,
+            ]
         };
         let mut live: Vec<(u64, Live)> = self.orders.0.iter().map(|(&n, &o)| (n, o)).collect();
         live.sort_by_key(|&(number, _)| number);
-        equal("live rows", live_rows.collect(), live.into_iter().map(rows_of).collect::<Vec<_>>())?;
-        let numbers: Vec<u64> = (0..rows).map(|row| self.state.cell(ORDERS, row, 0)).collect();
+        equal(
+            "live rows",
+            live_rows.collect(),
+            live.into_iter().map(rows_of).collect::<Vec<_>>(),
+        )?;
+        let numbers: Vec<u64> = (0..rows)
+            .map(|row| self.state.cell(ORDERS, row, 0))
+            .collect();
         equal("ascending rows", numbers.is_sorted_by(|a, b| a < b), true)?;
         let count = self.state.cell(HEADER, 0, LIVE_ORDERS) as usize;
         equal("live orders", count, self.orders.0.len())
@@ -204,7 +241,8 @@ impl Both {
             let size = self.state.cell(HEADER, 0, count) as usize;
             let rows = (0..size).map(|row| [0, 1, 2].map(|k| self.state.cell(block, row, k)));
             let levels = self.levels.half(side).iter();
-            let levels = levels.map(|(&price, level)| [key(price), level.qty, u64::from(level.orders)]);
+            let levels =
+                levels.map(|(&price, level)| [key(price), level.qty, u64::from(level.orders)]);
             equal("levels", rows.collect::<Vec<_>>(), levels.collect())?;
         }
         Ok(())
@@ -213,8 +251,12 @@ impl Both {
     /// Every other cell is 0.
     fn other_cells(&self) -> Result<(), String> {
         let counts = [ORDER_ROWS, LIVE_ORDERS, LEVELS[0].2, LEVELS[1].2];
-        for block in (0..ROWS.len()).filter(|block| ![ORDERS, LEVELS[0].1, LEVELS[1].1, HINTS].contains(block)) {
-            for (row, cell) in (0..ROWS[block]).flat_map(|row| (0..WIDTHS[block]).map(move |cell| (row, cell))) {
+        for block in (0..ROWS.len())
+            .filter(|block| ![ORDERS, LEVELS[0].1, LEVELS[1].1, HINTS].contains(block))
+        {
+            for (row, cell) in
+                (0..ROWS[block]).flat_map(|row| (0..WIDTHS[block]).map(move |cell| (row, cell)))
+            {
                 if block != HEADER || !counts.contains(&cell) {
                     equal("another cell", self.state.cell(block, row, cell), 0)?;
                 }
@@ -247,6 +289,9 @@ pub fn check() -> Result<(), String> {
         }
         both.rows()?;
     }
-    println!("tables: {STEPS} steps on the orders and as many on the levels are equal");
+    println!(
+        "tables: {STEPS} steps on the orders, with {} squeezes, and as many on up to {} levels are equal",
+        both.squeezes, both.most_levels
+    );
     Ok(())
 }

@@ -8,7 +8,7 @@ use crate::standard::{Levels, Side};
 pub const LEVELS: usize = 120;
 
 /// Calls of a kind in a round, and in a timed batch.
-const CALLS: usize = 20_010;
+const CALLS: usize = 2_010;
 const BATCH: usize = 30;
 
 const LEAST: i64 = 9_000;
@@ -45,7 +45,12 @@ pub struct Bench {
 impl Bench {
     pub fn new() -> Bench {
         let (state, levels) = (State::new(), Levels::default());
-        let mut bench = Bench { random: Random::new(), state, levels, prices: Vec::new() };
+        let mut bench = Bench {
+            random: Random::new(),
+            state,
+            levels,
+            prices: Vec::new(),
+        };
         (0..LEVELS).for_each(|_| bench.open());
         bench
     }
@@ -115,22 +120,48 @@ impl Bench {
     }
 
     /// Orders come in the first part of a batch, and as many go in the second.
-    fn batches(&mut self, names: [&'static str; 2], round: usize, table: &mut Table, batches: &[Batch]) {
+    fn batches(
+        &mut self,
+        names: [&'static str; 2],
+        round: usize,
+        table: &mut Table,
+        batches: &[Batch],
+    ) {
         let (state, levels) = (&mut self.state, &mut self.levels);
         let proved = || {
             time_parts(
                 state,
                 batches,
-                |state, batch| batch.firsts.iter().for_each(|&price| state.join(SIDE, price, SHOWN)),
-                |state, batch| batch.seconds.iter().for_each(|&price| state.leave(SIDE, price, SHOWN)),
+                |state, batch| {
+                    batch
+                        .firsts
+                        .iter()
+                        .for_each(|&price| state.join(SIDE, price, SHOWN))
+                },
+                |state, batch| {
+                    batch
+                        .seconds
+                        .iter()
+                        .for_each(|&price| state.leave(SIDE, price, SHOWN))
+                },
             )
         };
         let standard = || {
             time_parts(
                 levels,
                 batches,
-                |levels, batch| batch.firsts.iter().for_each(|&price| levels.join(SIDE, price, SHOWN)),
-                |levels, batch| batch.seconds.iter().for_each(|&price| levels.leave(SIDE, price, SHOWN)),
+                |levels, batch| {
+                    batch
+                        .firsts
+                        .iter()
+                        .for_each(|&price| levels.join(SIDE, price, SHOWN))
+                },
+                |levels, batch| {
+                    batch
+                        .seconds
+                        .iter()
+                        .for_each(|&price| levels.leave(SIDE, price, SHOWN))
+                },
             )
         };
         let (proved, standard) = in_turns(round, proved, standard);
@@ -143,10 +174,18 @@ impl Bench {
     fn joins(&mut self, round: usize, table: &mut Table) {
         let batch = |_| {
             let firsts: Vec<i64> = (0..BATCH).map(|_| self.draw_present()).collect();
-            Batch { seconds: firsts.clone(), firsts }
+            Batch {
+                seconds: firsts.clone(),
+                firsts,
+            }
         };
         let batches: Vec<Batch> = (0..CALLS / BATCH).map(batch).collect();
-        self.batches(["add, at a level", "remove, not the last order"], round, table, &batches);
+        self.batches(
+            ["add, at a level", "remove, not the last order"],
+            round,
+            table,
+            &batches,
+        );
     }
 
     /// Batches with half a batch fewer levels before it and half a batch more behind it.
@@ -157,7 +196,12 @@ impl Bench {
             seconds: (0..BATCH).map(|_| self.draw_close()).collect(),
         };
         let batches: Vec<Batch> = (0..CALLS / BATCH).map(batch).collect();
-        self.batches(["add, a new level", "remove, a level's last order"], round, table, &batches);
+        self.batches(
+            ["add, a new level", "remove, a level's last order"],
+            round,
+            table,
+            &batches,
+        );
         (0..BATCH / 2).for_each(|_| self.open());
     }
 
@@ -165,7 +209,14 @@ impl Bench {
         let open = self.draw_open();
         let (hit, miss) = (self.draw_present(), self.draw_absent());
         let (join, show) = (self.draw_present(), self.draw_present());
-        Turn { open, hit, miss, join, show, close: self.draw_close() }
+        Turn {
+            open,
+            hit,
+            miss,
+            join,
+            show,
+            close: self.draw_close(),
+        }
     }
 
     fn mix(&mut self, round: usize, table: &mut Table) {

@@ -10,8 +10,8 @@ use crate::standard::{Live, Orders};
 
 pub const LIVE: usize = 950;
 
-/// Calls of a kind in a round, and in a timed batch of adds or removals.
-const CALLS: usize = 20_000;
+/// Calls of a kind in a round, with some four squeezes, and in a timed batch of adds or removals.
+const CALLS: usize = 4_400;
 const BATCH: usize = 50;
 
 /// How far back a number is that was not squeezed out long ago.
@@ -101,8 +101,9 @@ impl Bench {
         let rows: HashSet<u64> = rows.map(|row| self.state.cell(5, row, 0)).collect();
         let live: HashSet<u64> = live.into_iter().collect();
         let lately = self.next - LATELY..self.next;
-        let (there, gone): (Vec<u64>, Vec<u64>) =
-            lately.filter(|number| !live.contains(number)).partition(|number| rows.contains(number));
+        let (there, gone): (Vec<u64>, Vec<u64>) = lately
+            .filter(|number| !live.contains(number))
+            .partition(|number| rows.contains(number));
         let there = self.draw(&there);
         self.finds("find, ended, its row still there", round, table, &there);
         let gone = self.draw(&gone);
@@ -138,16 +139,36 @@ impl Bench {
             time_parts(
                 state,
                 &batches,
-                |state, batch| batch.adds.iter().for_each(|&(number, live)| state.add(number, live)),
-                |state, batch| batch.removes.iter().for_each(|&number| _ = state.remove(number)),
+                |state, batch| {
+                    batch
+                        .adds
+                        .iter()
+                        .for_each(|&(number, live)| state.add(number, live))
+                },
+                |state, batch| {
+                    batch
+                        .removes
+                        .iter()
+                        .for_each(|&number| _ = state.remove(number))
+                },
             )
         };
         let standard = || {
             time_parts(
                 map,
                 &batches,
-                |map, batch| batch.adds.iter().for_each(|&(number, live)| map.add(number, live)),
-                |map, batch| batch.removes.iter().for_each(|&number| _ = map.remove(number)),
+                |map, batch| {
+                    batch
+                        .adds
+                        .iter()
+                        .for_each(|&(number, live)| map.add(number, live))
+                },
+                |map, batch| {
+                    batch
+                        .removes
+                        .iter()
+                        .for_each(|&number| _ = map.remove(number))
+                },
             )
         };
         let (proved, standard) = in_turns(round, proved, standard);
@@ -177,7 +198,14 @@ impl Bench {
         let change = self.random.pick(&self.live);
         let remove = self.draw_remove();
         live.remove(&remove);
-        Turn { number, live: order, hit, miss, change, remove }
+        Turn {
+            number,
+            live: order,
+            hit,
+            miss,
+            change,
+            remove,
+        }
     }
 
     fn mix(&mut self, round: usize, table: &mut Table) {
@@ -189,7 +217,9 @@ impl Bench {
                 state.add(turn.number, turn.live);
                 let found = state.find(turn.hit).wrapping_add(state.find(turn.miss));
                 let changed = state.change(turn.change, turn.number, 7);
-                found.wrapping_add(changed.into()).wrapping_add(state.remove(turn.remove).into())
+                found
+                    .wrapping_add(changed.into())
+                    .wrapping_add(state.remove(turn.remove).into())
             })
         };
         let standard = || {
@@ -197,11 +227,18 @@ impl Bench {
                 map.add(turn.number, turn.live);
                 let found = map.find(turn.hit).wrapping_add(map.find(turn.miss));
                 let changed = map.change(turn.change, turn.number, 7);
-                found.wrapping_add(changed.into()).wrapping_add(map.remove(turn.remove).into())
+                found
+                    .wrapping_add(changed.into())
+                    .wrapping_add(map.remove(turn.remove).into())
             })
         };
         let (proved, standard) = in_turns(round, proved, standard);
-        table.note("the mix: one of each, half the misses ended lately", 5 * CALLS, proved, standard);
+        table.note(
+            "the mix: add, find, find none, change, remove",
+            5 * CALLS,
+            proved,
+            standard,
+        );
     }
 
     pub fn round(&mut self, round: usize, table: &mut Table) {

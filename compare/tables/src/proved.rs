@@ -17,24 +17,12 @@ unsafe extern "C" {
         leaves: u64,
         hold: u64,
     );
-    fn tables_orders_change(
-        state: *mut u8,
-        len: usize,
-        number: u64,
-        leaves: u64,
-        hold: u64,
-    ) -> u64;
+    fn tables_orders_change(state: *mut u8, len: usize, number: u64, leaves: u64, hold: u64)
+    -> u64;
     fn tables_orders_remove(state: *mut u8, len: usize, number: u64) -> u64;
     fn tables_levels_find(state: *const u8, len: usize, side: u32, key: u64) -> u64;
     fn tables_levels_add(state: *mut u8, len: usize, side: u32, key: u64, visible: u64);
-    fn tables_levels_show(
-        state: *mut u8,
-        len: usize,
-        side: u32,
-        key: u64,
-        before: u64,
-        after: u64,
-    );
+    fn tables_levels_show(state: *mut u8, len: usize, side: u32, key: u64, before: u64, after: u64);
     fn tables_levels_remove(state: *mut u8, len: usize, side: u32, key: u64, visible: u64);
 }
 
