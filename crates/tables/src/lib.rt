@@ -1,5 +1,6 @@
 // Calls for the comparison with the standard library's maps: the live orders and the price levels in a lent state.
 // What each call requires of the state is document 01's premise: the state is the one that the last call left, from `tables_clear` on.
+// That the calls keep it is in orders/proofs/Views.antt and Room.antt, and in the contracts of `levels`.
 use orderbook::Side;
 use orders::Live;
 use table::Found;
