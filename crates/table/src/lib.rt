@@ -25,7 +25,7 @@ pub fn mark_at(m: &[u8], base: usize, stride: usize, mark: usize, i: usize) -> u
     le::get_u8(m, base + stride * i + mark)
 }
 
-// Of `many` rows, each w behind the one before it, how many have a key below `key`. The keys are added up: no jump depends on one.
+// Of `many` rows, each w behind the one before it, how many have a key below `key`. The answers are added up: no jump depends on a key.
 fn count(m: &[u8], base: usize, stride: usize, lo: usize, w: usize, many: usize, key: u64) -> usize
     requires { ⌜ Sorted base stride (lo + w * many) (now m) × (0 < w) ⌝ }
     ensures { λ r. ⌜ Counted (keyAt base stride (now (m .entry))) key lo w many r ⌝ }
