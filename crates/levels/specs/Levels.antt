@@ -11,6 +11,8 @@ use Rattle.orderbook.specs.declared.Side.the-variants.{Buy, Sell}
 use Rattle.words.specs.Words.{half, _⊖_}
 use Rattle.table.specs.Live.{live, look, insert, replace, without, Ascends}
 use Rattle.table.specs.Table.{Between}
+use Rattle.table.specs.declared.Found.{Found}
+use Rattle.table.specs.declared.Found.the-variants.{At, Nothing}
 use Rattle.gateway.specs.Basics.{option}
 use Rattle.gateway.specs.Limits.{most-levels}
 use Rattle.gateway.specs.Depth.{Level}
@@ -91,6 +93,11 @@ Sought s xs k i = Between (λ j. row s (cell xs) j .key) (size s (cell xs)) k i 
 abbrev pub IsAt : Side → List ℕ → ℕ → ℕ → Bool → Type 0
 IsAt s xs i k true = (i < size s (cell xs)) × (look key k (entries s (cell xs)) ≡ some (row s (cell xs) i))
 IsAt s xs i k false = look key k (entries s (cell xs)) ≡ none
+
+-- what is found of the level k
+abbrev pub Finds : Side → List ℕ → ℕ → Found → Type 0
+Finds s xs k (At i) = IsAt s xs i k true
+Finds s xs k Nothing = look key k (entries s (cell xs)) ≡ none
 
 -- the level k is not there, and i is its place
 pub record Place (s : Side) (xs : List ℕ) (k i : ℕ) : Type 0 where

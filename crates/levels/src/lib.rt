@@ -7,7 +7,6 @@ ghost use Prim.Native.Nat.{_+_, _*_, _≤_, _<_};
 ghost use Rattle.le.specs.Row.{puts};
 ghost use Rattle.gateway.specs.Limits.{most-levels};
 ghost use Rattle.table.specs.Live.{look, insert, replace, without};
-ghost use Rattle.table.specs.Table.{found};
 ghost use Rattle.store.specs.Cells as C;
 ghost use Rattle.store.specs.Layout.{cell, Holds, Set};
 ghost use Rattle.levels.specs.Levels as L;
@@ -105,7 +104,7 @@ fn is_at(m: &[u8], side: Side, i: usize, key: u64) -> bool
 // The level of that key.
 pub fn find(m: &[u8], side: Side, key: u64) -> Found
     requires { ⌜ L.Table side (now m) ⌝ }
-    ensures { λ r. ⌜ look L.key key (L.entries side (cell (now (m .entry)))) ≡ found (L.row side (cell (now (m .entry)))) r ⌝ }
+    ensures { λ r. ⌜ L.Finds side (now (m .entry)) key r ⌝ }
 {
     let i = seek(m, side, key);
     if is_at(m, side, i, key) {

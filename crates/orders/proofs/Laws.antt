@@ -81,6 +81,23 @@ unfolding append
 append-is xs n i c o ie ce p q r =
     rw (← ie, ← ce) (then-set (then-fill C.header 0 C.order-rows ((i + 1) ∷ (c + 1) ∷ []) p q) (hint-cell (n % hint-slots) C.hint-row (omega arith) (omega arith)) r)
 
+-- what is appended after writes that left s
+pub then-append : {ys zs : List ℕ} {s : Store} (n : ℕ) (o : Live) → Is ys s → Is zs (append n o (cell ys)) → Is zs (append n o s)
+unfolding append
+then-append {ys} {zs} {s} n o p q =
+    let vs = n ∷ 1 ∷ 0 ∷ 1 ∷ o .account ∷ o .«client_ref» ∷ o .side ∷ o .priced ∷ o .price ∷ o .leaves ∷ o .hold ∷ [] in
+    let i = word (cell ys) C.order-rows in
+    let ws = (i + 1) ∷ (word (cell ys) C.live-orders + 1) ∷ [] in
+    rw (← p .same C.header 0 C.order-rows (header-cell C.order-rows (omega arith)), ← p .same C.header 0 C.live-orders (header-cell C.live-orders (omega arith)))
+    (record {
+      holds = q .holds;
+      same =
+          same-trans (cell zs) (append n o (cell ys)) _ (q .same)
+          (same-write (fill C.header 0 C.order-rows ws (fill C.orders i C.order-number vs (cell ys))) (fill C.header 0 C.order-rows ws (fill C.orders i C.order-number vs s))
+          C.hints (n % hint-slots) C.hint-row i
+          (same-fill (fill C.orders i C.order-number vs (cell ys)) (fill C.orders i C.order-number vs s) C.header 0 C.order-rows ws (same-fill (cell ys) s C.orders i C.order-number vs (p .same))));
+    })
+
 -- ---- what is found
 
 -- the key and the mark that `table` reads are cells; a cell below 256 is its low byte

@@ -81,19 +81,26 @@ moved-high o p a b h s t =
           (outside-wider p (p + (a + b)) (omega arith) (omega arith) (t .frame));
     }
 
-pub moved-down : {xs ys : List ℕ} (o p n k : ℕ) → p ≤ o → k + 8 ≤ n → o + n ≤ length ys → Bytes ys → Moved xs ys o p k
-    → Moved xs (put 8 ys (p + k) (le 8 ys (o + k))) o p (k + 8)
-moved-down {ys = ys} o p n k h l f b s = moved-low o p k 8 h s (moved-word ys (o + k) (p + k) b (omega arith))
+-- four words, from the last to the first and from the first to the last
+pub four-up : {xs ys zs us vs : List ℕ} (o p : ℕ) → o ≤ p → Moved xs ys (o + 8 + 8 + 8) (p + 8 + 8 + 8) 8 → Moved ys zs (o + 8 + 8) (p + 8 + 8) 8 → Moved zs us (o + 8) (p + 8) 8 → Moved us vs o p 8 →
+    Moved xs vs o p 32
+four-up o p h a b c d =
+    moved-high o p 8 24 h (moved-high (o + 8) (p + 8) 8 16 (omega arith) (moved-high (o + 8 + 8) (p + 8 + 8) 8 8 (omega arith) a b) c) d
 
-pub moved-up : {xs ys : List ℕ} (o p n k : ℕ) → o ≤ p → 8 ≤ k → k ≤ n → p + n ≤ length ys → Bytes ys → Moved xs ys (o + k) (p + k) (n - k)
-    → Moved xs (put 8 ys (p + (k - 8)) (le 8 ys (o + (k - 8)))) (o + (k - 8)) (p + (k - 8)) (n - (k - 8))
-moved-up {xs} {ys} o p n k h l m f b s =
-    let d : ℕ = k - 8 in
-    let e : o + k ≡ o + d + 8 = omega arith in
-    let e′ : p + k ≡ p + d + 8 = omega arith in
-    let w : n - d ≡ 8 + (n - k) = omega arith in
-    let t : Moved xs ys (o + d + 8) (p + d + 8) (n - k) = rw (e, e′) at s in
-    rw w (moved-high (o + d) (p + d) 8 (n - k) (omega arith) t (moved-word ys (o + d) (p + d) b (omega arith)))
+pub four-down : {xs ys zs us vs : List ℕ} (o p : ℕ) → p ≤ o → Moved xs ys o p 8 → Moved ys zs (o + 8) (p + 8) 8 → Moved zs us (o + 16) (p + 16) 8 → Moved us vs (o + 24) (p + 24) 8 →
+    Moved xs vs o p 32
+four-down o p h a b c d = moved-low o p 24 8 h (moved-low o p 16 8 h (moved-low o p 8 8 h a b) c) d
+
+-- the next a bytes, where the last n - k have moved up
+pub moved-up : {xs ys zs : List ℕ} (o p n k a : ℕ) → o ≤ p → a ≤ k → k ≤ n → Moved xs ys (o + k) (p + k) (n - k) → Moved ys zs (o + (k - a)) (p + (k - a)) a →
+    Moved xs zs (o + (k - a)) (p + (k - a)) (n - (k - a))
+moved-up {xs} {ys} o p n k a h l m s t =
+    let d : ℕ = k - a in
+    let e : o + k ≡ o + d + a = omega arith in
+    let e′ : p + k ≡ p + d + a = omega arith in
+    let w : n - d ≡ a + (n - k) = omega arith in
+    let u : Moved xs ys (o + d + a) (p + d + a) (n - k) = rw (e, e′) at s in
+    rw w (moved-high (o + d) (p + d) a (n - k) (omega arith) u t)
 
 -- ---- rows
 

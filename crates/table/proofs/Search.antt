@@ -1,48 +1,95 @@
 -- The search for a key among ascending ones.
 -- Assumes nothing.
-use mathlib.Core.Path.{_≡_, sym, _∙_}
+use mathlib.Core.Path.{_≡_, sym, ap, _∙_}
 use mathlib.Core.Logic.{⊎-elim}
 use mathlib.Core.List.{List}
-use Prim.Native.Nat.{ℕ, _+_, _*_, _≤_, _<_}
-use native.Mathlib.Nat.{eq-or-lt-of-le}
+use Prim.Native.Nat.{ℕ, _+_, _*_, _-_, _≤_, _<_}
+use native.Mathlib.Nat.{eq-or-lt-of-le, mul-comm, mul-le-mul-left}
 use native.Mathlib.Omega.{arith}
 use lib.ListN.{length}
 use lib.Arith.{lt-of-le-ne}
 use Rattle.le.proofs.Laws.{lt-or-le}
 use Rattle.table.specs.Live.{live, look, Ascends}
-use Rattle.table.specs.Table.{Room, Between, Finds, found}
+use Rattle.table.specs.Table.{Room, Sorted, Between, Counted, Finds, found}
 use Rattle.table.specs.declared.Found.{Found}
 use Rattle.table.specs.declared.Found.the-variants.{At, Nothing}
-use Rattle.table.proofs.Moves.{step}
+use Rattle.table.proofs.Moves.{next, mono, step}
 use Rattle.table.proofs.Live.{look-some, look-none}
 
 -- a row's bytes are in the slice
 pub row-in : {base stride n : ℕ} {xs : List ℕ} → Room base stride n xs → (i : ℕ) → i < n → base + stride * i + stride ≤ length xs
 row-in {stride = stride} r i h = omega (arith, r .fits, step stride h)
 
+-- there are at most as many rows as words
+pub rows-few : {base stride n : ℕ} {xs : List ℕ} → Room base stride n xs → 8 * n ≤ length xs
+rows-few {stride = stride} {n = n} r = omega (arith, r .fits, mul-comm stride n, mul-le-mul-left n (r .wide))
+
+-- the first rows of a table
+pub first-rows : {base stride n : ℕ} {xs : List ℕ} (j : ℕ) → Sorted base stride n xs → j ≤ n → Sorted base stride j xs
+first-rows {stride = stride} j s h =
+    record {
+      room = record { fits = omega (arith, s .room .fits, mono stride h); wide = s .room .wide; words = s .room .words };
+      asc = λ a b l m. s .asc a b l (omega arith);
+    }
+
+module _ {ks : ℕ → ℕ} where
+  pub counted-none : (k lo w : ℕ) → Counted ks k lo w 0 0
+  counted-none k lo w = record { few = omega arith; below = λ j h. absurd (omega arith); above = λ j a b. absurd (omega arith) }
+
+  -- one row more, not below k
+  pub counted-stop : (k lo w i c : ℕ) → Counted ks k lo w i c → k ≤ ks (lo + w * i + (w - 1)) → Counted ks k lo w (i + 1) c
+  counted-stop k lo w i c d l =
+      record {
+        few = omega (arith, d .few);
+        below = d .below;
+        above = λ j a b. ⊎-elim (λ (e : j ≡ i). rw e l) (λ (q : j < i). d .above j a q) (eq-or-lt-of-le (omega arith));
+      }
+
 module _ {ks : ℕ → ℕ} {n : ℕ} where
-  pub between-all : (k : ℕ) → Between ks n k 0 n
+  pub between-all : (k : ℕ) → Between ks n k 0 (0 + n)
   between-all k = record { inside = omega arith; top = omega arith; below = λ j h. absurd (omega arith); above = λ j a b. absurd (omega arith) }
 
   ascends-le : Ascends (λ k. k) ks n → (i j : ℕ) → i ≤ j → j < n → ks i ≤ ks j
   ascends-le s i j h l = ⊎-elim (λ e. rw e (omega arith)) (λ q. omega (arith, s i j q l)) (eq-or-lt-of-le h)
 
-  pub between-up : {k lo hi : ℕ} (mid : ℕ) → Ascends (λ k. k) ks n → Between ks n k lo hi → mid < hi → ks mid < k → Between ks n k (mid + 1) hi
-  between-up mid s b h l =
+  -- one row more, below k: so are all before it
+  pub counted-more : (k lo w i c : ℕ) → Ascends (λ k. k) ks n → 0 < w → lo + w * (i + 1) ≤ n → Counted ks k lo w i c → ks (lo + w * i + (w - 1)) < k → Counted ks k lo w (i + 1) (c + 1)
+  counted-more k lo w i c s z f d l =
+      record {
+        few = omega (arith, d .few);
+        below = λ j h. ⊎-elim (λ (e : j ≡ i). rw e l) (λ (q : j < i). d .below j (omega (arith, all))) (eq-or-lt-of-le (omega (arith, d .few)));
+        above = λ j a b. absurd (omega (arith, all));
+      }
+    where
+      all : i ≤ c
+      all =
+          ⊎-elim
+          (λ (q : c < i). absurd (omega (arith, d .above c (omega arith) q, s (lo + w * c + (w - 1)) (lo + w * i + (w - 1)) (omega (arith, step w q)) (omega (arith, next w i)))))
+          (λ (q : i ≤ c). q)
+          (lt-or-le c i)
+
+  -- what is in doubt once they are counted
+  pub between-counted : (k lo left w many c : ℕ) → Ascends (λ k. k) ks n → Between ks n k lo (lo + left) → 0 < w → w * many ≤ left → w * many + w ≤ left + 1 → Counted ks k lo w many c →
+      Between ks n k (lo + w * c) (lo + w * c + (left - w * many))
+  between-counted k lo left w many c s b z f g d =
       record {
         inside = omega arith;
-        top = b .top;
-        below = λ j q. omega (arith, ascends-le s j mid (omega arith) (omega (arith, b .top)));
-        above = b .above;
-      }
-
-  pub between-down : {k lo hi : ℕ} (mid : ℕ) → Ascends (λ k. k) ks n → Between ks n k lo hi → lo ≤ mid → mid < hi → k ≤ ks mid → Between ks n k lo mid
-  between-down mid s b g h l =
-      record {
-        inside = g;
-        top = omega (arith, b .top);
-        below = b .below;
-        above = λ j p q. omega (arith, ascends-le s mid j p q);
+        top = omega (arith, b .top, mono w (d .few));
+        below = λ j h.
+            ⊎-elim
+            (λ (q : j < lo). b .below j q)
+            (λ (q : lo ≤ j).
+            let p : 0 < c = ⊎-elim (λ (e : 0 < c). e) (λ (e : c ≤ 0). absurd (omega (arith, mono w e))) (lt-or-le 0 c) in
+            let i : ℕ = c - 1 in
+            let e : i + 1 ≡ c = omega arith in
+            let u : w * c ≡ w * i + w = ap (λ x. w * x) (sym e) ∙ next w i in
+            omega (arith, d .below i (omega arith), ascends-le s j (lo + w * i + (w - 1)) (omega arith) (omega (arith, b .top, mono w (d .few)))))
+            (lt-or-le j lo);
+        above = λ j p q.
+            ⊎-elim
+            (λ (h : c < many). omega (arith, d .above c (omega arith) h, ascends-le s (lo + w * c + (w - 1)) j (omega arith) q))
+            (λ (h : many ≤ c). b .above j (omega (arith, mono w h)) q)
+            (lt-or-le c many);
       }
 
   pub between-end : {k lo hi : ℕ} → hi ≤ lo → Between ks n k lo hi → Between ks n k lo lo
@@ -60,6 +107,10 @@ module _ {ks : ℕ → ℕ} {n : ℕ} where
       (λ p. absurd (omega (arith, b .above i (omega arith) (omega arith), s i j p l)))
       (eq-or-lt-of-le q))
       (lt-or-le j i)
+
+  -- a key above the last one is nowhere
+  pub finds-past : (ms : ℕ → ℕ) {k : ℕ} → Ascends (λ k. k) ks n → ks (n - 1) < k → Finds ks ms n k Nothing
+  finds-past ms s h = λ j l e. absurd (omega (arith, ascends-le s j (n - 1) (omega arith) (omega arith)))
 
   -- where the row that has the key is dead, there is none
   pub finds-dead : (ms : ℕ → ℕ) {k : ℕ} (i : ℕ) → Ascends (λ k. k) ks n → i < n → ks i ≡ k → ms i ≡ 0 → Finds ks ms n k Nothing

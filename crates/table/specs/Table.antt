@@ -3,7 +3,7 @@
 use mathlib.Core.Path.{_≡_}
 use mathlib.Core.List.{List}
 use mathlib.Core.Option.{Option, none, some}
-use Prim.Native.Nat.{ℕ, _+_, _*_, _%_, _≤_, _<_}
+use Prim.Native.Nat.{ℕ, _+_, _*_, _-_, _%_, _≤_, _<_}
 use lib.ListN.{length, getD}
 use Rattle.le.specs.Le.{le, Outside, Same}
 use Rattle.table.specs.Live.{Ascends, kept}
@@ -37,6 +37,12 @@ pub record Between (ks : ℕ → ℕ) (n k lo hi : ℕ) : Type 0 where
   pub top : hi ≤ n
   pub below : (j : ℕ) → j < lo → ks j < k
   pub above : (j : ℕ) → hi ≤ j → j < n → k ≤ ks j
+
+-- of `many` rows, the last of w from lo on, of the next w, and so on, the first c have keys below k, and the others have not
+pub record Counted (ks : ℕ → ℕ) (k lo w many c : ℕ) : Type 0 where
+  pub few : c ≤ many
+  pub below : (i : ℕ) → i < c → ks (lo + w * i + (w - 1)) < k
+  pub above : (i : ℕ) → c ≤ i → i < many → k ≤ ks (lo + w * i + (w - 1))
 
 -- what a search for the key k finds among n rows
 abbrev pub Finds : (ℕ → ℕ) → (ℕ → ℕ) → ℕ → ℕ → Found → Type 0

@@ -4,7 +4,7 @@ ghost use mathlib.Core.Path.{_≡_};
 ghost use Prim.Native.Nat.{_+_, _*_, _%_, _≤_, _<_};
 ghost use lib.ListN.{length};
 ghost use Rattle.le.specs.Le.{put};
-ghost use Rattle.table.specs.Table.{keyAt, markAt, Room, Sorted, Between, Finds, Moved, Opened, Closed, Compacted};
+ghost use Rattle.table.specs.Table.{keyAt, markAt, Room, Sorted, Between, Counted, Finds, Moved, Opened, Closed, Compacted};
 
 pub enum Found {
     At(usize),
@@ -25,28 +25,50 @@ pub fn mark_at(m: &[u8], base: usize, stride: usize, mark: usize, i: usize) -> u
     le::get_u8(m, base + stride * i + mark)
 }
 
-// The first row whose key is not below `key`.
+// Of `many` rows, each w behind the one before it, how many have a key below `key`. The answers are added up: no jump depends on a key.
+fn count(m: &[u8], base: usize, stride: usize, lo: usize, w: usize, many: usize, key: u64) -> usize
+    requires { ⌜ Sorted base stride (lo + w * many) (now m) × (0 < w) ⌝ }
+    ensures { λ r. ⌜ Counted (keyAt base stride (now (m .entry))) key lo w many r ⌝ }
+{
+    let mut c: usize = 0;
+    let mut i: usize = 0;
+    while i < many {
+        let at = lo + w * i + (w - 1);
+        i += 1;
+        if key_at(m, base, stride, at) < key {
+            c += 1;
+        }
+    }
+    c
+}
+
+// The first row whose key is not below `key`. Of the rows in doubt, which are `left` from lo on, a quarter is left in a turn.
 pub fn lower_bound(m: &[u8], base: usize, stride: usize, n: usize, key: u64) -> usize
     requires { ⌜ Sorted base stride n (now m) ⌝ }
     ensures { λ r. ⌜ Between (keyAt base stride (now (m .entry))) n key r r ⌝ }
 {
     let mut lo: usize = 0;
-    let mut hi: usize = n;
-    while lo < hi {
-        let mid = lo + (hi - lo) / 2;
-        if key_at(m, base, stride, mid) < key {
-            lo = mid + 1;
-        } else {
-            hi = mid;
-        }
+    let mut left: usize = n;
+    while 3 <= left {
+        let w = (left + 1) / 4;
+        let c = count(m, base, stride, lo, w, 3, key);
+        lo += w * c;
+        left -= w * 3;
     }
-    lo
+    lo + count(m, base, stride, lo, 1, left, key)
 }
 
+// A key above the last one is not searched for.
 pub fn find(m: &[u8], base: usize, stride: usize, mark: usize, n: usize, key: u64) -> Found
     requires { ⌜ Sorted base stride n (now m) × (mark < stride) ⌝ }
     ensures { λ r. ⌜ Finds (keyAt base stride (now (m .entry))) (markAt base stride mark (now (m .entry))) n key r ⌝ }
 {
+    if n == 0 {
+        return Found::Nothing;
+    }
+    if key_at(m, base, stride, n - 1) < key {
+        return Found::Nothing;
+    }
     let i = lower_bound(m, base, stride, n, key);
     if n <= i {
         return Found::Nothing;
@@ -85,16 +107,48 @@ pub fn find_hinted(
     Found::At(hint)
 }
 
+fn move_word(m: &mut [u8], from: usize, to: usize)
+    requires { ⌜ (from + 8 ≤ length (now m)) × (to + 8 ≤ length (now m)) ⌝ }
+    ensures { λ r. ⌜ Moved (now (m .entry)) (now (m .exit)) from to 8 ⌝ }
+{
+    let v = le::get_u64(m, from);
+    le::put_u64(m, to, v);
+}
+
 // Words are moved from the last to the first, or from the first to the last, so that none is overwritten before it has moved.
+fn up_four(m: &mut [u8], from: usize, to: usize)
+    requires { ⌜ (from ≤ to) × (to + 32 ≤ length (now m)) ⌝ }
+    ensures { λ r. ⌜ Moved (now (m .entry)) (now (m .exit)) from to 32 ⌝ }
+{
+    move_word(m, from + 8 + 8 + 8, to + 8 + 8 + 8);
+    move_word(m, from + 8 + 8, to + 8 + 8);
+    move_word(m, from + 8, to + 8);
+    move_word(m, from, to);
+}
+
+fn down_four(m: &mut [u8], from: usize, to: usize)
+    requires { ⌜ (to ≤ from) × (from + 32 ≤ length (now m)) ⌝ }
+    ensures { λ r. ⌜ Moved (now (m .entry)) (now (m .exit)) from to 32 ⌝ }
+{
+    move_word(m, from, to);
+    move_word(m, from + 8, to + 8);
+    move_word(m, from + 16, to + 16);
+    move_word(m, from + 24, to + 24);
+}
+
+// Four words a turn, and then those that are left.
 fn move_up(m: &mut [u8], from: usize, to: usize, len: usize)
     requires { ⌜ (from ≤ to) × (to + len ≤ length (now m)) × (len % 8 ≡ 0) ⌝ }
     ensures { λ r. ⌜ Moved (now (m .entry)) (now (m .exit)) from to len ⌝ }
 {
     let mut k: usize = len;
+    while 32 <= k {
+        k -= 32;
+        up_four(m, from + k, to + k);
+    }
     while 0 < k {
         k -= 8;
-        let v = le::get_u64(m, from + k);
-        le::put_u64(m, to + k, v);
+        move_word(m, from + k, to + k);
     }
 }
 
@@ -103,9 +157,12 @@ fn move_down(m: &mut [u8], from: usize, to: usize, len: usize)
     ensures { λ r. ⌜ Moved (now (m .entry)) (now (m .exit)) from to len ⌝ }
 {
     let mut k: usize = 0;
+    while 32 <= len - k {
+        down_four(m, from + k, to + k);
+        k += 32;
+    }
     while k < len {
-        let v = le::get_u64(m, from + k);
-        le::put_u64(m, to + k, v);
+        move_word(m, from + k, to + k);
         k += 8;
     }
 }

@@ -9,7 +9,7 @@ is-at-requires : tie.Need-is-at-requires
 is-at-requires c κs = search needs
 
 returns : tie.Need-returns
-returns c = (rw (c .if1 .taken) at (c .before .is-at .ensures)) .1
+returns c = rw (c .if1 .taken) at (c .before .is-at .ensures)
 
 returns-2 : tie.Need-returns-2
 returns-2 c = rw (c .if1 .left) at (c .before .is-at .ensures)

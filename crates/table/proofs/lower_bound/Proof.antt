@@ -1,52 +1,62 @@
 use Rattle.table.proofs.lower_bound.Statement.{statement}
-use Rattle.table.proofs.Search.{row-in, between-all, between-up, between-down, between-end}
+use Rattle.table.proofs.Moves.{mono}
+use Rattle.table.proofs.Search.{rows-few, first-rows, between-all, between-counted, between-end}
 use Rattle.table.specs.Table.{keyAt, Between}
 use native.Mathlib.Omega.{arith}
-use Prim.Native.Nat.{_+_, _-_, _/_}
+use mathlib.Core.Path.{_≡_}
+use Prim.Native.Nat.{_+_, _*_, _-_, _/_}
 use Rattle.table.proofs.lower_bound.Tie as tie
 
 abbrev Inv-loop : tie.InvT-loop
-Inv-loop m base stride n key lo₀ hi₀ lo hi = Between (keyAt base stride m) n key lo hi
+Inv-loop m base stride n key lo₀ left₀ lo left = Between (keyAt base stride m) n key lo (lo + left)
 
 abbrev μ-loop : tie.MeasureT-loop
-μ-loop m base stride n key lo₀ hi₀ lo hi = hi - lo
+μ-loop m base stride n key lo₀ left₀ lo left = left
 
 loop-holds : tie.Need-loop-holds Inv-loop μ-loop
 loop-holds c = between-all _
 
-sub-mid : tie.Need-sub-mid Inv-loop μ-loop
-sub-mid c = omega arith
+add-w : tie.Need-add-w Inv-loop μ-loop
+add-w c = omega (arith, rows-few (c .before .before .before .pre .room))
 
-add-mid : tie.Need-add-mid Inv-loop μ-loop
-add-mid c = omega arith
+count-requires : tie.Need-count-requires Inv-loop μ-loop
+count-requires c κs = (first-rows _ (c .before .before .before .pre) (omega arith), omega arith)
 
-key-at-requires : tie.Need-key-at-requires Inv-loop μ-loop
-key-at-requires c κs =
-    let l = c .before .loop in
-    let p = c .before .before .before .pre in
-    omega (arith, row-in (p .room) (l .lo + (l .hi - l .lo) / 2) (omega arith), p .room .wide)
+mul-lo : tie.Need-mul-lo Inv-loop μ-loop
+mul-lo c = omega (arith, mono ((c .before .before .loop .left + 1) / 4) (c .count .ensures .few), rows-few (c .before .before .before .before .pre .room))
 
 add-lo : tie.Need-add-lo Inv-loop μ-loop
-add-lo c = omega arith
+add-lo c = omega (arith, mono ((c .before .before .loop .left + 1) / 4) (c .count .ensures .few), rows-few (c .before .before .before .before .pre .room))
+
+mul-left : tie.Need-mul-left Inv-loop μ-loop
+mul-left c = omega arith
+
+sub-left : tie.Need-sub-left Inv-loop μ-loop
+sub-left c = omega arith
 
 loop-less : tie.Need-loop-less Inv-loop μ-loop
 loop-less c = omega arith
 
 loop-again : tie.Need-loop-again Inv-loop μ-loop
 loop-again c =
-    let l = c .before .before .before in
-    between-up _ (l .before .before .pre .asc) (l .loop .inv) (omega arith) (rw (c .before .key-at .ensures) at (c .if1 .taken))
+    let l = c .before .before in
+    let s = l .before .before in
+    between-counted (s .args .key) (l .loop .lo) (l .loop .left) ((l .loop .left + 1) / 4) 3 (c .count .result) (s .pre .asc) (l .loop .inv) (omega arith) (omega arith) (omega arith) (c .count .ensures)
 
-loop-less-2 : tie.Need-loop-less-2 Inv-loop μ-loop
-loop-less-2 c = omega arith
+count-requires-2 : tie.Need-count-requires-2 Inv-loop μ-loop
+count-requires-2 c κs = (first-rows _ (c .before .before .before .pre) (omega arith), omega arith)
 
-loop-again-2 : tie.Need-loop-again-2 Inv-loop μ-loop
-loop-again-2 c =
-    let l = c .before .before .before in
-    between-down _ (l .before .before .pre .asc) (l .loop .inv) (omega arith) (omega arith) (rw (c .before .key-at .ensures) at (c .if1 .left))
+add-result : tie.Need-add-result Inv-loop μ-loop
+add-result c = omega (arith, c .count2 .ensures .few)
 
 returns : tie.Need-returns Inv-loop μ-loop
-returns c = between-end (c .loop-test .left) (c .before .loop .inv)
+returns c =
+    let l = c .before .before in
+    let s = l .before .before in
+    let r = c .count2 .result in
+    let e : 1 * r ≡ r = omega arith in
+    between-end (omega arith)
+    (rw e at (between-counted (s .args .key) (l .loop .lo) (l .loop .left) 1 (l .loop .left) r (s .pre .asc) (l .loop .inv) (omega arith) (omega arith) (omega arith) (c .count2 .ensures)))
 
 pub lower-bound-spec : {M : Type 1} → statement M
 lower-bound-spec =
@@ -55,12 +65,14 @@ lower-bound-spec =
     Inv-loop
     μ-loop
     loop-holds
-    sub-mid
-    add-mid
-    key-at-requires
+    add-w
+    count-requires
+    mul-lo
     add-lo
+    mul-left
+    sub-left
     loop-less
     loop-again
-    loop-less-2
-    loop-again-2
+    count-requires-2
+    add-result
     returns)

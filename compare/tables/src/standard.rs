@@ -1,0 +1,107 @@
+//! The same tables as maps of the standard library, with the published Rust's values and its way
+//! to use them. Each is a call of its own, as those of the proved library are.
+
+use std::collections::{BTreeMap, HashMap};
+
+#[derive(Clone, Copy, Debug, PartialEq, Eq)]
+pub enum Side {
+    Buy,
+    Sell,
+}
+
+#[derive(Clone, Copy, Debug, PartialEq, Eq)]
+pub struct Live {
+    pub account: u32,
+    pub client_ref: u64,
+    pub side: Side,
+    pub price: i64,
+    pub leaves: u64,
+    pub held: i64,
+}
+
+#[derive(Clone, Copy, Debug, Default, PartialEq, Eq)]
+pub struct Level {
+    pub qty: u64,
+    pub orders: u32,
+}
+
+#[derive(Default)]
+pub struct Orders(pub HashMap<u64, Live>);
+
+impl Orders {
+    #[inline(never)]
+    pub fn find(&self, number: u64) -> u64 {
+        self.0.get(&number).map_or(0, |live| live.leaves)
+    }
+
+    #[inline(never)]
+    pub fn add(&mut self, number: u64, live: Live) {
+        self.0.insert(number, live);
+    }
+
+    #[inline(never)]
+    pub fn change(&mut self, number: u64, leaves: u64, held: i64) -> bool {
+        let Some(live) = self.0.get_mut(&number) else {
+            return false;
+        };
+        live.leaves = leaves;
+        live.held = held;
+        true
+    }
+
+    #[inline(never)]
+    pub fn remove(&mut self, number: u64) -> bool {
+        self.0.remove(&number).is_some()
+    }
+}
+
+#[derive(Default)]
+pub struct Levels {
+    pub bids: BTreeMap<i64, Level>,
+    pub asks: BTreeMap<i64, Level>,
+}
+
+impl Levels {
+    pub fn half(&self, side: Side) -> &BTreeMap<i64, Level> {
+        match side {
+            Side::Buy => &self.bids,
+            Side::Sell => &self.asks,
+        }
+    }
+
+    fn half_mut(&mut self, side: Side) -> &mut BTreeMap<i64, Level> {
+        match side {
+            Side::Buy => &mut self.bids,
+            Side::Sell => &mut self.asks,
+        }
+    }
+
+    #[inline(never)]
+    pub fn level(&self, side: Side, price: i64) -> u64 {
+        self.half(side).get(&price).map_or(0, |level| level.qty)
+    }
+
+    #[inline(never)]
+    pub fn join(&mut self, side: Side, price: i64, visible: u64) {
+        let level = self.half_mut(side).entry(price).or_default();
+        level.qty += visible;
+        level.orders += 1;
+    }
+
+    #[inline(never)]
+    pub fn show(&mut self, side: Side, price: i64, before: u64, after: u64) {
+        let level = self.half_mut(side).get_mut(&price).expect("a level");
+        level.qty = level.qty - before + after;
+    }
+
+    #[inline(never)]
+    pub fn leave(&mut self, side: Side, price: i64, visible: u64) {
+        let half = self.half_mut(side);
+        let level = half.get_mut(&price).expect("a level");
+        level.qty -= visible;
+        level.orders -= 1;
+        if level.orders == 0 {
+            half.remove(&price);
+        }
+    }
+}
