@@ -39,8 +39,8 @@ use Rattle.orders.specs.Orders.{Ordered, live-row, order-of, strike}
 use Rattle.orders.specs.Orders as Orders
 use Rattle.orders.proofs.Views.{Touched, Did, put-cells, revised, bounds-from, revise-touched, retire-touched, revise-does, retire-does, live-parts}
 use Rattle.levels.specs.Levels.{size, row}
-use Rattle.sound.specs.Sound.{Stored, held-cell, Held, Levels, Tables, Sound}
-use Rattle.sound.proofs.Kept.{sided, tables-beside}
+use Rattle.sound.specs.Sound.{Stored, held-cell, Held, Levels, Clients, Tables, Sound}
+use Rattle.sound.proofs.Kept.{sided, tables-beside, clients-write}
 use Rattle.sound.proofs.Totals.{Swapped, Counts, held-swapped}
 use Rattle.live.specs.Live.{At, number-at, with-ledger, hold-word, shift, revise, retire, left}
 
@@ -98,6 +98,11 @@ tables-write a k v s d =
 pub tables-shift : (a : ℕ) (z : Side) (old new : ℕ) (s : Store) → Tables s → Tables (shift a z old new s)
 unfolding shift
 tables-shift a z old new s = tables-write a (held-cell z) _ s
+
+pub clients-shift : (a : ℕ) (z : Side) (old new : ℕ) (s : Store) → Clients s → Clients (shift a z old new s)
+unfolding shift
+clients-shift a Buy old new s = clients-write a C.account-cash-held _ s (λ r. refl)
+clients-shift a Sell old new s = clients-write a C.account-position-held _ s (λ r. refl)
 
 -- ---- the cells that follow a live order
 
@@ -163,4 +168,3 @@ held-one o = rw (eq-eqb (o .account) (o .account) refl, itself (o .side)) (+ℤ-
 
 pub open-one : (o : Order) → open-of (o .account) (o ∷ []) ≡ 1
 open-one o = rw (eq-eqb (o .account) (o .account) refl) refl
-

@@ -85,7 +85,7 @@ module _ {xs : List ℕ} (st : State xs) {i : ℕ} {o : Live} (a : At i o (cell 
   left-becomes {ys} c p v f e h =
       split
       (λ b. Is ys (cond b (retire i (live-row (s C.orders i)) s) (revise i (live-row (s C.orders i)) c p v s)) →
-          Becomes ys (with-ledger (λ l. with-orders (cond b (remove n (l .orders)) (update number-of n (λ x. with-leaves v (f x)) (l .orders))) l) (gateway s)))
+      Becomes ys (with-ledger (λ l. with-orders (cond b (remove n (l .orders)) (update number-of n (λ x. with-leaves v (f x)) (l .orders))) l) (gateway s)))
       (eqb v 0)
       (λ _ k. becomes k (retire-sound s d i (a .inside) (a .live)) (retire-view s d i (a .inside) (a .live)))
       (λ _ k. becomes k (revise-sound s d i (a .inside) (a .live) c p v) (revise-view s d i (a .inside) (a .live) c p v (λ x. with-leaves v (f x)) e))
@@ -147,9 +147,11 @@ place-becomes {xs} st n o c h = becomes h (place-sound (cell xs) (st .sound) n o
 pub place-room : {xs ys : List ℕ} (st : State xs) (n : ℕ) (o : Live) → CanPlace n o (cell xs) → Is ys (make-room (cell xs)) →
     Holds ys × (word (cell ys) C.order-rows < order-room) × (word (cell ys) C.live-orders < order-room)
 place-room {xs} {ys} st n o c h =
-    let at : (k : ℕ) → k < 32 → word (cell ys) k ≡ word (make-room (cell xs)) k = λ k l. h .same C.header 0 k (header-cell k l) in
-    (h .holds, rw (at C.order-rows (omega arith)) (room (cell xs) (st .sound) n o c),
-     omega (arith, at C.live-orders (omega arith), word-kept (cell xs) (st .sound) n o c C.live-orders (λ e. omega arith), c .room))
+    let at : (k : ℕ) → k < 32 → word (cell ys) k ≡ word (make-room (cell xs)) k = λ k l. h .same C.header 0 k (header-cell k l) in (
+      h .holds,
+      rw (at C.order-rows (omega arith)) (room (cell xs) (st .sound) n o c),
+      omega (arith, at C.live-orders (omega arith), word-kept (cell xs) (st .sound) n o c C.live-orders (λ e. omega arith), c .room),
+    )
 
 pub open-small : {xs : List ℕ} → State xs → (a : ℕ) → a < owner-slots → cell xs C.accounts a C.account-open-orders ≤ most-orders
 open-small {xs} st a l =

@@ -21,11 +21,11 @@ use Rattle.gateway.proofs.Base.{split}
 use Rattle.store.specs.Cells as C
 use Rattle.store.specs.Layout.{cell, Holds, Set}
 use Rattle.store.specs.View.{Store, Same, Is, write, fill, word, flag, side, maybe-price}
-use Rattle.store.proofs.Places.{header-cell, account-cell}
-use Rattle.store.proofs.Rows.{same-write, same-fill, then-set, is-itself}
+use Rattle.store.proofs.Places.{account-cell}
+use Rattle.store.proofs.Rows.{same-write, then-set, is-itself}
 use Rattle.orders.specs.declared.Live.{Live}
-use Rattle.orders.specs.Orders.{hint-slots}
 use Rattle.orders.specs.Orders as Orders
+use Rattle.orders.proofs.Laws.{then-append}
 use Rattle.sound.specs.Sound.{held-cell}
 use Rattle.live.specs.Live.{hold-word, shift, revise, retire, left, holding, place, funds, settle, pay}
 
@@ -102,23 +102,16 @@ pub pay-some : (xs : List ℕ) {ys : List ℕ} (a : ℕ) (z : Side) (p q n : ℕ
 unfolding pay
 pay-some xs a z p q n e f h = rw (ne-eqb (cell xs C.accounts a C.account-funded) 0 (λ g. f (e ∙ g))) h
 
-same-append : (n : ℕ) (o : Live) (s t : Store) → Same s t → Same (Orders.append n o s) (Orders.append n o t)
-unfolding Orders.append
-same-append n o s t p =
-    let i : word s C.order-rows ≡ word t C.order-rows = p C.header 0 C.order-rows (header-cell C.order-rows (omega arith)) in
-    let k : word s C.live-orders ≡ word t C.live-orders = p C.header 0 C.live-orders (header-cell C.live-orders (omega arith)) in
-    rw (i, k) (same-write _ _ C.hints (n % hint-slots) C.hint-row _ (same-fill _ _ C.header 0 C.order-rows _ (same-fill s t C.orders (word t C.order-rows) C.order-number _ p)))
-
 pub place-is : (xs : List ℕ) {ys zs us vs : List ℕ} (n : ℕ) (o : Live) (h c : ℕ) (w : Side) → o .account < owner-slots → h ≡ hold-word (o .side) (o .priced) (o .price) (o .leaves) →
     c ≡ cell xs C.accounts (o .account) C.account-open-orders → w ≡ side (o .side) → Is ys (Orders.make-room (cell xs)) →
     Is zs (Orders.append n (record { account = o .account; «client_ref» = o .«client_ref»; side = o .side; priced = o .priced; price = o .price; leaves = o .leaves; hold = h }) (cell ys)) →
     Set zs us C.accounts (o .account) C.account-open-orders (c + 1) → Is vs (shift (o .account) w 0 h (cell us)) → Is vs (place n o (cell xs))
 unfolding place
-place-is xs {ys} n o h c w l e f g p q r t =
+place-is xs n o h c w l e f g p q r t =
     let o′ : Live = record { account = o .account; «client_ref» = o .«client_ref»; side = o .side; priced = o .priced; price = o .price; leaves = o .leaves; hold = h } in
     rw (← e, ← f, ← g)
     (then-shift (o .account) w 0 h l
-    (then-set (record { holds = q .holds; same = λ d j k b. q .same d j k b ∙ same-append n o′ (cell ys) (Orders.make-room (cell xs)) (p .same) d j k b })
+    (then-set (then-append n o′ p q)
     (account-cell (o .account) C.account-open-orders l (omega arith)) r) t)
 
 pub ruleset laws = (side-buy, side-sell, hold-of-is, shift-is, revise-is, retire-is, left-done, left-open, settle-is, pay-none, pay-some, arith)

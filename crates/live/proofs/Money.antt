@@ -22,7 +22,7 @@ use Rattle.store.specs.View.{Row, Store, write, flag, wallet, ledger, gateway, 
 use Rattle.store.proofs.Listed.{listed-set, listed-at}
 use Rattle.store.proofs.Rows.{put-cell, row-here, row-there, row-unread}
 use Rattle.sound.specs.Sound.{Sound}
-use Rattle.sound.proofs.Kept.{caches, held-kept}
+use Rattle.sound.proofs.Kept.{held-kept, clients-write}
 use Rattle.live.specs.Live.{with-ledger, funds, settle, pay}
 use Rattle.live.proofs.Accounts.{with-clients, wallets-view, tables-write}
 
@@ -97,6 +97,7 @@ module _ (a : ℕ) (z : Side) (p q : ℕ) (s : Store) (l : a < owner-slots) wher
       (λ e.
       record {
         tables = tables-write _ _ _ cash-set (tables-write _ _ _ s (d .tables));
+        clients = clients-write _ C.account-position _ cash-set (λ r. refl) (clients-write _ C.account-cash _ s (λ r. refl) (d .clients));
         held =
             held-kept (record { rows-are = refl; live-are = refl; resting-are = refl; cells = λ j k l m. refl })
             (λ b m. row-unread C.accounts a C.account-position _ cash-set cached (λ r. refl) b ∙ row-unread C.accounts a C.account-cash _ s cached (λ r. refl) b) (d .held);

@@ -11,20 +11,20 @@ use Rattle.words.specs.Words.{int, wrap}
 use Rattle.words.proofs.Int.{int-zero}
 use Rattle.table.proofs.Live.{same?}
 use Rattle.gateway.specs.Limits.{owner-slots, most-orders}
-use Rattle.gateway.specs.Ledger.{with-orders}
+use Rattle.gateway.specs.Rest.{account-of}
 use Rattle.store.specs.Cells as C
-use Rattle.store.specs.View.{Row, Store, word, write, fill, side, ledger, depth, gateway, order-room}
+use Rattle.store.specs.View.{Row, Store, word, write, fill, side, session, ledger, depth, gateway, order-room}
 use Rattle.orders.specs.declared.Live.{Live}
 use Rattle.orders.specs.Orders.{Ordered, order-of}
 use Rattle.orders.specs.Orders as Orders
 use Rattle.orders.proofs.Views.{Touched, Did, new-row, append-touched, append-does}
 use Rattle.orders.proofs.Room.{make-room-does, make-room-room, make-room-each, make-room-other}
 use Rattle.levels.specs.Levels.{block, size, row}
-use Rattle.sound.specs.Sound.{Stored, held-cell, Tables, Sound}
-use Rattle.sound.proofs.Kept.{sided, levels-kept}
+use Rattle.sound.specs.Sound.{Stored, held-cell, Clients, Tables, Sound}
+use Rattle.sound.proofs.Kept.{levels-kept, clients-kept, clients-write}
 use Rattle.sound.proofs.Totals.{Swapped, Counts, held-swapped}
 use Rattle.live.specs.Live.{CanPlace, with-ledger, holding, placing, shift, place}
-use Rattle.live.proofs.Accounts.{shift-view, open-view, tables-write, tables-shift, shift-counts, open-counts, hold-is, held-one, open-one}
+use Rattle.live.proofs.Accounts.{shift-view, open-view, tables-write, tables-shift, clients-shift, shift-counts, open-counts, hold-is, held-one, open-one}
 
 module _ (s : Store) (d : Sound s) (n : ℕ) (o : Live) (can : CanPlace n o s) where
   abbrev roomy : Store
@@ -126,7 +126,7 @@ module _ (s : Store) (d : Sound s) (n : ℕ) (o : Live) (can : CanPlace n o s) w
       let a = o .account in
       let v = s C.accounts a C.account-open-orders in
       let e = open-counts a (v + 1) grown (place n o s) (side (o .side)) (int 0) (int (holding o .hold)) 0 1 (omega (arith, account-kept a C.account-open-orders))
-          (shift-counts a 0 (holding o .hold) 0 (write C.accounts a C.account-open-orders (v + 1) grown) (side (o .side))) in
+      (shift-counts a 0 (holding o .hold) 0 (write C.accounts a C.account-open-orders (v + 1) grown) (side (o .side))) in
       record {
         others = λ b ne. e .others b ne ∙ (λ i. (account-kept b C.account-cash-held i, account-kept b C.account-position-held i, account-kept b C.account-open-orders i));
         opposite = λ z ne. e .opposite z ne ∙ account-kept a (held-cell z);
@@ -141,11 +141,30 @@ module _ (s : Store) (d : Sound s) (n : ℕ) (o : Live) (can : CanPlace n o s) w
   unfolding place
   tables-placed = tables-shift _ _ _ _ _ (tables-write _ _ _ grown tables-grown)
 
+  -- accounts, sessions and the batch stay where they are
+  clients-grown : Clients grown
+  unfolding Orders.append fill
+  clients-grown =
+      clients-kept
+      (λ i l. ap (λ (r : Row). account-of (session r)) (λ z k. elsewhere C.sessions i k (λ e. omega arith) (λ e. omega arith) (λ e. omega arith) z))
+      (λ a l z. (account-kept a C.account-session z, account-kept a C.account-max-open z, account-kept a C.account-rate z))
+      (word-kept C.waiting (λ e. omega arith))
+      (λ j l. elsewhere C.batch j C.command-owner (λ e. omega arith) (λ e. omega arith) (λ e. omega arith))
+      (d .clients)
+    where
+      elsewhere : (b i k : ℕ) → (b ≡ C.orders → ⊥) → (b ≡ C.hints → ⊥) → (b ≡ C.header → ⊥) → roomy b i k ≡ s b i k
+      elsewhere b i k x y z = make-room-other s (d .tables .ordered) b i k x y (λ e f. z e)
+
+  clients-placed : Clients (place n o s)
+  unfolding place
+  clients-placed = clients-shift _ _ _ _ _ (clients-write _ C.account-open-orders _ grown (λ r. refl) clients-grown)
+
   pub place-sound : Sound (place n o s)
   unfolding place shift
   place-sound =
       record {
         tables = tables-placed;
+        clients = clients-placed;
         held =
             held-swapped place-swapped place-counts (d .held) int-zero (hold-is (o .side) (o .priced) (o .price) (o .leaves) ∙ sym (held-one (order-of n o))) refl (sym (open-one (order-of n o)))
             (each-row (λ r. 0 < r C.order-live → Stored r) (d .held .rows) (λ _. new-stored));

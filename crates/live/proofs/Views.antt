@@ -39,12 +39,11 @@ use Rattle.orders.specs.Orders.{Ordered, live-row, order-of, strike}
 use Rattle.orders.specs.Orders as Orders
 use Rattle.orders.proofs.Views.{Touched, Did, put-cells, revised, bounds-from, revise-touched, retire-touched, revise-does, retire-does, live-parts}
 use Rattle.levels.specs.Levels.{size, row}
-use Rattle.sound.specs.Sound.{Stored, held-cell, Held, Levels, Tables, Sound}
-use Rattle.sound.proofs.Kept.{sided, levels-kept}
+use Rattle.sound.specs.Sound.{Stored, held-cell, Held, Levels, Clients, Tables, Sound}
+use Rattle.sound.proofs.Kept.{sided, levels-kept, clients-kept, clients-write}
 use Rattle.sound.proofs.Totals.{Swapped, Counts, open-parts, held-swapped}
 use Rattle.live.specs.Live.{At, number-at, with-ledger, hold-word, shift, revise, retire, left}
-
-use Rattle.live.proofs.Accounts.{shift-view, open-view, tables-write, tables-shift, shift-counts, open-counts, hold-is, held-one, open-one}
+use Rattle.live.proofs.Accounts.{shift-view, open-view, tables-write, tables-shift, clients-shift, shift-counts, open-counts, hold-is, held-one, open-one}
 
 -- ---- the order in the row i
 
@@ -154,11 +153,16 @@ module _ (s : Store) (d : Sound s) (i : ℕ) (l : i < word s C.order-rows) (m : 
         tables-shift _ _ _ _ u
         (tables-row i now-row touched (d .tables) (g .ordered) refl refl (omega arith) refl (ap (λ x. x .rest .depth .resting) (g .view)) (λ z. refl) (sided (λ z. (j : ℕ) → row z u j ≡ row z s j) (λ j. refl) (λ j. refl)))
 
+    clients-revised : Clients t
+    unfolding revise fill
+    clients-revised = clients-shift _ _ _ _ u (clients-kept (λ j l. refl) (λ a l. refl) refl (λ j l. refl) (d .clients))
+
     pub revise-sound : Sound t
     unfolding revise shift fill
     revise-sound =
         record {
           tables = tables-revised;
+          clients = clients-revised;
           held =
               held-swapped swapped counts (d .held) hold-one (now-stored .hold-is ∙ sym (held-one (order now-row))) (sym (open-one (order was))) (sym (open-one (order now-row)))
               (rows-kept now-row touched refl (λ _. now-stored));
@@ -196,7 +200,7 @@ module _ (s : Store) (d : Sound s) (i : ℕ) (l : i < word s C.order-rows) (m : 
       let a = was C.order-account in
       let n = s C.accounts a C.account-open-orders in
       let e = open-counts a (n - 1) struck ended (side (was C.order-side)) (int (was C.order-hold)) (int 0) 1 0 (omega (arith, open-some))
-          (shift-counts a (was C.order-hold) 0 0 (write C.accounts a C.account-open-orders (n - 1) struck) (side (was C.order-side))) in
+      (shift-counts a (was C.order-hold) 0 0 (write C.accounts a C.account-open-orders (n - 1) struck) (side (was C.order-side))) in
       record { others = e .others; opposite = e .opposite; total = e .total; count = e .count }
 
   pub retire-view : gateway ended ≡ with-ledger (with-orders (remove (was C.order-number) (ledger s .orders))) (gateway s)
@@ -211,11 +215,17 @@ module _ (s : Store) (d : Sound s) (i : ℕ) (l : i < word s C.order-rows) (m : 
       (tables-write _ _ _ struck
       (tables-row i ended-row (retire-touched s i (d .tables .ordered) l) (d .tables) (g .ordered) refl refl (omega arith) refl (ap (λ x. x .rest .depth .resting) (g .view)) (sided (λ z. size z struck ≡ size z s) refl refl) (sided (λ z. (j : ℕ) → row z struck j ≡ row z s j) (λ j. refl) (λ j. refl))))
 
+  clients-retired : Clients ended
+  unfolding retire strike
+  clients-retired =
+      clients-shift _ _ _ _ _ (clients-write _ C.account-open-orders _ struck (λ r. refl) (clients-kept (λ j l. refl) (λ a l. refl) refl (λ j l. refl) (d .clients)))
+
   pub retire-sound : Sound ended
   unfolding retire shift strike
   retire-sound =
       record {
         tables = tables-retired;
+        clients = clients-retired;
         held =
             held-swapped retire-swapped retire-counts (d .held) hold-one int-zero (sym (open-one (order was))) refl
             (rows-kept ended-row (retire-touched s i (d .tables .ordered) l) refl (λ n. absurd (omega arith)));

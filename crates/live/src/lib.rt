@@ -45,7 +45,13 @@ fn shift(m: &mut [u8], account: usize, side: Side, old: u64, new: u64)
 {
     let k = held_cell(side);
     let total = store::get(m, store::ACCOUNTS, account, k);
-    store::set(m, store::ACCOUNTS, account, k, words::shifted(total, old, new));
+    store::set(
+        m,
+        store::ACCOUNTS,
+        account,
+        k,
+        words::shifted(total, old, new),
+    );
 }
 
 // The order has this price and this much open, and holds accordingly.
@@ -118,7 +124,13 @@ fn settle(m: &mut [u8], account: usize, side: Side, price: u64, qty: u64)
     };
     let after = before.settle(side, price, qty);
     store::set(m, store::ACCOUNTS, account, cells::ACCOUNT_CASH, after.cash);
-    store::set(m, store::ACCOUNTS, account, cells::ACCOUNT_POSITION, after.position);
+    store::set(
+        m,
+        store::ACCOUNTS,
+        account,
+        cells::ACCOUNT_POSITION,
+        after.position,
+    );
 }
 
 // The account pays or is paid, where it has a wallet.

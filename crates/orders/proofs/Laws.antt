@@ -23,7 +23,7 @@ use Rattle.store.specs.Cells as C
 use Rattle.store.specs.Layout.{cell, start, spot, Cell, Holds, Set}
 use Rattle.store.specs.View.{Row, Store, Same, word, write, fill, order, resting, order-room, Is, Ready}
 use Rattle.store.proofs.Places.{header-cell, order-cell, hint-cell, cell-block}
-use Rattle.store.proofs.Rows.{then-set, then-fill, is-itself, same-write, same-trans}
+use Rattle.store.proofs.Rows.{then-set, then-fill, is-itself, same-write, same-fill, same-trans}
 use Rattle.orders.specs.declared.Live.{Live}
 use Rattle.orders.specs.declared.Resting.{Resting}
 use Rattle.orders.proofs.Shown.{look-map}
@@ -82,21 +82,15 @@ append-is xs n i c o ie ce p q r =
     rw (← ie, ← ce) (then-set (then-fill C.header 0 C.order-rows ((i + 1) ∷ (c + 1) ∷ []) p q) (hint-cell (n % hint-slots) C.hint-row (omega arith) (omega arith)) r)
 
 -- what is appended after writes that left s
-pub then-append : {ys zs : List ℕ} {s : Store} (n : ℕ) (o : Live) → Is ys s → Is zs (append n o (cell ys)) → Is zs (append n o s)
+same-append : (n : ℕ) (o : Live) (s t : Store) → Same s t → Same (append n o s) (append n o t)
 unfolding append
+same-append n o s t p =
+    rw (p C.header 0 C.order-rows (header-cell C.order-rows (omega arith)), p C.header 0 C.live-orders (header-cell C.live-orders (omega arith)))
+    (same-write _ _ C.hints (n % hint-slots) C.hint-row _ (same-fill _ _ C.header 0 C.order-rows _ (same-fill s t C.orders (word t C.order-rows) C.order-number _ p)))
+
+pub then-append : {ys zs : List ℕ} {s : Store} (n : ℕ) (o : Live) → Is ys s → Is zs (append n o (cell ys)) → Is zs (append n o s)
 then-append {ys} {zs} {s} n o p q =
-    let vs = n ∷ 1 ∷ 0 ∷ 1 ∷ o .account ∷ o .«client_ref» ∷ o .side ∷ o .priced ∷ o .price ∷ o .leaves ∷ o .hold ∷ [] in
-    let i = word (cell ys) C.order-rows in
-    let ws = (i + 1) ∷ (word (cell ys) C.live-orders + 1) ∷ [] in
-    rw (← p .same C.header 0 C.order-rows (header-cell C.order-rows (omega arith)), ← p .same C.header 0 C.live-orders (header-cell C.live-orders (omega arith)))
-    (record {
-      holds = q .holds;
-      same =
-          same-trans (cell zs) (append n o (cell ys)) _ (q .same)
-          (same-write (fill C.header 0 C.order-rows ws (fill C.orders i C.order-number vs (cell ys))) (fill C.header 0 C.order-rows ws (fill C.orders i C.order-number vs s))
-          C.hints (n % hint-slots) C.hint-row i
-          (same-fill (fill C.orders i C.order-number vs (cell ys)) (fill C.orders i C.order-number vs s) C.header 0 C.order-rows ws (same-fill (cell ys) s C.orders i C.order-number vs (p .same))));
-    })
+    record { holds = q .holds; same = same-trans (cell zs) (append n o (cell ys)) _ (q .same) (same-append n o (cell ys) s (p .same)) }
 
 -- ---- what is found
 

@@ -1,4 +1,4 @@
-use Rattle.live.proofs.Notices.{nothing-noticed, no-wallet, push-needs, push-becomes}
+use Rattle.live.proofs.Notices.{none-becomes, push-needs, push-becomes}
 use borrow.Author.Needs.{needs}
 use Rattle.live.proofs.notice.Statement.{statement}
 use Rattle.live.proofs.notice.Tie as tie
@@ -12,7 +12,7 @@ same-length c = search needs
 returns : tie.Need-returns
 returns c =
     let p = c .before .before .before .before .pre in
-    nothing-noticed (p .0) _ (no-wallet _ _ _ (c .before .get .ensures) (c .if1 .taken))
+    none-becomes (p .0) _ _ (c .before .get .ensures) (c .if1 .taken)
 
 push-notice-requires : tie.Need-push-notice-requires
 push-notice-requires c κs =
