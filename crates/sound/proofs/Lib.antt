@@ -1,3 +1,4 @@
 pub mod Kept
 pub mod Totals
 pub mod Waiting
+pub mod Clients
