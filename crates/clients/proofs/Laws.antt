@@ -14,11 +14,15 @@ use Rattle.accounts.specs.declared.Account.{Account}
 use Rattle.accounts.specs.declared.Funds.{Funds}
 use Rattle.accounts.specs.declared.MaybeFunds as F
 use Rattle.table.proofs.Live.{same?}
-use Rattle.words.specs.Words.{int}
+use lib.IntN.{ℤ}
+use Rattle.words.specs.Words.{int, fit}
 use Rattle.words.proofs.Int.{of-int}
+use Rattle.words.proofs.Wrap.{fit-int}
 use Rattle.risk.specs.declared.Bucket.{Bucket}
 use Rattle.risk.specs.Throttle as Throttle
 use Rattle.gateway.specs.Basics.{is-some}
+use Rattle.gateway.specs.Fits.{Signed, FundsFit, MaybeFundsFit}
+use Rattle.gateway.specs.Ledger.{fits}
 use Rattle.gateway.specs.Limits.{owner-slots, session-slots}
 use Rattle.gateway.specs.Rest as Rest
 use Rattle.gateway.specs.Rest.{is-open, is-present, is-subscribed, account-of, session-at}
@@ -152,17 +156,27 @@ pub set-cell-is : {xs ys : List ℕ} (b i k v : ℕ) → Holds xs → Cell b i k
 set-cell-is b i k v h c p = then-set (is-itself h) c p
 
 -- the words of an i64
+word-fits : (w : ℕ) (z : ℤ) → w < 2 ^ 64 → int w ≡ z → Signed z
+unfolding fits
+word-fits w z h e = ap (λ x. is-some (fit x)) (sym e) ∙ ap is-some (fit-int w h)
+
 pub fund-is : {zs : List ℕ} (s : Store) (i c p : ℕ) (f : Funds) → c < 2 ^ 64 → p < 2 ^ 64 → int c ≡ f .cash → int p ≡ f .position →
-    Is zs (P.fund i c p s) → Is zs (P.fund i (P.word-of (f .cash)) (P.word-of (f .position)) s)
-fund-is s i c p f h k e g q = rw (← e, ← g, of-int c h, of-int p k) q
+    Is zs (P.fund i c p s) → Is zs (P.fund i (P.word-of (f .cash)) (P.word-of (f .position)) s) × FundsFit f
+fund-is s i c p f h k e g q = (rw (← e, ← g, of-int c h, of-int p k) q, (word-fits c (f .cash) h e, word-fits p (f .position) k g))
 
 pub no-funds-is : {xs zs : List ℕ} (i : ℕ) (f : F.MaybeFunds) → Holds xs → i < owner-slots → f ≡ F.the-variants.None →
     Set xs zs C.accounts i C.account-funded 0 → Is zs (P.set-funds i f (cell xs))
 no-funds-is i f h l e p = rw e (sets-is C.accounts i ((C.account-funded, 0) ∷ []) h (omega arith) l refl (then-sets p no-sets))
 
+pub no-funds-fit : (f : F.MaybeFunds) → f ≡ F.the-variants.None → MaybeFundsFit f
+no-funds-fit f e = rw e tt
+
 pub some-funds-is : {zs : List ℕ} (xs : List ℕ) (i : ℕ) (f : F.MaybeFunds) (x : Funds) → f ≡ F.the-variants.Some x →
     Is zs (P.fund i (P.word-of (x .cash)) (P.word-of (x .position)) (cell xs)) → Is zs (P.set-funds i f (cell xs))
 some-funds-is xs i f x e p = rw e p
+
+pub some-funds-fit : (f : F.MaybeFunds) (x : Funds) → f ≡ F.the-variants.Some x → FundsFit x → MaybeFundsFit f
+some-funds-fit f x e p = rw e p
 
 pub add-account-is : (xs : List ℕ) {a b zs : List ℕ} (x : Account) (y : Bucket) → y ≡ Throttle.full (x .«messages_per_second») →
     Is a (P.set-limits (x .id) x (cell xs)) → Is b (P.set-funds (x .id) (x .funds) (cell a)) → Is zs (P.set-bucket (x .id) y (cell b)) → Is zs (P.add-account x (cell xs))

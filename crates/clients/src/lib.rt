@@ -11,6 +11,7 @@ ghost use mathlib.Core.Path.{_≡_};
 ghost use Prim.Native.Nat.{_<_, _≤_};
 ghost use Rattle.words.specs.Words.{int};
 ghost use Rattle.gateway.specs.Basics.{is-some};
+ghost use Rattle.gateway.specs.Fits.{FundsFit, MaybeFundsFit, AccountFits};
 ghost use Rattle.gateway.specs.Limits.{owner-slots, session-slots};
 ghost use Rattle.gateway.specs.Rest.{session-at, account-of, is-open, is-present, is-subscribed};
 ghost use Rattle.store.specs.Cells as C;
@@ -227,7 +228,7 @@ fn write_funds(m: &mut [u8], i: usize, cash: u64, position: u64)
 
 fn fund(m: &mut [u8], i: usize, f: Funds)
     requires { ⌜ Holds (now m) × (i < owner-slots) ⌝ }
-    ensures { λ r. ⌜ Is (now (m .exit)) (P.fund i (P.word-of (f .cash)) (P.word-of (f .position)) (cell (now (m .entry)))) ⌝ }
+    ensures { λ r. ⌜ Is (now (m .exit)) (P.fund i (P.word-of (f .cash)) (P.word-of (f .position)) (cell (now (m .entry)))) × FundsFit f ⌝ }
 {
     let cash = words::of_i64(f.cash);
     let position = words::of_i64(f.position);
@@ -236,7 +237,7 @@ fn fund(m: &mut [u8], i: usize, f: Funds)
 
 fn set_funds(m: &mut [u8], i: usize, f: MaybeFunds)
     requires { ⌜ Holds (now m) × (i < owner-slots) ⌝ }
-    ensures { λ r. ⌜ Is (now (m .exit)) (P.set-funds i f (cell (now (m .entry)))) ⌝ }
+    ensures { λ r. ⌜ Is (now (m .exit)) (P.set-funds i f (cell (now (m .entry)))) × MaybeFundsFit f ⌝ }
 {
     match f {
         MaybeFunds::None => {
@@ -248,10 +249,10 @@ fn set_funds(m: &mut [u8], i: usize, f: MaybeFunds)
     }
 }
 
-// The row of a new account. It has no live orders and no session, so those cells are 0 already.
+// The row of a new account. It has no live orders and no session, so those cells are 0 already. That its funds fit comes of their type.
 pub fn add_account(m: &mut [u8], a: Account)
     requires { ⌜ Holds (now m) × (a .id < owner-slots) ⌝ }
-    ensures { λ r. ⌜ Is (now (m .exit)) (P.add-account a (cell (now (m .entry)))) ⌝ }
+    ensures { λ r. ⌜ Is (now (m .exit)) (P.add-account a (cell (now (m .entry)))) × AccountFits a ⌝ }
 {
     let i = a.id as usize;
     let funds = a.funds;

@@ -61,7 +61,7 @@ entered-length : (t : List (Option Account)) (l : List Account) → length (ente
 entered-length t [] = refl
 entered-length t (a ∷ l) = entered-length (set t (a .id) (some a)) l ∙ length-set t (a .id) (some a)
 
-accounts-length : (limit : ℕ) (l : List Account) → length (accounts-of limit l) ≡ limit
+pub accounts-length : (limit : ℕ) (l : List Account) → length (accounts-of limit l) ≡ limit
 accounts-length limit l = entered-length (replicate limit none) l ∙ length-replicate limit none
 
 abbrev SlotFits : Option Account → Type 0

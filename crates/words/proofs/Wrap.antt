@@ -1,7 +1,7 @@
 -- Numbers modulo 2^64: the word of a number, and what changes with it. Assumes nothing.
 use mathlib.Core.Path.{_≡_, refl, sym, ap, _∙_}
 use mathlib.Core.Bool.{Bool, true, false}
-use mathlib.Core.Option.{none, Option·getD}
+use mathlib.Core.Option.{none, some, Option·getD}
 use Prim.Native.Nat.{ℕ, _+_, _-_, _*_, _/_, _%_, _^_, _≤_, _<_}
 use native.Mathlib.Omega.{arith}
 use lib.Dec.{ltb}
@@ -123,3 +123,10 @@ clamp-wraps z = let (p, q, e) = diff-of z in rw e (by-place (λ x. int (wrap (ne
 
 pub fit-wraps : (z d : ℤ) → int (wrap d) ≡ d → int (wrap (Option·getD (fit z) d)) ≡ Option·getD (fit z) d
 fit-wraps z d k = let (p, q, e) = diff-of z in rw e (by-place (λ x. int (wrap (Option·getD (fit-in x) d)) ≡ Option·getD (fit-in x) d) p q (λ f. f) k k)
+
+-- a word's number fits
+pub fit-int : (w : ℕ) → w < 2 ^ 64 → fit (int w) ≡ some (int w)
+fit-int w f =
+    by-order w half
+    (λ l. sym (ap fit-in (lies-in w w 0 (low-is w w 0 l (omega arith)) (low-is w w 0 l (omega arith)) (omega arith) (omega arith))))
+    (λ l. sym (ap fit-in (lies-in w w (2 ^ 64) (high w f l) (high w f l) (omega arith) (omega arith))))

@@ -28,7 +28,7 @@ returns c =
     let b = f .before .before .before .before in
     let a = b .before .before .before .before in
     let s = a .before .before .before .before in
-    add-account-is (s .args .m .now) (s .args .a) _ (f .full .ensures) (a .set-limits .ensures) (b .set-funds .ensures) (d .set-bucket .ensures)
+    (add-account-is (s .args .m .now) (s .args .a) _ (f .full .ensures) (a .set-limits .ensures) (b .set-funds .ensures .0) (d .set-bucket .ensures), b .set-funds .ensures .1)
 
 pub add-account-spec : {M : Type 1} → statement M
 add-account-spec =

@@ -1,4 +1,4 @@
-use Rattle.clients.proofs.Laws.{no-funds-is, some-funds-is}
+use Rattle.clients.proofs.Laws.{no-funds-is, no-funds-fit, some-funds-is, some-funds-fit}
 use native.Mathlib.Omega.{arith}
 use borrow.Author.Needs.{needs}
 use Rattle.clients.proofs.set_funds.Statement.{statement}
@@ -20,13 +20,13 @@ same-length : tie.Need-same-length
 same-length c = search needs
 
 returns : tie.Need-returns
-returns c = search (no-funds-is, arith)
+returns c = (search (no-funds-is, arith), search (no-funds-fit, arith))
 
 same-length-2 : tie.Need-same-length-2
 same-length-2 c = search needs
 
 returns-2 : tie.Need-returns-2
-returns-2 c = search (some-funds-is, arith)
+returns-2 c = (search (some-funds-is, arith), search (some-funds-fit, arith))
 
 pub set-funds-spec : {M : Type 1} → statement M
 set-funds-spec =

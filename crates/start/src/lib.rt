@@ -1,0 +1,35 @@
+// The start without orders: the last number, the owner limit and the timing; then the accounts, one by one.
+use accounts::Account;
+use accounts::Timing;
+use store::cells;
+ghost use mathlib.Core.List.{[]};
+ghost use Prim.Native.Nat.{_≤_, _<_};
+ghost use Rattle.gateway.specs.Limits.{owner-slots};
+ghost use Rattle.store.specs.Cells as C;
+ghost use Rattle.store.specs.Layout.{cell, Holds};
+ghost use Rattle.store.specs.View.{word, gateway};
+ghost use Rattle.sound.specs.Sound.{State, Becomes};
+ghost use Rattle.start.specs.Start as P;
+
+pub fn start(m: &mut [u8], limit: u64, last: u64, timing: Timing)
+    requires { ⌜ Holds (now m) × (limit ≤ owner-slots) ⌝ }
+    ensures { λ r. ⌜ Becomes (now (m .exit)) (P.begun limit last timing []) ⌝ }
+{
+    store::clear(m);
+    store::fill(m, store::HEADER, 0, cells::LAST, &[last, last, last]);
+    store::fill(
+        m,
+        store::HEADER,
+        0,
+        cells::OWNER_LIMIT,
+        &[limit, timing.heartbeat, timing.idle_timeout],
+    );
+}
+
+// An account is added; one that was there before is replaced.
+pub fn enter(m: &mut [u8], a: Account)
+    requires { ⌜ State (now m) × (a .id < word (cell (now m)) C.owner-limit) ⌝ }
+    ensures { λ r. ⌜ Becomes (now (m .exit)) (P.entering a (gateway (cell (now (m .entry))))) ⌝ }
+{
+    clients::add_account(m, a);
+}
