@@ -3,15 +3,15 @@ use mathlib.Core.Path.{_≡_, refl, sym, ap, ap₂, _∙_}
 use mathlib.Core.List.{List, [], _∷_, _++_, map, map-append}
 use Prim.Native.Nat.{ℕ, zero, suc, _+_, _-_, _≤_, _<_}
 use native.Mathlib.Omega.{arith}
-use lib.ListN.{length, take, drop, set, replicate, length-set}
-use lib.Seq.{drop-drop, drop-set-lt}
+use lib.ListN.{length, getD, take, drop, set, replicate, length-set, List·getD-map}
+use lib.Seq.{drop-drop, drop-set-lt, getD-take}
 use Rattle.orderbook.specs.declared.Side.{Side}
 use Rattle.orderbook.specs.declared.Side.the-variants.{Buy, Sell}
 use Rattle.table.specs.Live.{live}
 use Rattle.gateway.specs.Limits.{most-levels}
 use Rattle.gateway.specs.Depth as Depth
 use Rattle.store.specs.View.{Store, Bounds, listed}
-use Rattle.store.proofs.Listed.{listed-ext, front-more}
+use Rattle.store.proofs.Listed.{listed-length, listed-ext, front-more}
 use Rattle.levels.specs.declared.Row.{Row}
 use Rattle.levels.specs.declared.listed.Level.{Level}
 use Rattle.levels.specs.Levels.{row, size, entries, level, best}
@@ -52,6 +52,10 @@ best-nth Buy f (suc n) =
     at : (i j : ℕ) → i ≡ j → level (f i) ≡ level (f j)
     at i j e = ap (λ k. level (f k)) e
 
+pub best-length : (z : Side) (s : Store) → length (best z (entries z s)) ≡ size z s
+unfolding entries
+best-length z s = ap length (best-nth z (row z s) (size z s)) ∙ listed-length _ (size z s)
+
 -- ---- the first i of n places of l are filled
 
 pub record Filled (z : Side) (s : Store) (n i : ℕ) (l : List Level) : Type 0 where
@@ -87,6 +91,11 @@ module _ (z : Side) (s : Store) (n : ℕ) where
         levels = ap (λ k. map seen (take k l)) (sym m) ∙ ap (map seen) (f .front) ∙ listed-map seen _ i ∙ rw (m, e) (sym (best-nth z (row z s) (size z s)));
         rest = rw (← m) (f .behind);
       }
+
+-- the element i is the level i
+pub level-is : (z : Side) (s : Store) (l : List Level) → Lists z s l → (i : ℕ) → i < size z s → seen (getD l i nothing) ≡ getD (best z (entries z s)) i (seen nothing)
+level-is z s l p i h =
+    sym (List·getD-map seen (take (size z s) l) i nothing ∙ ap seen (getD-take (size z s) l i nothing h)) ∙ ap (λ ls. getD ls i (seen nothing)) (p .levels)
 
 -- ---- both sides
 

@@ -1,14 +1,13 @@
-use Rattle.orderbook.specs.declared.Side.the-variants.{Buy, Sell}
 use Rattle.store.specs.Layout.{cell}
 use Rattle.levels.proofs.Filled.{few, both-listed}
 use Rattle.levels.proofs.listed.listed.Statement.{statement}
 use Rattle.levels.proofs.listed.listed.Tie as tie
 
 best-first-requires : tie.Need-best-first-requires
-best-first-requires c κs = let s = c .before in (s .pre .holds, few Buy (s .pre .bounds))
+best-first-requires c κs = let s = c .before in (s .pre .holds, few _ (s .pre .bounds))
 
 best-first-requires-2 : tie.Need-best-first-requires-2
-best-first-requires-2 c κs = let s = c .before .before in (s .pre .holds, few Sell (s .pre .bounds))
+best-first-requires-2 c κs = let s = c .before .before in (s .pre .holds, few _ (s .pre .bounds))
 
 returns : tie.Need-returns
 returns c =
