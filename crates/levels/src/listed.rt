@@ -47,7 +47,7 @@ fn level_of(r: Row) -> Level
     }
 }
 
-// The levels of a side.
+// The levels of a side, then zeros.
 fn best_first(m: &[u8], side: Side) -> [Level; 512]
     requires { ⌜ Holds (now m) × (L.size side (cell (now m)) ≤ most-levels) ⌝ }
     ensures { λ r. ⌜ D.Lists side (cell (now (m .entry))) r ⌝ }
@@ -66,7 +66,7 @@ fn best_first(m: &[u8], side: Side) -> [Level; 512]
     row
 }
 
-// The levels of both sides. Behind the last level of a side its row has zeros.
+// The levels of both sides.
 pub fn listed(m: &[u8]) -> [[Level; 512]; 2]
     requires { ⌜ Ready (now m) ⌝ }
     ensures { λ r. ⌜ ((z : Side) → D.Lists z (cell (now (m .entry))) (D.side-of r z)) ⌝ }
@@ -76,13 +76,14 @@ pub fn listed(m: &[u8]) -> [[Level; 512]; 2]
     [bids, asks]
 }
 
-// The side chooses the row.
+// The levels of a side: the side chooses the row.
 pub fn side_of(rows: [[Level; 512]; 2], side: Side) -> [Level; 512]
     ensures { λ r. ⌜ r ≡ D.side-of rows side ⌝ }
 {
     rows[index_of(side)]
 }
 
+// The level i of a side, counted from the best.
 pub fn level_at(rows: [[Level; 512]; 2], side: Side, i: usize) -> Level
     requires { ⌜ i < most-levels ⌝ }
     ensures { λ r. ⌜ r ≡ getD (D.side-of rows side) i D.nothing ⌝ }
