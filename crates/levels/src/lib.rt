@@ -1,4 +1,6 @@
 // The price levels of a side in their block: rows ascending by price, raised by 2^63. None is dead.
+pub mod listed;
+
 use orderbook::Side;
 use store::cells;
 use table::Found;

@@ -1,0 +1,26 @@
+use mathlib.Core.Path.{refl}
+use native.Mathlib.Omega.{arith}
+use borrow.Author.Needs.{needs}
+use Rattle.levels.proofs.listed.nth.Statement.{statement}
+use Rattle.levels.proofs.listed.nth.Tie as tie
+
+enum-told : tie.Need-enum-told
+enum-told c = search needs
+
+sub-result : tie.Need-sub-result
+sub-result c = search needs
+
+sub-result-2 : tie.Need-sub-result-2
+sub-result-2 c = search needs
+
+enum-told-2 : tie.Need-enum-told-2
+enum-told-2 c = search needs
+
+returns : tie.Need-returns
+returns c = rw (c .enum-told .given .1) (refl, omega arith)
+
+returns-2 : tie.Need-returns-2
+returns-2 c = search needs
+
+pub nth-spec : {M : Type 1} → statement M
+nth-spec = tie.close (tie.spec enum-told sub-result sub-result-2 enum-told-2 returns returns-2)
