@@ -44,14 +44,9 @@ fn shift(m: &mut [u8], account: usize, side: Side, old: u64, new: u64)
     ensures { λ r. ⌜ Is (now (m .exit)) (P.shift account side old new (cell (now (m .entry)))) ⌝ }
 {
     let k = held_cell(side);
-    let total = store::get(m, store::ACCOUNTS, account, k);
-    store::set(
-        m,
-        store::ACCOUNTS,
-        account,
-        k,
-        words::shifted(total, old, new),
-    );
+    let before = store::get(m, store::ACCOUNTS, account, k);
+    let total = words::shifted(before, old, new);
+    store::set(m, store::ACCOUNTS, account, k, total);
 }
 
 // The order has this price and this much open, and holds accordingly.

@@ -133,8 +133,7 @@ module _ (s : Store) (d : Sound s) where
 
   account-session-spared : (a v : ℕ) (t : Store) (b : ℕ) → caches (write C.accounts a C.account-session v t) b ≡ caches t b
   account-session-spared a v t b =
-      λ z.
-      (
+      λ z. (
         write-cell C.accounts a C.account-session v t b C.account-cash-held (λ e. omega arith) z,
         write-cell C.accounts a C.account-session v t b C.account-position-held (λ e. omega arith) z,
         write-cell C.accounts a C.account-session v t b C.account-open-orders (λ e. omega arith) z,

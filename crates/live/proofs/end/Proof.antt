@@ -1,4 +1,4 @@
-use Rattle.live.proofs.Laws.{laws}
+use Rattle.live.proofs.Laws.{retire-is}
 use borrow.Author.Needs.{needs}
 use Rattle.live.proofs.end.Statement.{statement}
 use Rattle.live.proofs.end.Tie as tie
@@ -25,7 +25,12 @@ same-length : tie.Need-same-length
 same-length c = search needs
 
 returns : tie.Need-returns
-returns c = search (laws, needs)
+returns c =
+    let t = c .before .before in
+    let o = t .before .before .before .before .before in
+    let r = o .before .before .before .before in
+    let g = r .before .before in
+    retire-is _ _ _ _ _ (g .before .before .before .pre .2) (g .get .ensures) (t .before .side-of .ensures) (r .retire .ensures) (o .set .ensures) (t .shift .ensures)
 
 pub end-spec : {M : Type 1} → statement M
 end-spec =
