@@ -1,7 +1,7 @@
 -- What the operations write: one law for each, over the stores on the way. Assumes nothing.
 use mathlib.Core.Path.{_≡_}
 use mathlib.Core.List.{List, [], _∷_}
-use Prim.Native.Nat.{ℕ, _+_, _-_, _%_, _<_}
+use Prim.Native.Nat.{ℕ, _+_, _-_, _%_, _≤_, _<_}
 use native.Mathlib.Omega.{arith}
 use Rattle.gateway.specs.Limits.{most-in-flight}
 use Rattle.store.specs.Cells as C
@@ -33,7 +33,9 @@ module _ {xs : List ℕ} (r : Ready xs) where
   take-off-is last flying x y z e g p q s =
       rw (← e, ← g) (then-set (then-set p (header-cell C.last (omega arith)) q) (header-cell C.flying (omega arith)) s)
 
-  pub land-is : {zs : List ℕ} (last n : ℕ) → last ≡ word (cell xs) C.last → Set xs zs C.header 0 C.flying (last + 1 - n) → Is zs (P.land n (cell xs))
-  land-is last n e p = rw (← e) (then-set (is-itself (r .holds)) (header-cell C.flying (omega arith)) p)
+  pub land-is : {zs : List ℕ} (last n : ℕ) → last ≡ word (cell xs) C.last → n ≤ word (cell xs) C.last → Set xs zs C.header 0 C.flying (last - n + 1) → Is zs (P.land n (cell xs))
+  land-is {zs} last n e l p =
+      let q : last - n + 1 ≡ word (cell xs) C.last + 1 - n = omega arith in
+      then-set (is-itself (r .holds)) (header-cell C.flying (omega arith)) (rw q at p)
 
 pub ruleset laws = (push-row-is, set-word-is, published-is, take-off-is, land-is, arith)

@@ -155,13 +155,13 @@ module _ (sender owner places : ℕ) (s : Store) (few : word s C.flying < most-i
   take-off-view =
       ap (λ fs. record { core = record { ledger = numbered (gateway s) .core .ledger; flights = fs; accounts = gateway s .core .accounts }; rest = gateway s .rest }) flights-more
 
-listed-cons : {A : Type 0} (f : ℕ → A) (m : ℕ) → listed f (suc m) ≡ f 0 ∷ listed (λ j. f (suc j)) m
+pub listed-cons : {A : Type 0} (f : ℕ → A) (m : ℕ) → listed f (suc m) ≡ f 0 ∷ listed (λ j. f (suc j)) m
 unfolding listed
 listed-cons f zero = refl
 listed-cons f (suc m) = ap (λ l. l ++ (f (suc m) ∷ [])) (listed-cons f m)
 
 -- of a run of numbers that starts at k, what is below k + d goes
-drop-run : (g : ℕ → Flight) → ((x : ℕ) → g x .number ≡ x) → (d k m : ℕ) → drop-below (k + d) (listed (λ j. g (k + j)) (d + m)) ≡ listed (λ j. g (k + d + j)) m
+pub drop-run : (g : ℕ → Flight) → ((x : ℕ) → g x .number ≡ x) → (d k m : ℕ) → drop-below (k + d) (listed (λ j. g (k + j)) (d + m)) ≡ listed (λ j. g (k + d + j)) m
 unfolding listed
 drop-run g h zero k zero = refl
 drop-run g h zero k (suc m) =

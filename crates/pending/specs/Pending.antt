@@ -13,11 +13,13 @@ use Rattle.orderbook.specs.declared.Command.the-variants.{Limit, Market, Cancel
 use Rattle.protocol.specs.Codes.{sideCode, tifCode}
 use Rattle.words.specs.Words.{int}
 use Rattle.gateway.specs.Bytes.{price-flag, price-word}
+use Rattle.gateway.specs.Core.{Flight}
 use Rattle.gateway.specs.Depth.{Key, is-changed}
 use Rattle.gateway.specs.Ledger.{owner-of}
 use Rattle.gateway.specs.Limits.{most-in-flight}
 use Rattle.store.specs.Cells as C
-use Rattle.store.specs.View.{Row, Store, word, write, fill, flag, side, depth}
+use Rattle.store.specs.View.{Row, Store, word, write, fill, flag, optional, side, depth}
+use Rattle.pending.specs.declared.Flight as F
 
 -- a row behind the others of a block; the word k has how many there are
 abbrev pub push-row : ℕ → ℕ → List ℕ → Store → Store
@@ -46,6 +48,10 @@ take-off sender owner places s =
 -- an event of number n: the commands below n have had theirs
 abbrev pub land : ℕ → Store → Store
 land n s = write C.header 0 C.flying (word s C.last + 1 - n) s
+
+-- the command n in flight, by the words of its row
+abbrev pub in-flight-as : ℕ → F.Flight → Flight
+in-flight-as n r = record { number = n; session = optional (r .sender); owner = r .owner; places = flag (r .places) }
 
 -- ---- changed levels
 

@@ -4,12 +4,14 @@ pub mod changed;
 pub mod header;
 
 use store::cells;
+ghost use mathlib.Core.Path.{_≡_};
 ghost use Prim.Native.Nat.{_+_, _≤_, _<_};
 ghost use lib.ListN.{length};
+ghost use Rattle.gateway.specs.Core.{in-flight};
 ghost use Rattle.gateway.specs.Limits.{most-in-flight, most-notices, most-trades};
 ghost use Rattle.store.specs.Cells as C;
 ghost use Rattle.store.specs.Layout.{cell, Cells, Holds};
-ghost use Rattle.store.specs.View.{word, write, Is, Ready};
+ghost use Rattle.store.specs.View.{word, write, in-slot, gateway, Is, Ready};
 ghost use Rattle.pending.specs.Pending as P;
 
 // A command has the slot of its number modulo this.
@@ -85,11 +87,40 @@ pub fn take_off(m: &mut [u8], sender: u64, owner: u64, places: u64)
     store::set(m, store::HEADER, 0, cells::FLYING, flying + 1);
 }
 
+// Whether command n is in flight (`command`): the run ends at the last number.
+pub fn in_flight(m: &[u8], n: u64) -> bool
+    requires { ⌜ Holds (now m) × (word (cell (now m)) C.flying ≤ word (cell (now m)) C.last) ⌝ }
+    ensures { λ r. ⌜ r ≡ in-flight n (gateway (cell (now (m .entry))) .core) ⌝ }
+{
+    let last = store::get(m, store::HEADER, 0, cells::LAST);
+    let flying = store::get(m, store::HEADER, 0, cells::FLYING);
+    n <= last && last - n < flying
+}
+
+// A command in flight: its sender is one more than a session's number, or 0.
+pub struct Flight {
+    pub sender: u64,
+    pub owner: u64,
+    pub places: u64,
+}
+
+pub fn flight_at(m: &[u8], n: u64) -> Flight
+    requires { ⌜ Holds (now m) ⌝ }
+    ensures { λ r. ⌜ P.in-flight-as n r ≡ in-slot (cell (now (m .entry))) n ⌝ }
+{
+    let i = (n % FLIGHT_SLOTS) as usize;
+    Flight {
+        sender: store::get(m, store::FLIGHTS, i, cells::FLIGHT_SENDER),
+        owner: store::get(m, store::FLIGHTS, i, cells::FLIGHT_OWNER),
+        places: store::get(m, store::FLIGHTS, i, cells::FLIGHT_PLACES),
+    }
+}
+
 // An event of command n: those below n have had theirs.
 pub fn land(m: &mut [u8], n: u64)
-    requires { ⌜ Ready (now m) × (n ≤ word (cell (now m)) C.last) × (word (cell (now m)) C.last + 1 < 18446744073709551616) ⌝ }
+    requires { ⌜ Ready (now m) × (n ≤ word (cell (now m)) C.last) × (0 < n) ⌝ }
     ensures { λ r. ⌜ Is (now (m .exit)) (P.land n (cell (now (m .entry)))) ⌝ }
 {
     let last = store::get(m, store::HEADER, 0, cells::LAST);
-    store::set(m, store::HEADER, 0, cells::FLYING, last + 1 - n);
+    store::set(m, store::HEADER, 0, cells::FLYING, last - n + 1);
 }

@@ -23,7 +23,7 @@ returns c =
     let c₁ = c .before .before in
     let g = c₁ .before .before in
     let s = g .before .before .before in
-    land-is (s .pre .0) _ _ (g .get .ensures) (c₁ .set .ensures)
+    land-is (s .pre .0) _ _ (g .get .ensures) (s .pre .1) (c₁ .set .ensures)
 
 pub land-spec : {M : Type 1} → statement M
-land-spec = tie.close (tie.spec get-requires add-set sub-set set-requires same-length returns)
+land-spec = tie.close (tie.spec get-requires sub-set add-set set-requires same-length returns)
