@@ -15,7 +15,7 @@ use Rattle.accounts.specs.declared.Funds.{Funds}
 use Rattle.accounts.specs.declared.MaybeFunds as F
 use Rattle.table.proofs.Live.{same?}
 use lib.IntN.{ℤ}
-use Rattle.words.specs.Words.{int, fit}
+use Rattle.words.specs.Words.{int, fit, word-of}
 use Rattle.words.proofs.Int.{of-int}
 use Rattle.words.proofs.Wrap.{fit-int}
 use Rattle.risk.specs.declared.Bucket.{Bucket}
@@ -161,7 +161,7 @@ unfolding fits
 word-fits w z h e = ap (λ x. is-some (fit x)) (sym e) ∙ ap is-some (fit-int w h)
 
 pub fund-is : {zs : List ℕ} (s : Store) (i c p : ℕ) (f : Funds) → c < 2 ^ 64 → p < 2 ^ 64 → int c ≡ f .cash → int p ≡ f .position →
-    Is zs (P.fund i c p s) → Is zs (P.fund i (P.word-of (f .cash)) (P.word-of (f .position)) s) × FundsFit f
+    Is zs (P.fund i c p s) → Is zs (P.fund i (word-of (f .cash)) (word-of (f .position)) s) × FundsFit f
 fund-is s i c p f h k e g q = (rw (← e, ← g, of-int c h, of-int p k) q, (word-fits c (f .cash) h e, word-fits p (f .position) k g))
 
 pub no-funds-is : {xs zs : List ℕ} (i : ℕ) (f : F.MaybeFunds) → Holds xs → i < owner-slots → f ≡ F.the-variants.None →
@@ -172,7 +172,7 @@ pub no-funds-fit : (f : F.MaybeFunds) → f ≡ F.the-variants.None → MaybeFun
 no-funds-fit f e = rw e tt
 
 pub some-funds-is : {zs : List ℕ} (xs : List ℕ) (i : ℕ) (f : F.MaybeFunds) (x : Funds) → f ≡ F.the-variants.Some x →
-    Is zs (P.fund i (P.word-of (x .cash)) (P.word-of (x .position)) (cell xs)) → Is zs (P.set-funds i f (cell xs))
+    Is zs (P.fund i (word-of (x .cash)) (word-of (x .position)) (cell xs)) → Is zs (P.set-funds i f (cell xs))
 some-funds-is xs i f x e p = rw e p
 
 pub some-funds-fit : (f : F.MaybeFunds) (x : Funds) → f ≡ F.the-variants.Some x → FundsFit x → MaybeFundsFit f

@@ -30,6 +30,7 @@ use Rattle.clients.specs.Clients.{put-cells, Linked}
 use Rattle.clients.proofs.Laws.{plus-one, account-known}
 use Rattle.clients.proofs.Rows.{write-row, write-rows, write-cell, cells-rows, spares, cells-spare, cells-block}
 use Rattle.clients.proofs.Views.{named-account}
+use Rattle.words.specs.Words.{word-of}
 
 -- the account of the session in slot i, and the cell of account a that names its session
 abbrev pub account-in : Store → ℕ → Option ℕ
@@ -152,7 +153,7 @@ linked-open-orders i n s k =
 
 linked-funds : (i : ℕ) (f : F.MaybeFunds) (s : Store) → Linked s → Linked (P.set-funds i f s)
 linked-funds i F.the-variants.None s k = linked-cells i ((C.account-funded, 0) ∷ []) s refl k
-linked-funds i (F.the-variants.Some f) s k = linked-cells i (P.fund-cells (P.word-of (f .cash)) (P.word-of (f .position))) s refl k
+linked-funds i (F.the-variants.Some f) s k = linked-cells i (P.fund-cells (word-of (f .cash)) (word-of (f .position))) s refl k
 
 pub linked-add-account : (a : Account) (s : Store) → Linked s → Linked (P.add-account a s)
 linked-add-account a s k =

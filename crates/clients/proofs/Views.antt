@@ -11,7 +11,7 @@ use lib.ListN.{set, List·getD-eq-default}
 use Rattle.accounts.specs.declared.Account.{Account}
 use Rattle.accounts.specs.declared.Funds.{Funds}
 use Rattle.accounts.specs.declared.MaybeFunds as F
-use Rattle.words.specs.Words.{int}
+use Rattle.words.specs.Words.{int, word-of}
 use Rattle.wallet.specs.declared.Wallet.{Wallet}
 use Rattle.wallet.specs.Wallet as W
 use Rattle.risk.specs.declared.Bucket.{Bucket}
@@ -236,7 +236,7 @@ wallet-is-funds r e = rw e refl
 
 -- ---- a new account
 
-int-back : (z : ℤ) → fits z ≡ true → int (P.word-of z) ≡ z
+int-back : (z : ℤ) → fits z ≡ true → int (word-of z) ≡ z
 unfolding int
 int-back z h = word-back z h
 

@@ -4,13 +4,10 @@ use mathlib.Core.Path.{_≡_}
 use mathlib.Core.Bool.{cond}
 use mathlib.Core.Option.{Option, none, some}
 use mathlib.Core.List.{List, [], _∷_}
-use lib.IntN.{ℤ}
 use lib.ListN.{getD}
-use mir.Syntax.{w64}
-use mir.Val.{ofZ}
 use Rattle.accounts.specs.declared.Account.{Account}
 use Rattle.accounts.specs.declared.MaybeFunds as F
-use Rattle.words.specs.Words.{int}
+use Rattle.words.specs.Words.{int, word-of}
 use Rattle.wallet.specs.declared.Wallet.{Wallet}
 use Rattle.risk.specs.declared.Bucket.{Bucket}
 use Rattle.risk.specs.Throttle as Throttle
@@ -115,10 +112,6 @@ fund-cells cash position =
 
 abbrev pub fund : ℕ → ℕ → ℕ → Store → Store
 fund i cash position = put-cells C.accounts i (fund-cells cash position)
-
--- the word of a signed number
-abbrev pub word-of : ℤ → ℕ
-word-of z = ofZ w64 z
 
 abbrev pub funds-cells : F.MaybeFunds → List (ℕ × ℕ)
 funds-cells F.the-variants.None = (C.account-funded, 0) ∷ []

@@ -9,7 +9,7 @@ ghost use mathlib.Core.Bool.{true};
 ghost use mathlib.Core.Option.{none, some};
 ghost use mathlib.Core.Path.{_≡_};
 ghost use Prim.Native.Nat.{_<_, _≤_};
-ghost use Rattle.words.specs.Words.{int};
+ghost use Rattle.words.specs.Words.{int, word-of};
 ghost use Rattle.gateway.specs.Basics.{is-some};
 ghost use Rattle.gateway.specs.Fits.{FundsFit, MaybeFundsFit, AccountFits};
 ghost use Rattle.gateway.specs.Limits.{owner-slots, session-slots};
@@ -228,7 +228,7 @@ fn write_funds(m: &mut [u8], i: usize, cash: u64, position: u64)
 
 fn fund(m: &mut [u8], i: usize, f: Funds)
     requires { ⌜ Holds (now m) × (i < owner-slots) ⌝ }
-    ensures { λ r. ⌜ Is (now (m .exit)) (P.fund i (P.word-of (f .cash)) (P.word-of (f .position)) (cell (now (m .entry)))) × FundsFit f ⌝ }
+    ensures { λ r. ⌜ Is (now (m .exit)) (P.fund i (word-of (f .cash)) (word-of (f .position)) (cell (now (m .entry)))) × FundsFit f ⌝ }
 {
     let cash = words::of_i64(f.cash);
     let position = words::of_i64(f.position);

@@ -14,7 +14,7 @@ use Rattle.table.specs.Live.{Changed, pick, live, without, insert, replace, Asc
 use Rattle.table.proofs.Live.{same?, look-some, ascends-ext, ascends-open, gap-end}
 use Rattle.gateway.specs.Calls.{Gateway}
 use Rattle.gateway.specs.Depth as D
-use Rattle.gateway.specs.Ledger.{Order, number-of, remove, with-leaves, with-price}
+use Rattle.gateway.specs.Ledger.{Order, number-of, remove, with-leaves}
 use Rattle.gateway.specs.Ledger as L
 use Rattle.gateway.specs.Table.{update}
 use Rattle.store.specs.Cells as C
@@ -25,7 +25,7 @@ use Rattle.store.proofs.Rows.{put-cell, row-here, row-there}
 use Rattle.store.proofs.Frames.{Agree, order-same, resting-same, gateway-same}
 use Rattle.orders.specs.declared.Live.{Live}
 use Rattle.orders.specs.declared.Resting.{Resting}
-use Rattle.orders.specs.Orders.{hint-slots, either, Flags, Sorted, Ordered, order-of, set-leaves, set-price, revise, show, strike, retire, take-off, rest, append}
+use Rattle.orders.specs.Orders.{hint-slots, either, Flags, Sorted, Ordered, order-of, set-leaves, revise, show, strike, retire, take-off, rest, append}
 use Rattle.orders.proofs.Shown.{shown, shown-ext, shown-more, shown-dead, shown-strike, shown-replace, shown-revive, shown-update, shown-length, shown-parts, look-map}
 
 -- the gateway with other lists of orders
@@ -322,11 +322,6 @@ module _ (s : Store) (i : ℕ) (d : Ordered s) (l : i < word s C.order-rows) whe
   unfolding fill
   set-leaves-does v h m =
       live-did _ (set-leaves i v h s) (fill-touched i C.order-leaves (v ∷ h ∷ []) was s s (untouched i s)) refl (with-leaves v) refl refl refl refl m
-
-  pub set-price-does : (p : ℕ) → 0 < was C.order-live → Did s (set-price i p s) (update number-of (was C.order-number) (with-price (int p)) (ledger s .orders)) (depth s .resting)
-  unfolding fill
-  set-price-does p m =
-      live-did _ (set-price i p s) (fill-touched i C.order-priced (1 ∷ p ∷ []) was s s (untouched i s)) refl (with-price (int p)) refl refl refl refl m
 
   pub revise-does : (c p v h : ℕ) (f : Order → Order) → f (order was) ≡ revised c p v (order was) → 0 < was C.order-live →
       Did s (revise i c p v h s) (update number-of (was C.order-number) f (ledger s .orders)) (depth s .resting)

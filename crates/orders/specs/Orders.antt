@@ -97,9 +97,6 @@ hint-slots = 4096
 abbrev pub set-leaves : ℕ → ℕ → ℕ → Store → Store
 set-leaves i leaves hold = fill C.orders i C.order-leaves (leaves ∷ hold ∷ [])
 
-abbrev pub set-price : ℕ → ℕ → Store → Store
-set-price i price = fill C.orders i C.order-priced (1 ∷ price ∷ [])
-
 -- an order's price, what it has open, and what it holds
 abbrev pub revise : ℕ → ℕ → ℕ → ℕ → ℕ → Store → Store
 revise i priced price leaves hold = fill C.orders i C.order-priced (priced ∷ price ∷ leaves ∷ hold ∷ [])

@@ -28,7 +28,7 @@ ghost use Rattle.gateway.specs.Ledger.{number-of};
 ghost use Rattle.store.specs.Cells as C;
 ghost use Rattle.store.specs.Layout.{cell, Cell, Holds};
 ghost use Rattle.store.specs.View.{word, fill, order, resting, order-room, Is, Ready};
-ghost use Rattle.orders.specs.Orders.{Sorted, Marks, FindsRow, Sees, live-row, resting-row, set-leaves, set-price, revise, show, strike, retire, take-off, rest, append, hint, hint-rows, squeeze, make-room, open-row};
+ghost use Rattle.orders.specs.Orders.{Sorted, Marks, FindsRow, Sees, live-row, resting-row, set-leaves, revise, show, strike, retire, take-off, rest, append, hint, hint-rows, squeeze, make-room, open-row};
 
 // The live half of a row.
 pub struct Live {
@@ -134,13 +134,6 @@ pub fn set_leaves(m: &mut [u8], i: usize, leaves: u64, hold: u64)
     ensures { λ r. ⌜ Is (now (m .exit)) (set-leaves i leaves hold (cell (now (m .entry)))) ⌝ }
 {
     set_two(m, store::ORDERS, i, ORDER_LEAVES, leaves, hold);
-}
-
-pub fn set_price(m: &mut [u8], i: usize, price: u64)
-    requires { ⌜ Holds (now m) × (i < order-room) ⌝ }
-    ensures { λ r. ⌜ Is (now (m .exit)) (set-price i price (cell (now (m .entry)))) ⌝ }
-{
-    set_two(m, store::ORDERS, i, ORDER_PRICED, 1, price);
 }
 
 // The order has this price, this much open, and holds this much.

@@ -5,13 +5,13 @@ use mathlib.Core.Bool.{cond}
 use lib.IntN.{ℤ}
 use lib.ListN.{getD}
 use mir.Syntax.{w64}
-use mir.Val.{SFits, ofZ}
+use mir.Val.{SFits}
 use Rattle.orderbook.specs.declared.MaybePrice as M
 use Rattle.orderbook.specs.declared.MaybeQty as Q
 use Rattle.orderbook.specs.declared.Command.{Command}
 use Rattle.orderbook.specs.declared.Command.the-variants.{Limit, Market, Cancel, Modify, Stop, CancelAll, SetPhase}
 use Rattle.protocol.specs.Codes.{sideCode, tifCode}
-use Rattle.words.specs.Words.{int}
+use Rattle.words.specs.Words.{int, word-of}
 use Rattle.gateway.specs.Bytes.{price-flag, price-word}
 use Rattle.gateway.specs.Core.{Flight}
 use Rattle.gateway.specs.Depth.{Key, is-changed}
@@ -77,10 +77,6 @@ Batched (Cancel id owner) = Unit {0}
 Batched (Modify id owner price qty) = Unit {0}
 Batched (Stop id owner s trigger limit qty) = Unit {0}
 Batched (CancelAll owner) = Unit {0}
-
--- the word of a signed number
-abbrev pub word-of : ℤ → ℕ
-word-of z = ofZ w64 z
 
 -- whether a quantity is there, and the quantity or 0
 abbrev pub qty-flag : Q.MaybeQty → ℕ

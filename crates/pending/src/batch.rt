@@ -14,11 +14,12 @@ ghost use Rattle.store.specs.Cells as C;
 ghost use Rattle.store.specs.Layout.{cell, Holds};
 ghost use Rattle.store.specs.View.{word, side, tif, maybe-price, command, Is, Ready};
 ghost use Rattle.pending.specs.Pending as P;
+ghost use Rattle.words.specs.Words.{word-of};
 
 // ---- a command's cells
 
 fn word_of(price: i64) -> u64
-    ensures { λ r. ⌜ r ≡ P.word-of price ⌝ }
+    ensures { λ r. ⌜ r ≡ word-of price ⌝ }
 {
     words::of_i64(price)
 }

@@ -8,6 +8,7 @@ ghost use mathlib.Core.Path.{_≡_};
 ghost use Prim.Native.Nat.{_+_, _≤_, _<_};
 ghost use lib.ListN.{length};
 ghost use Rattle.gateway.specs.Core.{in-flight};
+ghost use Rattle.gateway.specs.Limits as Limits;
 ghost use Rattle.gateway.specs.Limits.{most-in-flight, most-notices, most-trades};
 ghost use Rattle.store.specs.Cells as C;
 ghost use Rattle.store.specs.Layout.{cell, Cells, Holds};
@@ -76,7 +77,7 @@ pub fn set_published(m: &mut [u8])
 
 // The next command is numbered and in flight.
 pub fn take_off(m: &mut [u8], sender: u64, owner: u64, places: u64)
-    requires { ⌜ Ready (now m) × (word (cell (now m)) C.last + 1 < 18446744073709551616) × (word (cell (now m)) C.flying < most-in-flight) ⌝ }
+    requires { ⌜ Ready (now m) × (word (cell (now m)) C.last + 1 < Limits.word) × (word (cell (now m)) C.flying < most-in-flight) ⌝ }
     ensures { λ r. ⌜ Is (now (m .exit)) (P.take-off sender owner places (cell (now (m .entry)))) ⌝ }
 {
     let next = store::get(m, store::HEADER, 0, cells::LAST) + 1;

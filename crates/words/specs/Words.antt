@@ -5,7 +5,7 @@ use Prim.Native.Nat.{ℕ, _+_, _-_, _*_, _%_, _^_}
 use lib.IntN.{ℤ, pos, negsuc, negℤ, subℕ}
 use lib.Signed.{leZ}
 use mir.Syntax.{w64}
-use mir.Val.{toZ}
+use mir.Val.{ofZ, toZ}
 use Rattle.words.specs.declared.Signed128.{Signed128}
 use Rattle.words.specs.declared.Wide.{Wide}
 use Rattle.words.specs.declared.Amount as A
@@ -71,7 +71,10 @@ fit z = fit-in (place-of z)
 abbrev pub clamp : ℤ → ℤ
 clamp z = nearest-to (place-of z)
 
--- the word of a number, modulo 2^64
+-- the word of a number that fits, and of any number, modulo 2^64
+abbrev pub word-of : ℤ → ℕ
+word-of z = ofZ w64 z
+
 unfoldable pub wrap : ℤ → ℕ
 wrap (pos n) = n % 2 ^ 64
 wrap (negsuc n) = 2 ^ 64 - 1 - n % 2 ^ 64

@@ -6,6 +6,7 @@ use Rattle.pending.specs.Pending as P
 use borrow.Author.Needs.{needs}
 use Rattle.pending.proofs.batch.row_of.Statement.{statement}
 use Rattle.pending.proofs.batch.row_of.Tie as tie
+use Rattle.words.specs.Words.{word-of}
 
 enum-known-c : tie.Need-enum-known-c
 enum-known-c c = search needs
@@ -97,7 +98,7 @@ returns c =
     let w = c .before .before .before in
     let k = w .before .before in
     let f = k .before .c .given in
-    rw (f .1, w .before .side-code .ensures, w .word-of .ensures ∙ ap P.word-of (read {x = f .0 .1 .1 .1 .0} (k .known-told .given .1 .1 .1 .0 .1)), c .before .before .tif-code .ensures, c .before .qty-flag .ensures, c .qty-word .ensures)
+    rw (f .1, w .before .side-code .ensures, w .word-of .ensures ∙ ap word-of (read {x = f .0 .1 .1 .1 .0} (k .known-told .given .1 .1 .1 .0 .1)), c .before .before .tif-code .ensures, c .before .qty-flag .ensures, c .qty-word .ensures)
     (refl, record { owner-fits = omega (arith, k .known-told .given .1 .0); prices-fit = record { sfits = k .known-told .given .1 .1 .1 .0 .1 } })
 
 returns-2 : tie.Need-returns-2
@@ -113,7 +114,7 @@ unfolding owner-of
 returns-4 c =
     let k = c .before in
     let f = k .before .c4 .given in
-    rw (f .1, c .word-of2 .ensures ∙ ap P.word-of (read {x = f .0 .1 .1 .0} (k .known-told4 .given .1 .1 .0 .1)))
+    rw (f .1, c .word-of2 .ensures ∙ ap word-of (read {x = f .0 .1 .1 .0} (k .known-told4 .given .1 .1 .0 .1)))
     (refl, record { owner-fits = omega (arith, k .known-told4 .given .1 .0); prices-fit = record { sfits = k .known-told4 .given .1 .1 .0 .1 } })
 
 returns-5 : tie.Need-returns-5
@@ -122,7 +123,7 @@ returns-5 c =
     let w = c .before .before in
     let k = w .before .before in
     let f = k .before .c5 .given in
-    rw (f .1, w .before .side-code3 .ensures, w .word-of3 .ensures ∙ ap P.word-of (read {x = f .0 .1 .1 .1 .0} (k .known-told5 .given .1 .1 .1 .0 .1)), c .before .price-flag .ensures, c .price-word .ensures .0)
+    rw (f .1, w .before .side-code3 .ensures, w .word-of3 .ensures ∙ ap word-of (read {x = f .0 .1 .1 .1 .0} (k .known-told5 .given .1 .1 .1 .0 .1)), c .before .price-flag .ensures, c .price-word .ensures .0)
     (refl, record { owner-fits = omega (arith, k .known-told5 .given .1 .0); prices-fit = (record { sfits = k .known-told5 .given .1 .1 .1 .0 .1 }, c .price-word .ensures .1) })
 
 returns-6 : tie.Need-returns-6
