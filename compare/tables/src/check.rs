@@ -1,7 +1,7 @@
 //! The same random steps on both: every answer is compared, and at the end every row.
 
 use crate::proved::{State, key};
-use crate::random::Random;
+use crate::random::{Draw, Random};
 use crate::standard::{Levels, Live, Orders, Side};
 
 const STEPS: usize = 100_000;

@@ -5,7 +5,7 @@ use std::collections::HashSet;
 
 use crate::bench::{Table, in_turns, time_each, time_parts};
 use crate::proved::State;
-use crate::random::Random;
+use crate::random::{Draw, Random};
 use crate::standard::{Live, Orders};
 
 pub const LIVE: usize = 950;

@@ -1,45 +1,22 @@
-//! Random numbers, the same in each run.
+//! What the random numbers make here.
+
+pub use xorshift::Random;
 
 use crate::standard::{Live, Side};
 
-/// Xorshift, from a fixed seed.
-pub struct Random(u64);
+pub trait Draw {
+    fn side(&mut self) -> Side;
 
-impl Random {
-    pub fn new() -> Random {
-        Random(0x9E37_79B9_7F4A_7C15)
-    }
+    /// An order with leaves.
+    fn live(&mut self) -> Live;
+}
 
-    pub fn bits(&mut self) -> u64 {
-        self.0 ^= self.0 << 13;
-        self.0 ^= self.0 >> 7;
-        self.0 ^= self.0 << 17;
-        self.0
-    }
-
-    pub fn below(&mut self, limit: u64) -> u64 {
-        (self.bits() >> 16) % limit
-    }
-
-    /// A place in a list of that length.
-    pub fn place(&mut self, len: usize) -> usize {
-        self.below(len as u64) as usize
-    }
-
-    pub fn pick<T: Copy>(&mut self, list: &[T]) -> T {
-        list[self.place(list.len())]
-    }
-
-    pub fn chance(&mut self, percent: u64) -> bool {
-        self.below(100) < percent
-    }
-
-    pub fn side(&mut self) -> Side {
+impl Draw for Random {
+    fn side(&mut self) -> Side {
         self.pick(&[Side::Buy, Side::Sell])
     }
 
-    /// An order with leaves.
-    pub fn live(&mut self) -> Live {
+    fn live(&mut self) -> Live {
         Live {
             account: self.below(256) as u32,
             client_ref: self.bits(),

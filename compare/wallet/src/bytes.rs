@@ -3,7 +3,7 @@
 use std::ops::Range;
 
 use crate::function::{Arg, FILL, Function, Inputs, Rust, Words, call, unsigned};
-use crate::inputs::{LIMITS, Random, boxed, random};
+use crate::inputs::{Draw, LIMITS, Random, boxed, random};
 use crate::rattle;
 use crate::rule::{MALFORMED, OUTSIDE, SHORT};
 

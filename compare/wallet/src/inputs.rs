@@ -1,5 +1,7 @@
 //! Inputs: limits in all combinations, then random words, the same in each run.
 
+pub use xorshift::Random;
+
 use crate::function::{Inputs, Words};
 
 const fn word(number: i64) -> u64 {
@@ -67,36 +69,23 @@ pub fn boxed(inputs: impl Iterator<Item = Words> + 'static) -> Inputs {
     Box::new(inputs)
 }
 
-/// Xorshift, from a fixed seed.
-pub struct Random(u64);
-
-impl Random {
-    pub fn new() -> Random {
-        Random(0x9E37_79B9_7F4A_7C15)
-    }
-
-    pub fn bits(&mut self) -> u64 {
-        self.0 ^= self.0 << 13;
-        self.0 ^= self.0 >> 7;
-        self.0 ^= self.0 << 17;
-        self.0
-    }
-
-    pub fn below(&mut self, limit: u64) -> u64 {
-        (self.bits() >> 16) % limit
-    }
-
-    pub fn pick(&mut self, list: &[u64]) -> u64 {
-        list[self.below(list.len() as u64) as usize]
-    }
-
+/// What the random numbers make here.
+pub trait Draw {
     /// `word`, or one to three beside it.
-    pub fn beside(&mut self, word: u64) -> u64 {
+    fn beside(&mut self, word: u64) -> u64;
+
+    /// A word of any size and sign, often a limit or beside one.
+    fn word(&mut self) -> u64;
+
+    fn words(&mut self, count: usize) -> Words;
+}
+
+impl Draw for Random {
+    fn beside(&mut self, word: u64) -> u64 {
         word.wrapping_add(self.below(7)).wrapping_sub(3)
     }
 
-    /// A word of any size and sign, often a limit or beside one.
-    pub fn word(&mut self) -> u64 {
+    fn word(&mut self) -> u64 {
         match self.below(6) {
             0 => self.bits(),
             1 => self.bits() >> self.below(64),
@@ -110,7 +99,7 @@ impl Random {
         }
     }
 
-    pub fn words(&mut self, count: usize) -> Words {
+    fn words(&mut self, count: usize) -> Words {
         (0..count).map(|_| self.word()).collect()
     }
 }

@@ -7,7 +7,7 @@ use crate::function::{
     Arg, FILL, Function, Inputs, Rust, Words, call, side, signed, to_bytes, unless_overflow,
     unsigned,
 };
-use crate::inputs::{LIMITS, NO_SIDES, Random, SIDES, all, boxed, listed, random};
+use crate::inputs::{Draw, LIMITS, NO_SIDES, Random, SIDES, all, boxed, listed, random};
 use crate::rattle;
 use crate::rule::{self, MALFORMED, OUTSIDE};
 

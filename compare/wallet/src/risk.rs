@@ -4,7 +4,7 @@ use crate::exchange::{self, Session};
 use crate::function::{
     Arg, FILL, Function, Inputs, Rust, Words, call, signed, to_bytes, to_words, unsigned,
 };
-use crate::inputs::{LIMITS, Random, all, boxed, listed, random};
+use crate::inputs::{Draw, LIMITS, Random, all, boxed, listed, random};
 use crate::rattle;
 use crate::rule::{self, Bucket, TOKEN};
 
