@@ -156,6 +156,13 @@ pub set-cell-is : {xs ys : List ℕ} (b i k v : ℕ) → Holds xs → Cell b i k
 set-cell-is b i k v h c p = then-set (is-itself h) c p
 
 -- the words of an i64
+pub write-funds-is : {xs ys zs us vs : List ℕ} (i c p : ℕ) → Holds xs → i < owner-slots → Set xs ys C.accounts i C.account-funded 1 → Set ys zs C.accounts i C.account-funds-cash c →
+    Set zs us C.accounts i C.account-funds-position p → Is vs (P.set-money i c p (cell us)) → Is vs (P.fund i c p (cell xs))
+unfolding put-cells
+write-funds-is i c p h l x y z q =
+    then-cells C.accounts i (P.money-cells c p)
+    (sets-is C.accounts i ((C.account-funded, 1) ∷ (C.account-funds-cash, c) ∷ (C.account-funds-position, p) ∷ []) h (omega arith) l refl (then-sets x (then-sets y (then-sets z no-sets)))) q
+
 word-fits : (w : ℕ) (z : ℤ) → w < 2 ^ 64 → int w ≡ z → Signed z
 unfolding fits
 word-fits w z h e = ap (λ x. is-some (fit x)) (sym e) ∙ ap is-some (fit-int w h)

@@ -6,7 +6,6 @@ use mathlib.Core.List.{List}
 use Prim.Native.Nat.{ℕ, _+_, _-_, _^_, _<_}
 use native.Mathlib.Omega.{arith}
 use Rattle.accounts.specs.declared.Account.{Account}
-use Rattle.wallet.specs.declared.Wallet.{Wallet}
 use Rattle.risk.specs.declared.Bucket.{Bucket}
 use Rattle.table.proofs.Live.{same?}
 use Rattle.gateway.specs.Limits.{owner-slots}
@@ -47,8 +46,8 @@ limited-cells i cs s p q k =
     limited-ext s (put-cells C.accounts i cs s) (λ j l. cells-spare C.accounts i C.account-max-open cs s j p)
     (λ j l. cells-spare C.accounts i C.account-rate cs s j q) k
 
-pub limited-wallet : (i : ℕ) (w : Wallet) (s : Store) → Limited s → Limited (P.set-wallet i w s)
-limited-wallet i w s k = limited-cells i (P.wallet-cells w) s refl refl k
+pub limited-money : (i c p : ℕ) (s : Store) → Limited s → Limited (P.set-money i c p s)
+limited-money i c p s k = limited-cells i (P.money-cells c p) s refl refl k
 
 pub limited-bucket : (i : ℕ) (b : Bucket) (s : Store) → Limited s → Limited (P.set-bucket i b s)
 limited-bucket i b s k = limited-cells i (P.bucket-cells b) s refl refl k

@@ -12,7 +12,6 @@ use lib.ListN.{length, getD}
 use lib.Dec.{eqb}
 use Rattle.accounts.specs.declared.Account.{Account}
 use Rattle.accounts.specs.declared.MaybeFunds as F
-use Rattle.wallet.specs.declared.Wallet.{Wallet}
 use Rattle.risk.specs.declared.Bucket.{Bucket}
 use Rattle.risk.specs.Throttle as Throttle
 use Rattle.table.proofs.Live.{same?}
@@ -141,15 +140,11 @@ linked-cells i cs s t k =
     (cells-block C.accounts i cs s C.sessions j C.session-account refl))
     (λ a l. cells-spare C.accounts i C.account-session cs s a t) k
 
-pub linked-wallet : (i : ℕ) (w : Wallet) (s : Store) → Linked s → Linked (P.set-wallet i w s)
-linked-wallet i w s k = linked-cells i (P.wallet-cells w) s refl k
+pub linked-money : (i c p : ℕ) (s : Store) → Linked s → Linked (P.set-money i c p s)
+linked-money i c p s k = linked-cells i (P.money-cells c p) s refl k
 
 pub linked-bucket : (i : ℕ) (b : Bucket) (s : Store) → Linked s → Linked (P.set-bucket i b s)
 linked-bucket i b s k = linked-cells i (P.bucket-cells b) s refl k
-
-pub linked-open-orders : (i n : ℕ) (s : Store) → Linked s → Linked (P.set-open-orders i n s)
-linked-open-orders i n s k =
-    linked-ext s (P.set-open-orders i n s) (λ j l. refl) (λ a l. write-cell C.accounts i C.account-open-orders n s a C.account-session (λ e. omega (arith, e))) k
 
 linked-funds : (i : ℕ) (f : F.MaybeFunds) (s : Store) → Linked s → Linked (P.set-funds i f s)
 linked-funds i F.the-variants.None s k = linked-cells i ((C.account-funded, 0) ∷ []) s refl k

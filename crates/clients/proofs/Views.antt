@@ -12,7 +12,6 @@ use Rattle.accounts.specs.declared.Account.{Account}
 use Rattle.accounts.specs.declared.Funds.{Funds}
 use Rattle.accounts.specs.declared.MaybeFunds as F
 use Rattle.words.specs.Words.{int, word-of}
-use Rattle.wallet.specs.declared.Wallet.{Wallet}
 use Rattle.wallet.specs.Wallet as W
 use Rattle.risk.specs.declared.Bucket.{Bucket}
 use Rattle.risk.specs.Throttle as Throttle
@@ -96,7 +95,7 @@ module _ (i : ℕ) (s : Store) (l : i < session-slots) where
 -- ---- accounts
 
 -- the lists that are read from the rows of accounts
-abbrev with-lists : List (Option Account) → List (Option Funds) → List Bucket → Gateway → Gateway
+abbrev pub with-lists : List (Option Account) → List (Option Funds) → List Bucket → Gateway → Gateway
 with-lists xs ws bs g =
     record {
       core =
@@ -156,20 +155,20 @@ module _ (i : ℕ) (s t : Store) (h : Touched i s t) where
       gateway t .rest .buckets ≡ bs → gateway t ≡ with-lists xs ws bs (gateway s)
   lists-are p q r = h .others ∙ (λ d. with-lists (p d) (q d) (r d) (gateway s))
 
-abbrev with-wallets : List (Option Funds) → Gateway → Gateway
+abbrev pub with-wallets : List (Option Funds) → Gateway → Gateway
 with-wallets ws g = with-lists (g .core .accounts) ws (g .rest .buckets) g
 
--- where the account has a wallet: its funds are those of w
-pub wallet-view : (i : ℕ) (w : Wallet) (s : Store) → i < owner-slots → flag (s C.accounts i C.account-funded) ≡ true →
-    gateway (P.set-wallet i w s) ≡ with-wallets (set (gateway s .core .ledger .wallets) i (some (W.funds (W.balance-of w)))) (gateway s)
+-- where the account has a wallet
+pub money-view : (i c p : ℕ) (s : Store) → i < owner-slots → flag (s C.accounts i C.account-funded) ≡ true →
+    gateway (P.set-money i c p s) ≡ with-wallets (set (gateway s .core .ledger .wallets) i (some (record { cash = int c; position = int p }))) (gateway s)
 unfolding put-cells
-wallet-view i w s l e =
-    let h = touched-cells i (P.wallet-cells w) s in
-    lists-are i s t h (accounts-kept i s t h (rw (eq-eqb i i refl) refl)) (wallets-set i s t h (some (W.funds (W.balance-of w))) l (rw (eq-eqb i i refl, e) refl))
+money-view i c p s l e =
+    let h = touched-cells i (P.money-cells c p) s in
+    lists-are i s t h (accounts-kept i s t h (rw (eq-eqb i i refl) refl)) (wallets-set i s t h (some (record { cash = int c; position = int p })) l (rw (eq-eqb i i refl, e) refl))
     (buckets-kept i s t h (rw (eq-eqb i i refl) refl))
   where
     t : Store
-    t = P.set-wallet i w s
+    t = P.set-money i c p s
 
 pub bucket-view : (i : ℕ) (b : Bucket) (s : Store) → i < owner-slots →
     gateway (P.set-bucket i b s) ≡ with-rest (λ r. with-buckets (set (r .buckets) i b) r) (gateway s)
@@ -183,7 +182,7 @@ bucket-view i b s l =
     t = P.set-bucket i b s
 
 -- a cell that the gateway does not show
-cache-view : (i k v : ℕ) (s : Store) → account i (write C.accounts i k v s C.accounts i) ≡ account i (s C.accounts i) →
+pub cache-view : (i k v : ℕ) (s : Store) → account i (write C.accounts i k v s C.accounts i) ≡ account i (s C.accounts i) →
     wallet (write C.accounts i k v s C.accounts i) ≡ wallet (s C.accounts i) → bucket (write C.accounts i k v s C.accounts i) ≡ bucket (s C.accounts i) →
     gateway (write C.accounts i k v s) ≡ gateway s
 unfolding put-cells
@@ -193,12 +192,9 @@ cache-view i k v s p q r =
     t : Store
     t = write C.accounts i k v s
 
--- an account's session and its open orders are counted, not kept
+-- an account's session is counted, not kept
 link-view : (a v : ℕ) (s : Store) → gateway (write C.accounts a C.account-session v s) ≡ gateway s
 link-view a v s = cache-view a C.account-session v s (rw (eq-eqb a a refl) refl) (rw (eq-eqb a a refl) refl) (rw (eq-eqb a a refl) refl)
-
-pub open-orders-view : (i n : ℕ) (s : Store) → gateway (P.set-open-orders i n s) ≡ gateway s
-open-orders-view i n s = cache-view i C.account-open-orders n s (rw (eq-eqb i i refl) refl) (rw (eq-eqb i i refl) refl) (rw (eq-eqb i i refl) refl)
 
 pub log-in-view : (i a : ℕ) (s : Store) → i < session-slots → gateway (P.log-in i a s) ≡ with-rest (update-session i (Rest.set-account a)) (gateway s)
 log-in-view i a s l = link-view a (i + 1) (write C.sessions i C.session-account (a + 1) s) ∙ account-view i s l a

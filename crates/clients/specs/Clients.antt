@@ -82,13 +82,11 @@ unfoldable pub put-cells : ℕ → ℕ → List (ℕ × ℕ) → Store → Store
 put-cells b i [] s = s
 put-cells b i (c ∷ cs) s = put-cells b i cs (write b i (c .0) (c .1) s)
 
-abbrev pub wallet-cells : Wallet → List (ℕ × ℕ)
-wallet-cells w =
-    (C.account-cash, w .cash) ∷ (C.account-position, w .position) ∷ (C.account-cash-held, w .«cash_held»)
-    ∷ (C.account-position-held, w .«position_held») ∷ []
+abbrev pub money-cells : ℕ → ℕ → List (ℕ × ℕ)
+money-cells cash position = (C.account-cash, cash) ∷ (C.account-position, position) ∷ []
 
-abbrev pub set-wallet : ℕ → Wallet → Store → Store
-set-wallet i w = put-cells C.accounts i (wallet-cells w)
+abbrev pub set-money : ℕ → ℕ → ℕ → Store → Store
+set-money i cash position = put-cells C.accounts i (money-cells cash position)
 
 abbrev pub bucket-cells : Bucket → List (ℕ × ℕ)
 bucket-cells b = (C.account-tokens, b .tokens) ∷ (C.account-refilled, b .refilled) ∷ []
@@ -119,10 +117,6 @@ funds-cells (F.the-variants.Some f) = fund-cells (word-of (f .cash)) (word-of (f
 
 abbrev pub set-funds : ℕ → F.MaybeFunds → Store → Store
 set-funds i f = put-cells C.accounts i (funds-cells f)
-
--- a count that is kept beside the orders
-abbrev pub set-open-orders : ℕ → ℕ → Store → Store
-set-open-orders i n = write C.accounts i C.account-open-orders n
 
 -- a new account; it has no live orders and no session, and those cells stay
 abbrev pub add-account : Account → Store → Store

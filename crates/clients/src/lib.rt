@@ -154,20 +154,13 @@ fn set_cell(m: &mut [u8], b: usize, i: usize, k: usize, v: u64)
     store::set(m, b, i, k, v);
 }
 
-pub fn set_wallet(m: &mut [u8], i: usize, w: Wallet)
+// What a wallet owns; what it holds follows the live orders.
+pub fn set_money(m: &mut [u8], i: usize, cash: u64, position: u64)
     requires { ⌜ Holds (now m) × (i < owner-slots) ⌝ }
-    ensures { λ r. ⌜ Is (now (m .exit)) (P.set-wallet i w (cell (now (m .entry)))) ⌝ }
+    ensures { λ r. ⌜ Is (now (m .exit)) (P.set-money i cash position (cell (now (m .entry)))) ⌝ }
 {
-    store::set(m, store::ACCOUNTS, i, cells::ACCOUNT_CASH, w.cash);
-    store::set(m, store::ACCOUNTS, i, cells::ACCOUNT_POSITION, w.position);
-    store::set(m, store::ACCOUNTS, i, cells::ACCOUNT_CASH_HELD, w.cash_held);
-    store::set(
-        m,
-        store::ACCOUNTS,
-        i,
-        cells::ACCOUNT_POSITION_HELD,
-        w.position_held,
-    );
+    store::set(m, store::ACCOUNTS, i, cells::ACCOUNT_CASH, cash);
+    store::set(m, store::ACCOUNTS, i, cells::ACCOUNT_POSITION, position);
 }
 
 pub fn set_bucket(m: &mut [u8], i: usize, b: Bucket)
@@ -176,14 +169,6 @@ pub fn set_bucket(m: &mut [u8], i: usize, b: Bucket)
 {
     store::set(m, store::ACCOUNTS, i, cells::ACCOUNT_TOKENS, b.tokens);
     store::set(m, store::ACCOUNTS, i, cells::ACCOUNT_REFILLED, b.refilled);
-}
-
-// How many live orders the account has.
-pub fn set_open_orders(m: &mut [u8], i: usize, n: u64)
-    requires { ⌜ Holds (now m) × (i < owner-slots) ⌝ }
-    ensures { λ r. ⌜ Is (now (m .exit)) (P.set-open-orders i n (cell (now (m .entry)))) ⌝ }
-{
-    set_cell(m, store::ACCOUNTS, i, cells::ACCOUNT_OPEN_ORDERS, n);
 }
 
 fn set_limits(m: &mut [u8], i: usize, a: Account)
@@ -222,8 +207,7 @@ fn write_funds(m: &mut [u8], i: usize, cash: u64, position: u64)
         cells::ACCOUNT_FUNDS_POSITION,
         position,
     );
-    store::set(m, store::ACCOUNTS, i, cells::ACCOUNT_CASH, cash);
-    store::set(m, store::ACCOUNTS, i, cells::ACCOUNT_POSITION, position);
+    set_money(m, i, cash, position);
 }
 
 fn fund(m: &mut [u8], i: usize, f: Funds)

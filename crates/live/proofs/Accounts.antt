@@ -39,6 +39,7 @@ use Rattle.orders.specs.Orders.{Ordered, live-row, order-of, strike}
 use Rattle.orders.specs.Orders as Orders
 use Rattle.orders.proofs.Views.{Touched, Did, put-cells, revised, bounds-from, revise-touched, retire-touched, revise-does, retire-does, live-parts}
 use Rattle.levels.specs.Levels.{size, row}
+use Rattle.clients.proofs.Views.{cache-view}
 use Rattle.sound.specs.Sound.{Stored, held-cell, Held, Levels, Clients, Tables, Sound}
 use Rattle.sound.proofs.Kept.{sided, tables-beside, clients-write}
 use Rattle.sound.proofs.Totals.{Swapped, Counts, held-swapped}
@@ -46,41 +47,13 @@ use Rattle.live.specs.Live.{At, number-at, with-ledger, hold-word, shift
 
 -- ---- cells of an account's row
 
--- the gateway with other wallets, buckets and accounts
-abbrev pub with-clients : List (Option Funds) → List Bucket → List (Option Account) → Gateway → Gateway
-with-clients ws bs cs g =
-    let l = g .core .ledger in
-    let r = g .rest in
-    record {
-      core = record { ledger = record { last = l .last; wallets = ws; orders = l .orders; mark = l .mark }; flights = g .core .flights; accounts = cs };
-      rest = with-buckets bs r;
-    }
-
-module _ (a k v : ℕ) (s : Store) (x : (i : ℕ) (r : Row) → account i (put-cell k v r) ≡ account i r) (y : (r : Row) → bucket (put-cell k v r) ≡ bucket r) where
-  abbrev after : Store
-  after = write C.accounts a k v s
-
-  -- a cell that the wallets alone may read
-  pub wallets-view : gateway after ≡ with-clients (listed (λ i. wallet (after C.accounts i)) owner-slots) (gateway s .rest .buckets) (gateway s .core .accounts) (gateway s)
-  wallets-view =
-      ap₂ (λ bs cs. with-clients (listed (λ i. wallet (after C.accounts i)) owner-slots) bs cs (gateway s))
-      (listed-ext (λ i. bucket (s C.accounts i)) (λ i. bucket (after C.accounts i)) owner-slots (λ j l. row-unread C.accounts a k v s bucket y j))
-      (listed-ext (λ i. account i (s C.accounts i)) (λ i. account i (after C.accounts i)) (word s C.owner-limit) (λ j l. row-unread C.accounts a k v s (account j) (x j) j))
-
-  -- and one that they do not read either
-  pub unread-view : ((r : Row) → wallet (put-cell k v r) ≡ wallet r) → gateway after ≡ gateway s
-  unread-view w =
-      wallets-view
-      ∙ ap (λ ws. with-clients ws (gateway s .rest .buckets) (gateway s .core .accounts) (gateway s))
-      (listed-ext (λ i. wallet (s C.accounts i)) (λ i. wallet (after C.accounts i)) owner-slots (λ j l. row-unread C.accounts a k v s wallet w j))
-
 pub shift-view : (a : ℕ) (z : Side) (old new : ℕ) (s : Store) → gateway (shift a z old new s) ≡ gateway s
 unfolding shift
-shift-view a Buy old new s = unread-view a C.account-cash-held _ s (λ i r. refl) (λ r. refl) (λ r. refl)
-shift-view a Sell old new s = unread-view a C.account-position-held _ s (λ i r. refl) (λ r. refl) (λ r. refl)
+shift-view a Buy old new s = cache-view a C.account-cash-held _ s (rw (eq-eqb a a refl) refl) (rw (eq-eqb a a refl) refl) (rw (eq-eqb a a refl) refl)
+shift-view a Sell old new s = cache-view a C.account-position-held _ s (rw (eq-eqb a a refl) refl) (rw (eq-eqb a a refl) refl) (rw (eq-eqb a a refl) refl)
 
 pub open-view : (a v : ℕ) (s : Store) → gateway (write C.accounts a C.account-open-orders v s) ≡ gateway s
-open-view a v s = unread-view a C.account-open-orders v s (λ i r. refl) (λ r. refl) (λ r. refl)
+open-view a v s = cache-view a C.account-open-orders v s (rw (eq-eqb a a refl) refl) (rw (eq-eqb a a refl) refl) (rw (eq-eqb a a refl) refl)
 
 -- the tables are elsewhere
 pub tables-write : (a k v : ℕ) (s : Store) → Tables s → Tables (write C.accounts a k v s)

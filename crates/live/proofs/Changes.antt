@@ -27,7 +27,7 @@ use Rattle.sound.proofs.Kept.{becomes}
 use Rattle.sound.proofs.Totals.{open-few}
 use Rattle.live.specs.Live.{At, number-at, with-ledger, placing, CanPlace, revise, retire, left, pay, place}
 use Rattle.live.proofs.Views.{revise-view, revise-sound, retire-view, retire-sound, open-some}
-use Rattle.live.proofs.Money.{with-wallets, pay-view, pay-sound, pay-orders, pay-words}
+use Rattle.live.proofs.Money.{with-wallets, pay-view, pay-sound, pay-elsewhere}
 use Rattle.live.proofs.Placed.{room, word-kept, place-view, place-sound}
 
 abbrev leaving : ℕ → (Order → Order) → ℕ → Ledger → Ledger
@@ -110,10 +110,10 @@ module _ {xs : List ℕ} (st : State xs) {i : ℕ} {o : Live} (a : At i o (cell 
       }
     where
       row-is : Agree 16 (cell ys C.orders i) (s C.orders i)
-      row-is k l = h .same C.orders i k (order-cell i k row-small l) ∙ ap (λ (r : Row). r k) (pay-orders (o .account) (side (o .side)) p q s owner-small i)
+      row-is k l = h .same C.orders i k (order-cell i k row-small l) ∙ pay-elsewhere (o .account) (side (o .side)) p q s owner-small C.orders i k (λ e. omega arith)
 
       word-is : word (cell ys) C.order-rows ≡ word s C.order-rows
-      word-is = h .same C.header 0 C.order-rows (header-cell C.order-rows (omega arith)) ∙ pay-words (o .account) (side (o .side)) p q s owner-small C.order-rows
+      word-is = h .same C.header 0 C.order-rows (header-cell C.order-rows (omega arith)) ∙ pay-elsewhere (o .account) (side (o .side)) p q s owner-small C.header 0 C.order-rows (λ e. omega arith)
 
   -- the side as the code reads it
   pub paid : {ys : List ℕ} (p q : ℕ) (w : Side) → w ≡ side (o .side) → Is ys (pay (o .account) w p q s) → Is ys (pay (o .account) (side (o .side)) p q s)
@@ -121,7 +121,8 @@ module _ {xs : List ℕ} (st : State xs) {i : ℕ} {o : Live} (a : At i o (cell 
 
   pub pay-number : {ys : List ℕ} (p q : ℕ) → Is ys (pay (o .account) (side (o .side)) p q s) → number-at i (cell ys) ≡ n
   pay-number p q h =
-      h .same C.orders i C.order-number (order-cell i C.order-number row-small (omega arith)) ∙ ap (λ (r : Row). r C.order-number) (pay-orders (o .account) (side (o .side)) p q s owner-small i)
+      h .same C.orders i C.order-number (order-cell i C.order-number row-small (omega arith))
+      ∙ pay-elsewhere (o .account) (side (o .side)) p q s owner-small C.orders i C.order-number (λ e. omega arith)
 
 pub traded-becomes : {xs ys zs : List ℕ} (st : State xs) {i : ℕ} {o : Live} (a : At i o (cell xs)) (p q v : ℕ) →
     Is ys (pay (o .account) (side (o .side)) p q (cell xs)) → Is zs (left i o (o .priced) (o .price) v (cell ys)) →

@@ -1,12 +1,14 @@
 -- What the functions write: one law for each way through the code. Assumes nothing.
-use mathlib.Core.Path.{_≡_, refl, sym, ap, ap₂, _∙_}
+use mathlib.Core.Path.{_≡_, refl, sym, ap, ap₂, subst, _∙_}
 use mathlib.Core.Bool.{Bool, true, false, cond, not}
-use mathlib.Core.List.{List, [], _∷_}
-use Prim.Native.Nat.{ℕ, _+_, _-_, _%_, _^_, _<_}
+use mathlib.Core.Option.{none, some}
+use mathlib.Core.List.{List}
+use Prim.Native.Nat.{ℕ, _+_, _-_, _^_, _<_}
 use native.Mathlib.Omega.{arith}
 use borrow.Author.Tests.{eq-eqb, ne-eqb}
 use lib.Dec.{eqb}
 use lib.IntN.{_+ℤ_, _-ℤ_}
+use Rattle.accounts.specs.declared.Funds.{Funds}
 use Rattle.orderbook.specs.declared.Side.{Side}
 use Rattle.orderbook.specs.declared.Side.the-variants.{Buy, Sell}
 use Rattle.orderbook.specs.declared.MaybePrice.the-variants.{None, Some}
@@ -15,17 +17,19 @@ use Rattle.words.specs.Words.{int, wrap}
 use Rattle.words.proofs.Wrap.{wrap-int}
 use Rattle.wallet.specs.declared.Wallet.{Wallet}
 use Rattle.wallet.specs.Wallet as W
+use Rattle.gateway.specs.Basics.{is-some}
 use Rattle.gateway.specs.Limits.{owner-slots}
 use Rattle.gateway.specs.Ledger.{hold, price-option}
 use Rattle.gateway.proofs.Base.{split}
 use Rattle.store.specs.Cells as C
 use Rattle.store.specs.Layout.{cell, Holds, Set}
-use Rattle.store.specs.View.{Store, Same, Is, write, fill, word, flag, side, maybe-price}
+use Rattle.store.specs.View.{Row, Store, Is, write, flag, side, maybe-price, wallet}
 use Rattle.store.proofs.Places.{account-cell}
 use Rattle.store.proofs.Rows.{same-write, then-set, is-itself}
 use Rattle.orders.specs.declared.Live.{Live}
 use Rattle.orders.specs.Orders as Orders
 use Rattle.orders.proofs.Laws.{then-append}
+use Rattle.clients.specs.Clients as Clients
 use Rattle.sound.specs.Sound.{held-cell}
 use Rattle.live.specs.Live.{hold-word, shift, revise, retire, left, holding, place, funds, settle, pay}
 
@@ -84,23 +88,28 @@ pub left-open : {ys : List ℕ} (s : Store) (i : ℕ) (o : Live) (c p v : ℕ) �
 unfolding left
 left-open s i o c p v e h = rw (ne-eqb v 0 e) h
 
-pub settle-is : {xs ys zs : List ℕ} (a : ℕ) (z : Side) (p q : ℕ) (w r : Wallet) → Holds xs → a < owner-slots → w .cash ≡ cell xs C.accounts a C.account-cash → w .position ≡ cell xs C.accounts a C.account-position →
-    r .cash < 2 ^ 64 → r .position < 2 ^ 64 → W.balance-of r ≡ W.settled z (int p) q (W.balance-of w) →
-    Set xs ys C.accounts a C.account-cash (r .cash) → Set ys zs C.accounts a C.account-position (r .position) → Is zs (settle a z p q (cell xs))
+pub settle-is : (xs : List ℕ) {ys : List ℕ} (a : ℕ) (z : Side) (p q : ℕ) (w r : Wallet) → w ≡ Clients.wallet-words (cell xs C.accounts a) → r .cash < 2 ^ 64 → r .position < 2 ^ 64 →
+    W.balance-of r ≡ W.settled z (int p) q (W.balance-of w) → Is ys (Clients.set-money a (r .cash) (r .position) (cell xs)) → Is ys (settle a z p q (cell xs))
 unfolding settle
-settle-is {xs} {ys} {zs} a z p q w r h l e f c d g s t =
-    let b : W.settle z (int p) q (W.funds (W.balance-of w)) ≡ W.settle z (int p) q (funds a (cell xs)) = ap₂ (λ x y. W.settle z (int p) q (record { cash = int x; position = int y })) e f in
+settle-is xs a z p q w r e c d g s =
+    let b : W.settle z (int p) q (W.funds (W.balance-of w)) ≡ W.settle z (int p) q (funds a (cell xs)) = ap (λ x. W.settle z (int p) q (W.funds (W.balance-of x))) e in
     let u : r .cash ≡ wrap (W.settle z (int p) q (funds a (cell xs)) .cash) = sym (wrap-int (r .cash) c) ∙ ap wrap (ap (λ (x : Balance). x .cash) g ∙ ap (λ x. x .cash) b) in
     let v : r .position ≡ wrap (W.settle z (int p) q (funds a (cell xs)) .position) = sym (wrap-int (r .position) d) ∙ ap wrap (ap (λ (x : Balance). x .position) g ∙ ap (λ x. x .position) b) in
-    rw (← u, ← v) (then-set (then-set (is-itself h) (account-cell a C.account-cash l (omega arith)) s) (account-cell a C.account-position l (omega arith)) t)
+    rw (← u, ← v) s
 
-pub pay-none : {xs : List ℕ} (a : ℕ) (z : Side) (p q n : ℕ) → Holds xs → n ≡ cell xs C.accounts a C.account-funded → n ≡ 0 → Is xs (pay a z p q (cell xs))
-unfolding pay
-pay-none {xs} a z p q n h e f = rw (eq-eqb (cell xs C.accounts a C.account-funded) 0 (sym e ∙ f)) (is-itself h)
+-- a wallet is there where its flag is set
+funded-is : (r : Row) → is-some (wallet r) ≡ flag (r C.account-funded)
+funded-is r =
+    let f : Funds = record { cash = int (r C.account-cash); position = int (r C.account-position) } in
+    split (λ b. is-some (cond b (some f) none) ≡ b) (flag (r C.account-funded)) (λ e. refl) (λ e. refl)
 
-pub pay-some : (xs : List ℕ) {ys : List ℕ} (a : ℕ) (z : Side) (p q n : ℕ) → n ≡ cell xs C.accounts a C.account-funded → (n ≡ 0 → ⊥) → Is ys (settle a z p q (cell xs)) → Is ys (pay a z p q (cell xs))
+pub pay-some : (xs : List ℕ) {ys : List ℕ} (a : ℕ) (z : Side) (p q : ℕ) (b : Bool) → b ≡ is-some (wallet (cell xs C.accounts a)) → b ≡ true → Is ys (settle a z p q (cell xs)) → Is ys (pay a z p q (cell xs))
 unfolding pay
-pay-some xs a z p q n e f h = rw (ne-eqb (cell xs C.accounts a C.account-funded) 0 (λ g. f (e ∙ g))) h
+pay-some xs {ys} a z p q b e t h = subst (λ c. Is ys (cond c (settle a z p q (cell xs)) (cell xs))) (sym t ∙ e ∙ funded-is (cell xs C.accounts a)) h
+
+pub pay-none : {xs : List ℕ} (a : ℕ) (z : Side) (p q : ℕ) (b : Bool) → Holds xs → b ≡ is-some (wallet (cell xs C.accounts a)) → b ≡ false → Is xs (pay a z p q (cell xs))
+unfolding pay
+pay-none {xs} a z p q b h e t = subst (λ c. Is xs (cond c (settle a z p q (cell xs)) (cell xs))) (sym t ∙ e ∙ funded-is (cell xs C.accounts a)) (is-itself h)
 
 pub place-is : (xs : List ℕ) {ys zs us vs : List ℕ} (n : ℕ) (o : Live) (h c : ℕ) (w : Side) → o .account < owner-slots → h ≡ hold-word (o .side) (o .priced) (o .price) (o .leaves) →
     c ≡ cell xs C.accounts (o .account) C.account-open-orders → w ≡ side (o .side) → Is ys (Orders.make-room (cell xs)) →

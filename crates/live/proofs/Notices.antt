@@ -1,10 +1,9 @@
 -- A notice is pushed, or none: the list of notices grows as the definitions say, and the state stays sound. Assumes nothing.
 use mathlib.Core.Path.{_≡_, refl, sym, ap, _∙_}
-use mathlib.Core.Bool.{true, false, cond}
+use mathlib.Core.Bool.{Bool, true, false, cond}
 use mathlib.Core.List.{List, [], _∷_, _++_, append-nil}
 use Prim.Native.Nat.{ℕ, _+_, _^_, _≤_, _<_}
 use native.Mathlib.Omega.{arith}
-use borrow.Author.Tests.{eq-eqb, ne-eqb}
 use lib.ListN.{length}
 use lib.IntN.{ℤ, pos, _+ℤ_, _-ℤ_, +ℤ-idl, +ℤ-invr, -ℤ-+ℤ-cancel}
 use Rattle.orderbook.specs.declared.Side.{Side}
@@ -39,12 +38,12 @@ nothing-noticed {xs} st ns e =
         let r = g .rest in
         record { core = g .core; rest = record { timing = r .timing; clock = r .clock; sessions = r .sessions; buckets = r .buckets; batch = r .batch; delivered = r .delivered; published = r .published; depth = r .depth; trades = r .trades; notices = ms; collar = r .collar } }
 
--- the wallet by its flag
-no-wallet : (s : Store) (a n : ℕ) → n ≡ s C.accounts a C.account-funded → n ≡ 0 → wallet-notice a s ≡ []
-no-wallet s a n e f = rw (eq-eqb (s C.accounts a C.account-funded) 0 (sym e ∙ f)) refl
+-- whether there is a wallet
+no-wallet : (s : Store) (a : ℕ) (b : Bool) → b ≡ is-some (wallet (s C.accounts a)) → b ≡ false → wallet-notice a s ≡ []
+no-wallet s a b e f = ap (λ c. cond c (a ∷ []) []) (sym e ∙ f)
 
-a-wallet : (s : Store) (a n : ℕ) → n ≡ s C.accounts a C.account-funded → (n ≡ 0 → ⊥) → wallet-notice a s ≡ a ∷ []
-a-wallet s a n e f = rw (ne-eqb (s C.accounts a C.account-funded) 0 (λ g. f (e ∙ g))) refl
+a-wallet : (s : Store) (a : ℕ) (b : Bool) → b ≡ is-some (wallet (s C.accounts a)) → b ≡ true → wallet-notice a s ≡ a ∷ []
+a-wallet s a b e f = ap (λ c. cond c (a ∷ []) []) (sym e ∙ f)
 
 -- a hold that stays, and one that changes
 abbrev nobody : List ℕ
@@ -64,19 +63,19 @@ other-hold s a old new f g n =
     (λ _ e. rw e refl) refl
 
 -- one is pushed
-pub push-becomes : {xs ys : List ℕ} → State xs → (a n : ℕ) → n ≡ cell xs C.accounts a C.account-funded → (n ≡ 0 → ⊥) → length (wallet-notice a (cell xs)) + word (cell xs) C.notice-rows ≤ most-notices →
+pub push-becomes : {xs ys : List ℕ} → State xs → (a : ℕ) (b : Bool) → b ≡ is-some (wallet (cell xs C.accounts a)) → b ≡ true → length (wallet-notice a (cell xs)) + word (cell xs) C.notice-rows ≤ most-notices →
     Is ys (Pending.notice a (cell xs)) → Becomes ys (with-notices (wallet-notice a (cell xs)) (gateway (cell xs)))
-push-becomes {xs} st a n e f l h =
-    let w = a-wallet (cell xs) a n e f in
+push-becomes {xs} st a b e f l h =
+    let w = a-wallet (cell xs) a b e f in
     becomes h (notice-sound (cell xs) (st .sound) a (omega (arith, ap (λ ns. length ns) w))) (notice-view a (cell xs) ∙ sym (ap (λ ns. with-notices ns (gateway (cell xs))) w))
 
-pub push-needs : {xs : List ℕ} → State xs → (a n : ℕ) → n ≡ cell xs C.accounts a C.account-funded → (n ≡ 0 → ⊥) → length (wallet-notice a (cell xs)) + word (cell xs) C.notice-rows ≤ most-notices →
+pub push-needs : {xs : List ℕ} → State xs → (a : ℕ) (b : Bool) → b ≡ is-some (wallet (cell xs C.accounts a)) → b ≡ true → length (wallet-notice a (cell xs)) + word (cell xs) C.notice-rows ≤ most-notices →
     Ready xs × (word (cell xs) C.notice-rows < most-notices)
-push-needs {xs} st a n e f l =
-    (record { holds = st .holds; bounds = st .sound .tables .ordered .bounds }, omega (arith, ap (λ ns. length ns) (a-wallet (cell xs) a n e f)))
+push-needs {xs} st a b e f l =
+    (record { holds = st .holds; bounds = st .sound .tables .ordered .bounds }, omega (arith, ap (λ ns. length ns) (a-wallet (cell xs) a b e f)))
 
-pub none-becomes : {xs : List ℕ} → State xs → (a n : ℕ) → n ≡ cell xs C.accounts a C.account-funded → n ≡ 0 → Becomes xs (with-notices (wallet-notice a (cell xs)) (gateway (cell xs)))
-none-becomes {xs} st a n e f = nothing-noticed st (wallet-notice a (cell xs)) (no-wallet (cell xs) a n e f)
+pub none-becomes : {xs : List ℕ} → State xs → (a : ℕ) (b : Bool) → b ≡ is-some (wallet (cell xs C.accounts a)) → b ≡ false → Becomes xs (with-notices (wallet-notice a (cell xs)) (gateway (cell xs)))
+none-becomes {xs} st a b e f = nothing-noticed st (wallet-notice a (cell xs)) (no-wallet (cell xs) a b e f)
 
 -- the hold stays, or changes
 pub same-becomes : {xs : List ℕ} → State xs → (a old new : ℕ) → old ≡ new → Becomes xs (with-notices (hold-notice a (int old) (int new) (cell xs)) (gateway (cell xs)))

@@ -20,6 +20,7 @@ use Rattle.store.specs.View.{Store, word, write, flag, side, maybe-price, walle
 use Rattle.orders.specs.declared.Live.{Live}
 use Rattle.orders.specs.Orders.{live-row, order-of}
 use Rattle.orders.specs.Orders as Orders
+use Rattle.clients.specs.Clients as Clients
 use Rattle.sound.specs.Sound.{held-cell}
 
 -- the row i is that of the live order o
@@ -87,7 +88,7 @@ funds a s = record { cash = int (s C.accounts a C.account-cash); position = int 
 unfoldable pub settle : ℕ → Side → ℕ → ℕ → Store → Store
 settle a z price qty s =
     let f = W.settle z (int price) qty (funds a s) in
-    write C.accounts a C.account-position (wrap (f .position)) (write C.accounts a C.account-cash (wrap (f .cash)) s)
+    Clients.set-money a (wrap (f .cash)) (wrap (f .position)) s
 
 unfoldable pub pay : ℕ → Side → ℕ → ℕ → Store → Store
 pay a z price qty s = cond (flag (s C.accounts a C.account-funded)) (settle a z price qty s) s

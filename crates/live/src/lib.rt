@@ -3,7 +3,6 @@
 use orderbook::Side;
 use orders::Live;
 use store::cells;
-use wallet::Wallet;
 ghost use mathlib.Core.Path.{_≡_};
 ghost use Prim.Native.Nat.{_+_, _≤_, _<_};
 ghost use lib.ListN.{length};
@@ -111,21 +110,8 @@ fn settle(m: &mut [u8], account: usize, side: Side, price: u64, qty: u64)
     requires { ⌜ Holds (now m) × (account < owner-slots) ⌝ }
     ensures { λ r. ⌜ Is (now (m .exit)) (P.settle account side price qty (cell (now (m .entry)))) ⌝ }
 {
-    let before = Wallet {
-        cash: store::get(m, store::ACCOUNTS, account, cells::ACCOUNT_CASH),
-        position: store::get(m, store::ACCOUNTS, account, cells::ACCOUNT_POSITION),
-        cash_held: 0,
-        position_held: 0,
-    };
-    let after = before.settle(side, price, qty);
-    store::set(m, store::ACCOUNTS, account, cells::ACCOUNT_CASH, after.cash);
-    store::set(
-        m,
-        store::ACCOUNTS,
-        account,
-        cells::ACCOUNT_POSITION,
-        after.position,
-    );
+    let after = clients::wallet_at(m, account).settle(side, price, qty);
+    clients::set_money(m, account, after.cash, after.position);
 }
 
 // The account pays or is paid, where it has a wallet.
@@ -133,10 +119,9 @@ fn pay(m: &mut [u8], account: usize, side: Side, price: u64, qty: u64)
     requires { ⌜ Holds (now m) × (account < owner-slots) ⌝ }
     ensures { λ r. ⌜ Is (now (m .exit)) (P.pay account side price qty (cell (now (m .entry)))) ⌝ }
 {
-    if store::get(m, store::ACCOUNTS, account, cells::ACCOUNT_FUNDED) == 0 {
-        return;
+    if clients::is_funded(m, account) {
+        settle(m, account, side, price, qty);
     }
-    settle(m, account, side, price, qty);
 }
 
 // The order traded `qty` at `price`, and has `leaves` open.
@@ -179,10 +164,9 @@ pub fn notice(m: &mut [u8], account: u64)
     requires { ⌜ State (now m) × (account < owner-slots) × (length (P.wallet-notice account (cell (now m))) + word (cell (now m)) C.notice-rows ≤ most-notices) ⌝ }
     ensures { λ r. ⌜ Becomes (now (m .exit)) (P.with-notices (P.wallet-notice account (cell (now (m .entry)))) (gateway (cell (now (m .entry))))) ⌝ }
 {
-    if store::get(m, store::ACCOUNTS, account as usize, cells::ACCOUNT_FUNDED) == 0 {
-        return;
+    if clients::is_funded(m, account as usize) {
+        pending::push_notice(m, account);
     }
-    pending::push_notice(m, account);
 }
 
 // A notice that what the account's order holds went from `old` to `new`.

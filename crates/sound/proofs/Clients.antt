@@ -23,8 +23,8 @@ use Rattle.clients.specs.Clients.{Limited, Linked}
 use Rattle.clients.specs.Clients as P
 use Rattle.pending.specs.Pending.{BatchFits}
 use Rattle.clients.proofs.Rows.{write-cell, spares, cells-spare, cells-block}
-use Rattle.clients.proofs.Links.{linked-bucket, linked-add-account, linked-connect, linked-cell, linked-log-in, linked-forget}
-use Rattle.clients.proofs.Limits.{limited-bucket, limited-add-account, limited-connect, limited-session, limited-log-in, limited-forget}
+use Rattle.clients.proofs.Links.{linked-money, linked-bucket, linked-add-account, linked-connect, linked-cell, linked-log-in, linked-forget}
+use Rattle.clients.proofs.Limits.{limited-money, limited-bucket, limited-add-account, limited-connect, limited-session, limited-log-in, limited-forget}
 use Rattle.sound.specs.Sound.{Clients, Sound}
 use Rattle.sound.proofs.Kept.{sided, caches, sound-beside}
 
@@ -103,6 +103,10 @@ funds-spared i (F.the-variants.Some f) s a = spared i (P.funds-cells (F.the-vari
 module _ (s : Store) (d : Sound s) where
   made : {t : Store} → Elsewhere s t → ((a : ℕ) → caches t a ≡ caches s a) → Linked t → Limited t → Sound t
   made e c l m = sound-clients e d (λ a _. c a) (record { linked = l; limited = m; batch = batch-there e (d .clients .batch) })
+
+  pub money-sound : (i c p : ℕ) → Sound (P.set-money i c p s)
+  money-sound i c p =
+      made (in-accounts i (P.money-cells c p) s) (spared i (P.money-cells c p) s (refl, refl, refl)) (linked-money i c p s (d .clients .linked)) (limited-money i c p s (d .clients .limited))
 
   pub bucket-sound : (i : ℕ) (x : Bucket) → Sound (P.set-bucket i x s)
   bucket-sound i x =
