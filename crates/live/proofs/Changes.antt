@@ -1,8 +1,7 @@
 -- What each function leaves in the bytes is the ledger's change. Assumes nothing.
 use mathlib.Core.Path.{_≡_, refl, sym, ap, ap₂, _∙_}
-use mathlib.Core.Bool.{true, false, cond}
+use mathlib.Core.Bool.{cond}
 use mathlib.Core.List.{List}
-use mathlib.Core.Option.{Option, none, some}
 use Prim.Native.Nat.{ℕ, _≤_, _<_}
 use native.Mathlib.Omega.{arith}
 use lib.Dec.{eqb}
@@ -12,7 +11,6 @@ use Rattle.gateway.specs.Limits.{owner-slots, most-orders}
 use Rattle.gateway.specs.Table.{update}
 use Rattle.gateway.specs.Ledger.{Order, Ledger, number-of, remove, with-orders, with-leaves, with-price, change, paid-to}
 use Rattle.gateway.specs.Ledger as Ledger
-use Rattle.gateway.specs.Calls.{Gateway}
 use Rattle.gateway.proofs.Base.{split}
 use Rattle.store.specs.Cells as C
 use Rattle.store.specs.Layout.{cell, Holds}

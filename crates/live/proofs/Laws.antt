@@ -23,7 +23,7 @@ use Rattle.gateway.specs.Ledger.{hold, price-option}
 use Rattle.gateway.proofs.Base.{split}
 use Rattle.store.specs.Cells as C
 use Rattle.store.specs.Layout.{cell, Holds, Set}
-use Rattle.store.specs.View.{Row, Store, Is, write, flag, side, maybe-price, wallet}
+use Rattle.store.specs.View.{Row, Store, Is, write, flag, side, wallet}
 use Rattle.store.proofs.Places.{account-cell}
 use Rattle.store.proofs.Rows.{same-write, then-set, is-itself}
 use Rattle.orders.specs.declared.Live.{Live}
@@ -31,7 +31,7 @@ use Rattle.orders.specs.Orders as Orders
 use Rattle.orders.proofs.Laws.{then-append}
 use Rattle.clients.specs.Clients as Clients
 use Rattle.sound.specs.Sound.{held-cell}
-use Rattle.live.specs.Live.{hold-word, shift, revise, retire, left, holding, place, funds, settle, pay}
+use Rattle.live.specs.Live.{hold-word, shift, revise, retire, left, place, funds, settle, pay}
 
 pub side-buy : (n : ℕ) → n ≡ 0 → Buy ≡ side n
 side-buy n e = rw (eq-eqb n 0 e) refl

@@ -1,15 +1,14 @@
 -- A notice is pushed, or none: the list of notices grows as the definitions say, and the state stays sound. Assumes nothing.
 use mathlib.Core.Path.{_≡_, refl, sym, ap, _∙_}
 use mathlib.Core.Bool.{Bool, true, false, cond}
-use mathlib.Core.List.{List, [], _∷_, _++_, append-nil}
+use mathlib.Core.List.{List, [], _∷_, append-nil}
 use Prim.Native.Nat.{ℕ, _+_, _^_, _≤_, _<_}
 use native.Mathlib.Omega.{arith}
 use lib.ListN.{length}
 use lib.IntN.{ℤ, pos, _+ℤ_, _-ℤ_, +ℤ-idl, +ℤ-invr, -ℤ-+ℤ-cancel}
-use Rattle.orderbook.specs.declared.Side.{Side}
 use Rattle.words.specs.Words.{int}
 use Rattle.words.proofs.Int.{int-injective}
-use Rattle.gateway.specs.Limits.{owner-slots, most-notices}
+use Rattle.gateway.specs.Limits.{most-notices}
 use Rattle.gateway.specs.Basics.{is-some}
 use Rattle.gateway.specs.Entry.{is-zero}
 use Rattle.gateway.specs.Calls.{Gateway}
@@ -20,7 +19,7 @@ use Rattle.store.specs.Layout.{cell}
 use Rattle.store.specs.View.{Store, word, wallet, gateway, Is, Ready}
 use Rattle.pending.specs.Pending as Pending
 use Rattle.pending.proofs.Views.{notice-view}
-use Rattle.sound.specs.Sound.{Sound, State, Becomes}
+use Rattle.sound.specs.Sound.{State, Becomes}
 use Rattle.sound.proofs.Kept.{becomes}
 use Rattle.sound.proofs.Waiting.{notice-sound}
 use Rattle.live.specs.Live.{with-notices, wallet-notice, hold-notice}

@@ -1,5 +1,5 @@
 -- A new order behind the others: the ledger has it, and the state stays sound. Assumes nothing.
-use mathlib.Core.Path.{_≡_, refl, sym, ap, ap₂, _∙_}
+use mathlib.Core.Path.{_≡_, refl, sym, ap, _∙_}
 use mathlib.Core.Logic.{⊎-elim}
 use mathlib.Core.List.{[], _∷_, _++_, append-nil}
 use Prim.Native.Nat.{ℕ, _+_, _≤_, _<_}
@@ -10,12 +10,12 @@ use Rattle.orderbook.specs.declared.Side.the-variants.{Buy, Sell}
 use Rattle.words.specs.Words.{int, wrap}
 use Rattle.words.proofs.Int.{int-zero}
 use Rattle.table.proofs.Live.{same?}
-use Rattle.gateway.specs.Limits.{owner-slots, most-orders}
+use Rattle.gateway.specs.Limits.{owner-slots}
 use Rattle.gateway.specs.Rest.{account-of}
 use Rattle.store.specs.Cells as C
 use Rattle.store.specs.View.{Row, Store, word, write, fill, side, session, ledger, depth, gateway, order-room}
 use Rattle.orders.specs.declared.Live.{Live}
-use Rattle.orders.specs.Orders.{Ordered, order-of}
+use Rattle.orders.specs.Orders.{order-of}
 use Rattle.orders.specs.Orders as Orders
 use Rattle.orders.proofs.Views.{Touched, Did, new-row, append-touched, append-does}
 use Rattle.orders.proofs.Room.{make-room-does, make-room-room, make-room-each, make-room-other}

@@ -1,48 +1,29 @@
 -- A live order changes, ends or comes: the ledger moves as the definitions say, and the state stays sound. Assumes nothing.
-use mathlib.Core.Path.{_≡_, refl, sym, ap, ap₂, _∙_}
+use mathlib.Core.Path.{_≡_, refl, sym, ap, _∙_}
 use mathlib.Core.Logic.{⊎-elim}
-use mathlib.Core.Bool.{true, false, cond, true≢false}
-use mathlib.Core.List.{List, [], _∷_, _++_, append-nil}
-use mathlib.Core.Option.{Option, none, some}
-use Prim.Native.Nat.{ℕ, zero, suc, _+_, _-_, _%_, _≤_, _<_}
+use mathlib.Core.List.{[], _∷_, _++_}
+use Prim.Native.Nat.{ℕ, zero, suc, _+_, _-_, _≤_, _<_}
 use native.Mathlib.Omega.{arith}
-use borrow.Author.Tests.{eq-eqb, ne-eqb}
-use lib.Dec.{eqb}
-use lib.ListN.{length}
-use lib.IntN.{ℤ, pos, _+ℤ_, _-ℤ_, _*ℤ_, +ℤ-idr}
 use Rattle.orderbook.specs.declared.Side.{Side}
 use Rattle.orderbook.specs.declared.Side.the-variants.{Buy, Sell}
-use Rattle.orderbook.specs.declared.MaybePrice.{MaybePrice}
-use Rattle.orderbook.specs.declared.MaybePrice.the-variants.{None, Some}
-use Rattle.accounts.specs.declared.Account.{Account}
-use Rattle.accounts.specs.declared.Funds.{Funds}
-use Rattle.risk.specs.declared.Bucket.{Bucket}
-use Rattle.words.specs.Words.{int, fit, wrap}
+use Rattle.words.specs.Words.{int}
 use Rattle.words.proofs.Int.{int-zero}
-use Rattle.words.proofs.Wrap.{int-zero-wraps, fit-wraps}
-use Rattle.wallet.specs.Wallet as W
-use Rattle.table.specs.Live.{pick, Each}
+use Rattle.table.specs.Live.{pick}
 use Rattle.table.proofs.Live.{same?}
-use Rattle.gateway.specs.Limits.{owner-slots, most-orders}
 use Rattle.gateway.specs.Table.{update}
-use Rattle.gateway.specs.Ledger.{Order, Ledger, number-of, remove, with-orders, with-leaves, with-price, hold, order-hold, same-side, held, open-of, price-option}
-use Rattle.gateway.specs.Ledger as Ledger
-use Rattle.gateway.specs.Rest.{with-buckets}
-use Rattle.gateway.specs.Calls.{Gateway}
-use Rattle.gateway.proofs.Base.{split}
+use Rattle.gateway.specs.Ledger.{Order, number-of, remove, with-orders, order-hold, held, open-of}
 use Rattle.store.specs.Cells as C
-use Rattle.store.specs.View.{Row, Store, word, write, fill, side, maybe-price, order, account, wallet, bucket, ledger, depth, gateway, order-room, listed, Bounds}
-use Rattle.store.proofs.Listed.{listed-ext}
-use Rattle.store.proofs.Rows.{put-cell, row-here, row-there, row-unread}
+use Rattle.store.specs.View.{Row, Store, word, write, fill, side, order, ledger, depth, gateway}
+use Rattle.store.proofs.Rows.{put-cell}
 use Rattle.orders.specs.declared.Live.{Live}
-use Rattle.orders.specs.Orders.{Ordered, live-row, order-of, strike}
+use Rattle.orders.specs.Orders.{Ordered, live-row, strike}
 use Rattle.orders.specs.Orders as Orders
-use Rattle.orders.proofs.Views.{Touched, Did, put-cells, revised, bounds-from, revise-touched, retire-touched, revise-does, retire-does, live-parts}
+use Rattle.orders.proofs.Views.{Touched, Did, put-cells, revised, revise-touched, retire-touched, revise-does, retire-does, live-parts}
 use Rattle.levels.specs.Levels.{size, row}
-use Rattle.sound.specs.Sound.{Stored, held-cell, Held, Levels, Clients, Tables, Sound}
+use Rattle.sound.specs.Sound.{Stored, Clients, Tables, Sound}
 use Rattle.sound.proofs.Kept.{sided, levels-kept, clients-kept, clients-write}
 use Rattle.sound.proofs.Totals.{Swapped, Counts, open-parts, held-swapped}
-use Rattle.live.specs.Live.{At, number-at, with-ledger, hold-word, shift, revise, retire, left}
+use Rattle.live.specs.Live.{with-ledger, hold-word, shift, revise, retire}
 use Rattle.live.proofs.Accounts.{shift-view, open-view, tables-write, tables-shift, clients-shift, shift-counts, open-counts, hold-is, held-one, open-one}
 
 -- ---- the order in the row i

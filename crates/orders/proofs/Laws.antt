@@ -21,7 +21,7 @@ use Rattle.gateway.specs.Depth.{resting-number}
 use Rattle.gateway.specs.Ledger.{number-of}
 use Rattle.store.specs.Cells as C
 use Rattle.store.specs.Layout.{cell, start, spot, Cell, Holds, Set}
-use Rattle.store.specs.View.{Row, Store, Same, word, write, fill, order, resting, order-room, Is, Ready}
+use Rattle.store.specs.View.{Row, Store, Same, word, fill, order, resting, order-room, Is, Ready}
 use Rattle.store.proofs.Places.{header-cell, order-cell, hint-cell, cell-block}
 use Rattle.store.proofs.Rows.{then-set, then-fill, is-itself, same-write, same-fill, same-trans}
 use Rattle.orders.specs.declared.Live.{Live}

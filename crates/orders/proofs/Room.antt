@@ -8,7 +8,7 @@ use native.Mathlib.Omega.{arith}
 use borrow.Author.Tests.{ne-eqb, lt-ltb, ltb-true}
 use lib.Dec.{eqb, ltb}
 use lib.ListN.{length, getD, length-append, length-map}
-use Rattle.table.specs.Live.{pick, live, kept}
+use Rattle.table.specs.Live.{pick, live}
 use Rattle.table.proofs.Live.{same?}
 use Rattle.table.proofs.Packed.{Packed, packed-each, packed-ascends, packed-live}
 use Rattle.gateway.specs.Depth as D

@@ -1,5 +1,5 @@
 -- Accounts and sessions: each operation keeps the state sound. Assumes nothing.
-use mathlib.Core.Path.{_≡_, refl, sym, ap, _∙_}
+use mathlib.Core.Path.{_≡_, refl, _∙_}
 use mathlib.Core.Bool.{true, cond}
 use mathlib.Core.List.{List}
 use mathlib.Core.Option.{none}
@@ -14,9 +14,8 @@ use Rattle.gateway.specs.Basics.{is-some}
 use Rattle.gateway.specs.Limits.{owner-slots, session-slots}
 use Rattle.gateway.specs.Rest.{account-of}
 use Rattle.gateway.proofs.Base.{split}
-use Rattle.orderbook.specs.declared.Side.{Side}
 use Rattle.store.specs.Cells as C
-use Rattle.store.specs.View.{Store, word, write, flag, session, Bounds}
+use Rattle.store.specs.View.{Store, word, write, flag, session}
 use Rattle.orders.proofs.Views.{bounds-from}
 use Rattle.levels.specs.Levels.{row, size}
 use Rattle.clients.specs.Clients.{Limited, Linked}

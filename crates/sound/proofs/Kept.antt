@@ -1,30 +1,29 @@
 -- What leaves a part of the state alone keeps the part of the invariant that speaks of it. Assumes nothing.
-use mathlib.Core.Path.{_≡_, refl, sym, ap, ap₂, _∙_}
+use mathlib.Core.Path.{_≡_, refl, sym, ap, _∙_}
 use mathlib.Core.List.{List}
 use Prim.Native.Nat.{ℕ, _≤_, _<_}
 use native.Mathlib.Omega.{arith}
 use Rattle.orderbook.specs.declared.Side.{Side}
 use Rattle.orderbook.specs.declared.Side.the-variants.{Buy, Sell}
-use Rattle.words.specs.Words.{int, wrap}
+use Rattle.words.specs.Words.{wrap}
 use Rattle.table.proofs.Live.{live-ext, ascends-ext}
 use Rattle.gateway.specs.Limits.{owner-slots, session-slots, most-levels}
 use Rattle.gateway.specs.Ledger.{order-hold, held, open-of}
 use Rattle.gateway.specs.Depth as Depth
 use Rattle.gateway.specs.Calls.{Gateway}
 use Rattle.store.specs.Cells as C
-use Rattle.store.specs.Layout.{cell, Holds}
+use Rattle.store.specs.Layout.{cell}
 use Rattle.gateway.specs.Rest.{account-of}
-use Rattle.store.specs.View.{Row, Store, Same, Is, Bounds, word, write, order, session, ledger, depth, gateway}
+use Rattle.store.specs.View.{Row, Store, Same, Is, Bounds, word, write, session, depth, gateway}
 use Rattle.store.proofs.Places.{header-cell, account-cell, session-cell, command-cell}
 use Rattle.store.proofs.Rows.{put-cell, row-unread}
 use Rattle.clients.proofs.Links.{two-cells, linked-ext}
 use Rattle.clients.proofs.Limits.{limited-ext}
 use Rattle.store.proofs.Frames.{Agree, order-same, gateway-same}
-use Rattle.orders.specs.Orders.{Ordered}
 use Rattle.orders.proofs.Views.{Keeps, live-kept, resting-kept, ordered-kept, same-keeps, bounds-same}
 use Rattle.levels.specs.Levels.{block, count, key, row, size, entries, best}
 use Rattle.levels.proofs.Laws.{count-cell, block-cell}
-use Rattle.sound.specs.Sound.{Stored, held-cell, Held, Levels, Clients, Tables, Sound, State, Becomes}
+use Rattle.sound.specs.Sound.{Stored, held-cell, Held, Levels, Clients, Tables, Sound, Becomes}
 
 -- for each side
 pub sided : (P : Side → Type 0) → P Buy → P Sell → (z : Side) → P z

@@ -1,18 +1,12 @@
 -- What waits, and the words of the header: each operation keeps the state sound. Assumes nothing.
-use mathlib.Core.Path.{_≡_, refl, sym, ap, _∙_}
-use mathlib.Core.Bool.{true, false, cond}
-use mathlib.Core.List.{List, [], _∷_}
-use Prim.Native.Nat.{ℕ, suc, _+_, _-_, _^_, _≤_, _<_}
+use mathlib.Core.Path.{_≡_, ap}
+use Prim.Native.Nat.{ℕ, _+_, _-_, _≤_, _<_}
 use native.Mathlib.Omega.{arith}
-use lib.ListN.{length}
-use Rattle.orderbook.specs.declared.Side.{Side}
 use Rattle.orderbook.specs.declared.Command.{Command}
-use Rattle.gateway.specs.Limits.{owner-slots, most-notices, most-trades, most-in-flight, most-in-batch, most-changed}
+use Rattle.gateway.specs.Limits.{most-notices, most-trades, most-in-flight, most-in-batch, most-changed}
 use Rattle.gateway.specs.Rest.{account-of}
-use Rattle.gateway.specs.Depth as Depth
-use Rattle.gateway.proofs.Base.{split}
 use Rattle.store.specs.Cells as C
-use Rattle.store.specs.View.{Row, Store, word, write, fill, session, depth, Bounds}
+use Rattle.store.specs.View.{Row, Store, word, fill, session, Bounds}
 use Rattle.levels.specs.Levels.{row, size}
 use Rattle.store.proofs.Rows.{fill-elsewhere}
 use Rattle.clients.proofs.Links.{linked-ext}

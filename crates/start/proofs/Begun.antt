@@ -1,6 +1,6 @@
 -- The state that begins is sound and holds the definitions' start; an account more is one more of the start's accounts. Assumes nothing.
-use mathlib.Core.Path.{_≡_, refl, sym, ap, ap₂, _∙_}
-use mathlib.Core.Bool.{Bool, true, false, cond, _&&_}
+use mathlib.Core.Path.{_≡_, refl, sym, ap, _∙_}
+use mathlib.Core.Bool.{true}
 use mathlib.Core.List.{List, [], _∷_, _++_}
 use mathlib.Core.Option.{Option, none, some}
 use Prim.Native.Nat.{ℕ, zero, suc, _+_, _^_, _≤_, _<_}
@@ -17,14 +17,14 @@ use Rattle.orderbook.specs.declared.Side.the-variants.{Buy, Sell}
 use Rattle.risk.specs.declared.Bucket.{Bucket}
 use Rattle.words.specs.Words.{place-of, wrap}
 use Rattle.gateway.specs.Limits.{owner-slots, session-slots}
-use Rattle.gateway.specs.Ledger.{step, funds-of, held, holds-fit, wallets-fit, fits}
+use Rattle.gateway.specs.Ledger.{step, held, holds-fit, wallets-fit, fits}
 use Rattle.gateway.specs.Depth.{levels-few, levels-fit}
 use Rattle.gateway.specs.Fits.{MaybeFundsFit}
 use Rattle.gateway.specs.Calls.{Gateway}
 use Rattle.gateway.specs.Start.{entered, accounts-of, all-below, by-slot, bucket-of, funds-in, set-up, start-unless, started}
 use Rattle.gateway.proofs.Begin.{accounts-length}
 use Rattle.store.specs.Cells as C
-use Rattle.store.specs.Layout.{cell, Holds}
+use Rattle.store.specs.Layout.{cell}
 use Rattle.store.specs.View.{Store, word, fill, listed, gateway, zeros, Is}
 use Rattle.store.proofs.Rows.{then-fill}
 use Rattle.table.specs.Live.{live}

@@ -8,7 +8,7 @@ use lib.Dec.{ltb}
 use borrow.Author.Tests.{ltb-true, ltb-false}
 use lib.IntN.{ℤ, pos, negsuc, _+ℤ_, _-ℤ_}
 use Rattle.words.specs.Words.{half, least, most, int, _⊖_, Place, inside, above, below, place-of, nearest-to, fit-in, fit, clamp, wrap}
-use Rattle.words.proofs.Diff.{⊖-ind, pos-is, negsuc-is, ⊖-same, ⊖-add, ⊖-sub}
+use Rattle.words.proofs.Diff.{⊖-ind, pos-is, negsuc-is, ⊖-add, ⊖-sub}
 use Rattle.words.proofs.Int.{int-zero, int-most, int-least, low-is, high, high-is}
 use Rattle.words.proofs.Fit.{lies-in, lies-above, lies-below}
 

@@ -1,6 +1,5 @@
 use mathlib.Core.Path.{refl, ap, _∙_}
 use Rattle.words.proofs.Int.{read}
-use Rattle.pending.specs.Pending as P
 use borrow.Author.Needs.{needs}
 use Rattle.pending.proofs.batch.price_word.Statement.{statement}
 use Rattle.pending.proofs.batch.price_word.Tie as tie

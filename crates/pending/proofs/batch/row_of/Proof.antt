@@ -2,7 +2,6 @@ use native.Mathlib.Omega.{arith}
 use Rattle.gateway.specs.Ledger.{owner-of}
 use mathlib.Core.Path.{refl, ap, _∙_}
 use Rattle.words.proofs.Int.{read}
-use Rattle.pending.specs.Pending as P
 use borrow.Author.Needs.{needs}
 use Rattle.pending.proofs.batch.row_of.Statement.{statement}
 use Rattle.pending.proofs.batch.row_of.Tie as tie
