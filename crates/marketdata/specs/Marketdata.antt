@@ -1,0 +1,75 @@
+-- Resting orders and their levels: the rows that the operations speak of, and what they ask. An order's words are as in docs/STATE.md.
+use Prim.Native.Nat.{ℕ, _≤_, _<_}
+use mathlib.Core.Path.{_≡_}
+use mathlib.Core.Bool.{true}
+use mathlib.Core.List.{List}
+use mathlib.Core.Option.{none}
+use lib.ListN.{length}
+use Rattle.words.specs.Words.{int}
+use Rattle.gateway.specs.Limits.{word, most-changed}
+use Rattle.gateway.specs.Depth.{Depth, Key, level, key-of, find-resting, remember, levels-fit, depth-few}
+use Rattle.gateway.specs.Depth as D
+use Rattle.gateway.specs.Rest.{pending}
+use Rattle.gateway.specs.Calls.{Gateway}
+use Rattle.store.specs.Cells as C
+use Rattle.store.specs.View.{Store, side, resting, depth}
+use Rattle.store.specs.View as View
+use Rattle.orders.specs.declared.Resting.{Resting}
+use Rattle.orders.specs.Orders.{resting-row}
+
+-- the row i is that of the resting order o
+pub record At (i : ℕ) (o : Resting) (s : Store) : Type 0 where
+  pub inside : i < View.word s C.order-rows
+  pub rests : 0 < s C.orders i C.order-resting
+  pub is : o ≡ resting-row (s C.orders i)
+
+-- the row i bears the number n, and no order rests there
+pub record Free (i n : ℕ) (s : Store) : Type 0 where
+  pub inside : i < View.word s C.order-rows
+  pub number-is : s C.orders i C.order-number ≡ n
+  pub free : s C.orders i C.order-resting ≡ 0
+
+-- the order of the row i
+abbrev pub resting-at : ℕ → Store → D.Resting
+resting-at i s = resting (s C.orders i)
+
+-- the order of a number, with these words
+abbrev pub resting-of : ℕ → Resting → D.Resting
+resting-of n o = record { number = n; side = side (o .side); price = int (o .price); visible = o .visible; leaves = o .leaves }
+
+-- the level of a side's code and a price's word
+abbrev pub key : ℕ → ℕ → Key
+key z p = (side z, int p)
+
+-- ---- the gateway with another depth
+
+abbrev pub with-depth : (Depth → Depth) → Gateway → Gateway
+with-depth f g = record { core = g .core; rest = pending (f (g .rest .depth)) (g .rest .trades) (g .rest .notices) (g .rest) }
+
+abbrev pub with-resting : (List D.Resting → List D.Resting) → Depth → Depth
+with-resting f d = record { resting = f (d .resting); changed = d .changed }
+
+abbrev pub remembering : Key → Depth → Depth
+remembering k d = record { resting = d .resting; changed = remember k (d .changed) }
+
+-- ---- what the judging establishes of the depth after an operation
+
+-- code 5: room for the changed levels
+abbrev pub Roomy : Depth → Type 0
+Roomy d = length (d .changed) ≤ most-changed
+
+-- code 7: where the order r shows more than v, its level is in range
+abbrev pub Fits : ℕ → D.Resting → Depth → Type 0
+Fits v r d = (v < r .visible → level (key-of r) d .qty < word)
+
+-- an order that showed v is r now
+pub record CanShow (v : ℕ) (r : D.Resting) (d : Depth) : Type 0 where
+  pub fits : Fits v r (D.show r d)
+  pub room : Roomy (D.show r d)
+
+-- an order that comes: code 8, that it does not rest yet; no order has a later number than the last; codes 7 and 5
+pub record CanAdd (r : D.Resting) (s : Store) : Type 0 where
+  pub absent : find-resting (r .number) (depth s .resting) ≡ none
+  pub at-most-last : r .number ≤ View.word s C.last
+  pub fits : levels-fit (D.add r (depth s) .resting) ≡ true
+  pub few : depth-few (D.add r (depth s)) ≡ true
