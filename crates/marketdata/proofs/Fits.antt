@@ -37,5 +37,5 @@ reshown-at p v w [] h = absurd (omega arith)
 reshown-at p v w (l ∷ ls) h =
     split
     (λ b. (same-price p (l .price) ≡ b) → 0 < cond b l (level-in p ls) .orders →
-      level-in p (cond b (record { price = l .price; qty = l .qty - v + w; orders = l .orders } ∷ ls) (l ∷ reshown p v w ls)) .qty ≡ cond b l (level-in p ls) .qty - v + w)
+    level-in p (cond b (record { price = l .price; qty = l .qty - v + w; orders = l .orders } ∷ ls) (l ∷ reshown p v w ls)) .qty ≡ cond b l (level-in p ls) .qty - v + w)
     (same-price p (l .price)) (λ _ e k. rw e refl) (λ _ e k. rw e (reshown-at p v w ls k)) refl h

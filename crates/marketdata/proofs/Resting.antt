@@ -78,7 +78,7 @@ module _ {xs : List ℕ} (s : State xs) (i : ℕ) (inside : i < word (cell xs) C
     level-is = ap₂ D.level-in e (sym (side-levels (s .sound .tables) z .are)) ∙ level-found z k 0 (entries z (cell xs)) (entries-rise z table)
 
     -- its level is stored, shows it and counts it
-    level-can : CanRemove (r .visible) found
+    pub level-can : CanRemove (r .visible) found
     level-can = go found (let h = level-shows z r os asc there (same-mine z) in rw level-is at h)
       where
         go : (x : Option LRow.Row) → (r .visible ≤ level-of k x .qty) × (0 < level-of k x .orders) → CanRemove (r .visible) x
@@ -123,7 +123,7 @@ module _ {xs : List ℕ} (s : State xs) (i : ℕ) (inside : i < word (cell xs) C
           levels-step z d s (without D.resting-number (r .number) os) (remove-follows z k r os table (side-levels (s .sound .tables) z .are) (same-mine z) e asc there x q d)
           (other (parted (r .price) (r .visible)) (without D.resting-number (r .number) os) (λ w. levels-without w r os asc there))
 
-      gone-can : (i < order-room) × (0 < word (cell ys) C.resting-orders)
+      pub gone-can : (i < order-room) × (0 < word (cell ys) C.resting-orders)
       gone-can =
           let o = gone-follows .ordered in
           (omega (arith, inside-kept d, o .bounds .orders-fit), resting-some (cell ys) i o (inside-kept d) (rests-kept d))
@@ -168,19 +168,21 @@ module _ {xs : List ℕ} (s : State xs) (i : ℕ) (inside : i < word (cell xs) C
       showed-levels y = levels-replace y r os asc there r′ refl refl refl
 
       -- its level stays in range
-      show-can : (r .visible < w → D.level-in (r .price) (D.levels z showed) .qty < 2 ^ 64) → CanShow (r .visible) w found
+      pub show-can : (r .visible < w → D.level-in (r .price) (D.levels z showed) .qty < 2 ^ 64) → CanShow (r .visible) w found
       show-can h = go found level-is level-can
         where
           go : (x : Option LRow.Row) → D.level-in (r .price) (D.levels z os) ≡ level-of k x → CanRemove (r .visible) x → CanShow (r .visible) w x
           go none q c = c
-          go (some x) q c =
-              (c .0, λ b. ⊎-elim
-              (λ (m : r .visible < w).
-              let t = ap (D.level-in (r .price)) (showed-levels z ∙ ap (λ y. cond y (reshown (r .price) (r .visible) w (D.levels z os)) (D.levels z os)) (same-mine z)) in
-              let u = reshown-at (r .price) (r .visible) w (D.levels z os) (rw q (c .1)) in
-              omega (arith, h m, ap (λ y. y .qty) t, u, ap (λ y. y .qty) q))
-              (λ m. omega (arith, c .0))
-              (lt-or-le (r .visible) w))
+          go (some x) q c = (
+            c .0,
+            λ b. ⊎-elim
+                (λ (m : r .visible < w).
+                let t = ap (D.level-in (r .price)) (showed-levels z ∙ ap (λ y. cond y (reshown (r .price) (r .visible) w (D.levels z os)) (D.levels z os)) (same-mine z)) in
+                let u = reshown-at (r .price) (r .visible) w (D.levels z os) (rw q (c .1)) in
+                omega (arith, h m, ap (λ y. y .qty) t, u, ap (λ y. y .qty) q))
+                (λ m. omega (arith, c .0))
+                (lt-or-le (r .visible) w),
+          )
 
       module _ {ys : List ℕ} (d : L.Did z xs ys (shown k (r .visible) w (entries z (cell xs)))) where
         showed-follows : Follows showed (cell ys)
@@ -188,6 +190,9 @@ module _ {xs : List ℕ} (s : State xs) (i : ℕ) (inside : i < word (cell xs) C
             let (x, q) = level-row in
             levels-step z d s showed (show-follows z k r os table (side-levels (s .sound .tables) z .are) (same-mine z) e asc there x q r′ refl refl refl d)
             (other (reshown (r .price) (r .visible) w) showed showed-levels)
+
+        pub showed-can : i < order-room
+        showed-can = omega (arith, inside-kept d, showed-follows .ordered .bounds .orders-fit)
 
         showed-does : Did (cell ys) (Orders.show i w v (cell ys)) (ledger (cell ys) .orders) showed
         showed-does =

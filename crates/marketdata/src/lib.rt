@@ -15,3 +15,53 @@ fn side_of(code: u64) -> Side
 {
     if code == 0 { Side::Buy } else { Side::Sell }
 }
+
+// The level of that side, a code, and that price, a word, has changed.
+fn remember(m: &mut [u8], side: u64, price: u64)
+    requires { ⌜ State (now m) × P.Roomy (P.remembering (P.key side price) (depth (cell (now m)))) ⌝ }
+    ensures { λ r. ⌜ Becomes (now (m .exit)) (P.with-depth (P.remembering (P.key side price)) (gateway (cell (now (m .entry))))) ⌝ }
+{
+    pending::changed::remember(m, side, price);
+}
+
+// The order leaves its level and its row.
+fn strike(m: &mut [u8], i: usize, o: Resting)
+    requires { ⌜ State (now m) × P.At i o (cell (now m)) ⌝ }
+    ensures { λ r. ⌜ Becomes (now (m .exit)) (P.with-depth (P.with-resting (without D.resting-number (P.resting-at i (cell (now (m .entry))) .number))) (gateway (cell (now (m .entry))))) ⌝ }
+{
+    levels::remove(m, side_of(o.side), words::raised(o.price), o.visible);
+    orders::take_off(m, i);
+}
+
+// The order rests no more.
+pub fn remove(m: &mut [u8], i: usize, o: Resting)
+    requires { ⌜ State (now m) × P.At i o (cell (now m)) × P.Roomy (D.take-off (P.resting-at i (cell (now m))) (depth (cell (now m)))) ⌝ }
+    ensures { λ r. ⌜ Becomes (now (m .exit)) (P.with-depth (D.take-off (P.resting-at i (cell (now (m .entry))))) (gateway (cell (now (m .entry))))) ⌝ }
+{
+    strike(m, i, o);
+    remember(m, o.side, o.price);
+}
+
+// The order and its level show something else.
+fn reshow(m: &mut [u8], i: usize, o: Resting, visible: u64, leaves: u64)
+    requires { ⌜ State (now m) × P.At i o (cell (now m)) × P.Fits (o .visible) (D.showing visible leaves (P.resting-at i (cell (now m)))) (D.show (D.showing visible leaves (P.resting-at i (cell (now m)))) (depth (cell (now m)))) ⌝ }
+    ensures { λ r. ⌜ Becomes (now (m .exit)) (P.with-depth (P.with-resting (replace D.resting-number (D.showing visible leaves (P.resting-at i (cell (now (m .entry))))))) (gateway (cell (now (m .entry))))) ⌝ }
+{
+    levels::show(
+        m,
+        side_of(o.side),
+        words::raised(o.price),
+        o.visible,
+        visible,
+    );
+    orders::show(m, i, visible, leaves);
+}
+
+// The order shows `visible`, and `leaves` are left of it.
+pub fn show(m: &mut [u8], i: usize, o: Resting, visible: u64, leaves: u64)
+    requires { ⌜ State (now m) × P.At i o (cell (now m)) × P.CanShow (o .visible) (D.showing visible leaves (P.resting-at i (cell (now m)))) (depth (cell (now m))) ⌝ }
+    ensures { λ r. ⌜ Becomes (now (m .exit)) (P.with-depth (D.show (D.showing visible leaves (P.resting-at i (cell (now (m .entry)))))) (gateway (cell (now (m .entry))))) ⌝ }
+{
+    reshow(m, i, o, visible, leaves);
+    remember(m, o.side, o.price);
+}

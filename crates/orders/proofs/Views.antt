@@ -258,8 +258,8 @@ module _ (s : Store) (i : ℕ) (d : Ordered s) (l : i < word s C.order-rows) whe
           let y = ap (λ m. length (shown (λ j. read k f (t C.orders j)) m)) n in
           let z = ap (λ (q : Row). q k) (c .here) in
           omega arith
+          -- what stands before the row and behind it stays
 
-        -- what stands before the row and behind it stays
       row-parts : word t C.order-rows ≡ word s C.order-rows →
           (low : List A) × (high : List A) × (marked s k f ≡ low ++ (pick (was k) (f was) ++ high)) × (marked t k f ≡ low ++ (pick (r k) (f r) ++ high))
       row-parts n =
