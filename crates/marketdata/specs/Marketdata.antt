@@ -1,13 +1,15 @@
 -- Resting orders and their levels: the rows that the operations speak of, and what they ask. An order's words are as in docs/STATE.md.
 use Prim.Native.Nat.{ℕ, _≤_, _<_}
 use mathlib.Core.Path.{_≡_}
-use mathlib.Core.Bool.{true}
+use mathlib.Core.Bool.{Bool, true, _&&_}
 use mathlib.Core.List.{List}
 use mathlib.Core.Option.{none}
+use lib.Dec.{ltb, leb}
+use lib.IntN.{ℤ}
 use lib.ListN.{length}
 use Rattle.words.specs.Words.{int}
 use Rattle.gateway.specs.Limits.{word, most-changed}
-use Rattle.gateway.specs.Depth.{Depth, Key, level, key-of, find-resting, remember, levels-fit, depth-few}
+use Rattle.gateway.specs.Depth.{Depth, Key, level, key-of, same-price, find-resting, where-resting, remember, levels-fit, depth-few}
 use Rattle.gateway.specs.Depth as D
 use Rattle.gateway.specs.Rest.{pending}
 use Rattle.gateway.specs.Calls.{Gateway}
@@ -67,9 +69,39 @@ pub record CanShow (v : ℕ) (r : D.Resting) (d : Depth) : Type 0 where
   pub fits : Fits v r (D.show r d)
   pub room : Roomy (D.show r d)
 
+-- codes 7 and 5: every level is in range, and there is room
+pub record Judged (d : Depth) : Type 0 where
+  pub fits : levels-fit (d .resting) ≡ true
+  pub room : Roomy d
+
 -- an order that comes: code 8, that it does not rest yet; no order has a later number than the last; codes 7 and 5
 pub record CanAdd (r : D.Resting) (s : Store) : Type 0 where
   pub absent : find-resting (r .number) (depth s .resting) ≡ none
   pub at-most-last : r .number ≤ View.word s C.last
   pub fits : levels-fit (D.add r (depth s) .resting) ≡ true
   pub few : depth-few (D.add r (depth s)) ≡ true
+
+-- ---- events
+
+-- an iceberg shows its next part
+abbrev pub replenished : ℕ → D.Resting → Depth → Depth
+replenished v o = D.show (D.showing v (o .leaves) o)
+
+-- whether an order of price x with n open stays in place when a modify gives it price p with v open
+abbrev pub stays : ℤ → ℕ → ℤ → ℕ → Bool
+stays p v x n = ltb 0 v && (same-price p x && leb v n)
+
+-- what a fill asks: code 8, that it is at most what the order shows; code 5
+pub record CanFill (n q v : ℕ) (d : Depth) : Type 0 where
+  pub shows : D.shows n q (d .resting) ≡ true
+  pub room : Roomy (where-resting n (D.filled q v) d)
+
+-- of a trade's orders, with what is left of each; code 8, that they are two
+abbrev pub traded : ℕ → ℕ → ℕ → ℕ → ℕ → Depth → Depth
+traded taker maker q tl ml d = where-resting taker (D.filled q tl) (where-resting maker (D.filled q ml) d)
+
+pub record CanTrade (taker maker q tl ml : ℕ) (d : Depth) : Type 0 where
+  pub two : (taker ≡ maker → ⊥)
+  pub taker-shows : D.shows taker q (d .resting) ≡ true
+  pub maker-shows : D.shows maker q (d .resting) ≡ true
+  pub room : Roomy (traded taker maker q tl ml d)

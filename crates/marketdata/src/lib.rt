@@ -3,6 +3,8 @@
 use orderbook::Side;
 use orders::Resting;
 ghost use mathlib.Core.Path.{_≡_};
+ghost use Prim.Native.Nat.{_≤_};
+ghost use Rattle.words.specs.Words.{int};
 ghost use Rattle.table.specs.Live.{without, replace};
 ghost use Rattle.gateway.specs.Depth as D;
 ghost use Rattle.store.specs.Layout.{cell};
@@ -64,4 +66,55 @@ pub fn show(m: &mut [u8], i: usize, o: Resting, visible: u64, leaves: u64)
 {
     reshow(m, i, o, visible, leaves);
     remember(m, o.side, o.price);
+}
+
+// A trade took `qty` of what the order shows, and `leaves` are left of it.
+pub fn filled(m: &mut [u8], i: usize, o: Resting, qty: u64, leaves: u64)
+    requires { ⌜ State (now m) × P.At i o (cell (now m)) × (qty ≤ o .visible) × P.Roomy (D.filled qty leaves (P.resting-at i (cell (now m))) (depth (cell (now m)))) ⌝ }
+    ensures { λ r. ⌜ Becomes (now (m .exit)) (P.with-depth (D.filled qty leaves (P.resting-at i (cell (now (m .entry))))) (gateway (cell (now (m .entry))))) ⌝ }
+{
+    if leaves == 0 {
+        remove(m, i, o);
+        return;
+    }
+    show(m, i, o, o.visible - qty, leaves);
+}
+
+// An iceberg shows its next part.
+pub fn replenished(m: &mut [u8], i: usize, o: Resting, visible: u64)
+    requires { ⌜ State (now m) × P.At i o (cell (now m)) × P.Judged (P.replenished visible (P.resting-at i (cell (now m))) (depth (cell (now m)))) ⌝ }
+    ensures { λ r. ⌜ Becomes (now (m .exit)) (P.with-depth (P.replenished visible (P.resting-at i (cell (now (m .entry))))) (gateway (cell (now (m .entry))))) ⌝ }
+{
+    show(m, i, o, visible, o.leaves);
+}
+
+fn lesser(a: u64, b: u64) -> u64
+    ensures { λ r. ⌜ r ≡ D.lesser a b ⌝ }
+{
+    if a <= b { a } else { b }
+}
+
+// Whether a modify to that price and open quantity leaves the order in place.
+fn stays(o: Resting, price: u64, leaves: u64) -> bool
+    ensures { λ r. ⌜ r ≡ P.stays (int price) leaves (int (o .price)) (o .leaves) ⌝ }
+{
+    if leaves == 0 {
+        return false;
+    }
+    if price == o.price {
+        return leaves <= o.leaves;
+    }
+    false
+}
+
+// A modify left the order this price and this much open: it shrinks in place, or is taken off.
+pub fn modified(m: &mut [u8], i: usize, o: Resting, price: u64, leaves: u64)
+    requires { ⌜ State (now m) × P.At i o (cell (now m)) × P.Roomy (D.modified (int price) leaves (P.resting-at i (cell (now m))) (depth (cell (now m)))) ⌝ }
+    ensures { λ r. ⌜ Becomes (now (m .exit)) (P.with-depth (D.modified (int price) leaves (P.resting-at i (cell (now (m .entry))))) (gateway (cell (now (m .entry))))) ⌝ }
+{
+    if stays(o, price, leaves) {
+        show(m, i, o, lesser(o.visible, leaves), leaves);
+        return;
+    }
+    remove(m, i, o);
 }
