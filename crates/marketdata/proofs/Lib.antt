@@ -2,3 +2,4 @@ pub mod Steps
 pub mod Fits
 pub mod Resting
 pub mod Laws
+pub mod Events

@@ -2,6 +2,7 @@
 // A row is handed on by value, so that it is neither searched nor read twice.
 use orderbook::Side;
 use orders::Resting;
+use table::Found;
 ghost use mathlib.Core.Path.{_≡_};
 ghost use Prim.Native.Nat.{_≤_};
 ghost use Rattle.words.specs.Words.{int};
@@ -117,4 +118,64 @@ pub fn modified(m: &mut [u8], i: usize, o: Resting, price: u64, leaves: u64)
         return;
     }
     remove(m, i, o);
+}
+
+// The order has left the book, where it rests.
+pub fn on_cancelled(m: &mut [u8], number: u64)
+    requires { ⌜ State (now m) × P.Roomy (D.where-resting number D.take-off (depth (cell (now m)))) ⌝ }
+    ensures { λ r. ⌜ Becomes (now (m .exit)) (P.with-depth (D.where-resting number D.take-off) (gateway (cell (now (m .entry))))) ⌝ }
+{
+    if let Found::At(i) = orders::find_resting(m, number) {
+        let o = orders::resting_at(m, i);
+        remove(m, i, o);
+    }
+}
+
+// The order shows its next part, where it rests.
+pub fn on_replenished(m: &mut [u8], number: u64, visible: u64)
+    requires { ⌜ State (now m) × P.Judged (D.where-resting number (P.replenished visible) (depth (cell (now m)))) ⌝ }
+    ensures { λ r. ⌜ Becomes (now (m .exit)) (P.with-depth (D.where-resting number (P.replenished visible)) (gateway (cell (now (m .entry))))) ⌝ }
+{
+    if let Found::At(i) = orders::find_resting(m, number) {
+        let o = orders::resting_at(m, i);
+        replenished(m, i, o, visible);
+    }
+}
+
+// A modify left the order that price and that much open, where it rests.
+pub fn on_modified(m: &mut [u8], number: u64, price: u64, leaves: u64)
+    requires { ⌜ State (now m) × P.Roomy (D.where-resting number (D.modified (int price) leaves) (depth (cell (now m)))) ⌝ }
+    ensures { λ r. ⌜ Becomes (now (m .exit)) (P.with-depth (D.where-resting number (D.modified (int price) leaves)) (gateway (cell (now (m .entry))))) ⌝ }
+{
+    if let Found::At(i) = orders::find_resting(m, number) {
+        let o = orders::resting_at(m, i);
+        modified(m, i, o, price, leaves);
+    }
+}
+
+// A trade took `qty` of what the order shows, where it rests.
+fn on_filled(m: &mut [u8], number: u64, qty: u64, leaves: u64)
+    requires { ⌜ State (now m) × P.CanFill number qty leaves (depth (cell (now m))) ⌝ }
+    ensures { λ r. ⌜ Becomes (now (m .exit)) (P.with-depth (D.where-resting number (D.filled qty leaves)) (gateway (cell (now (m .entry))))) ⌝ }
+{
+    if let Found::At(i) = orders::find_resting(m, number) {
+        let o = orders::resting_at(m, i);
+        filled(m, i, o, qty, leaves);
+    }
+}
+
+// A trade of two orders, of which `taker_leaves` and `maker_leaves` are left. In an uncross both rest.
+pub fn on_trade(
+    m: &mut [u8],
+    taker: u64,
+    maker: u64,
+    qty: u64,
+    taker_leaves: u64,
+    maker_leaves: u64,
+)
+    requires { ⌜ State (now m) × P.CanTrade taker maker qty «taker_leaves» «maker_leaves» (depth (cell (now m))) ⌝ }
+    ensures { λ r. ⌜ Becomes (now (m .exit)) (P.with-depth (P.traded taker maker qty «taker_leaves» «maker_leaves») (gateway (cell (now (m .entry))))) ⌝ }
+{
+    on_filled(m, maker, qty, maker_leaves);
+    on_filled(m, taker, qty, taker_leaves);
 }
