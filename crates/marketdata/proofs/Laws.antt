@@ -27,7 +27,7 @@ use Rattle.pending.proofs.Views.{remember-view}
 use Rattle.sound.specs.Sound.{State, Becomes}
 use Rattle.sound.proofs.Kept.{becomes}
 use Rattle.marketdata.specs.Marketdata.{At, resting-at, key, with-depth, with-resting, remembering, Roomy, Fits, CanShow, Judged, replenished, stays}
-use Rattle.marketdata.proofs.Fits.{level-fits}
+use Rattle.marketdata.proofs.Fits.{level-fits, few-parts}
 use Rattle.marketdata.proofs.Steps.{side-table, remember-sound}
 use Rattle.marketdata.proofs.Resting.{level-can, gone-can, gone-done, show-can, showed-can, showed-done}
 
@@ -174,7 +174,7 @@ module _ (xs : List ℕ) (i : ℕ) (o : Resting) (a : At i o (cell xs)) where
 
     pub replenish-asks : Judged (replenished w it d) → CanShow (o .visible) (D.showing w (o .leaves) it) d
     unfolding D.show
-    replenish-asks h = rw (ap (λ (y : Resting). y .leaves) (a .is)) (record { fits = λ _. level-fits (it .side) (it .price) _ (h .fits); room = h .room })
+    replenish-asks h = rw (ap (λ (y : Resting). y .leaves) (a .is)) (record { fits = λ _. level-fits (it .side) (it .price) _ (h .fits); room = few-parts _ (h .few) .2 })
 
     pub replenish-done : {ys : List ℕ} → Becomes ys (with-depth (D.show (D.showing w (o .leaves) it)) (gateway (cell xs))) → Becomes ys (with-depth (replenished w it) (gateway (cell xs)))
     replenish-done {ys} b = subst (λ (x : D.Depth). Becomes ys (with-depth (λ _. x) (gateway (cell xs)))) (shows-next d) b

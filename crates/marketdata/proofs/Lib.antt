@@ -1,5 +1,6 @@
 pub mod Steps
 pub mod Fits
 pub mod Resting
+pub mod Rests
 pub mod Laws
 pub mod Events

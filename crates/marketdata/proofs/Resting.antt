@@ -41,10 +41,29 @@ module _ {xs : List ℕ} (s : State xs) (z : Side) {ys : List ℕ} {l : List LRo
   pub view-kept : gateway (cell ys) ≡ gateway (cell xs)
   view-kept = levels-view z d (s .sound .tables .ordered .bounds)
 
+  pub list-kept : depth (cell ys) .resting ≡ depth (cell xs) .resting
+  list-kept = ap (λ g. g .rest .depth .resting) view-kept
+
+  module _ (i : ℕ) (inside : i < word (cell xs) C.order-rows) where
+    pub inside-kept : i < word (cell ys) C.order-rows
+    inside-kept = rw (keeps z d s .rows-are) inside
+
+    pub cell-kept : (c : ℕ) → c < 16 → cell ys C.orders i c ≡ cell xs C.orders i c
+    cell-kept c h = keeps z d s .cells i c inside h
+
   pub row-done : {zs : List ℕ} {rs : List D.Resting} (t : Store) → Is zs t → Follows rs (cell ys) → Did (cell ys) t (ledger (cell ys) .orders) rs → Beyond (cell ys) t → Rows t →
       word t C.resting-orders ≤ most-orders → Becomes zs (with-depth (with-resting (λ _. rs)) (gateway (cell xs)))
   row-done {rs = rs} t h f e b r few =
       becomes h (orders-step f e b r few) (e .view ∙ ap (λ g. with-lists (g .core .ledger .orders) rs g) view-kept)
+
+-- what is stored of a level
+pub level-stored : {xs : List ℕ} → State xs → (z : Side) (k : ℕ) → D.level-in (price k) (D.levels z (depth (cell xs) .resting)) ≡ level-of k (look L.key k (entries z (cell xs)))
+level-stored {xs} s z k = ap (D.level-in (price k)) (sym (side-levels (s .sound .tables) z .are)) ∙ level-found z k 0 (entries z (cell xs)) (entries-rise z (side-table s z))
+
+-- the levels of the other side stay
+pub other-side : (r : D.Resting) (os rs : List D.Resting) (f : Side → List D.Level → List D.Level) → ((w : Side) → D.levels w rs ≡ on w r (f w) (D.levels w os)) →
+    (w : Side) → same-side w (r .side) ≡ false → D.levels w rs ≡ D.levels w os
+other-side r os rs f h w e = h w ∙ ap (λ b. cond b (f w (D.levels w os)) (D.levels w os)) e
 
 -- ---- a resting order
 
@@ -75,7 +94,7 @@ module _ {xs : List ℕ} (s : State xs) (i : ℕ) (inside : i < word (cell xs) C
     table = side-table s z
 
     level-is : D.level-in (r .price) (D.levels z os) ≡ level-of k found
-    level-is = ap₂ D.level-in e (sym (side-levels (s .sound .tables) z .are)) ∙ level-found z k 0 (entries z (cell xs)) (entries-rise z table)
+    level-is = ap (λ p. D.level-in p (D.levels z os)) e ∙ level-stored s z k
 
     -- its level is stored, shows it and counts it
     pub level-can : CanRemove (r .visible) found
@@ -92,27 +111,15 @@ module _ {xs : List ℕ} (s : State xs) (i : ℕ) (inside : i < word (cell xs) C
         go none q h = absurd h
         go (some x) q h = (x, q)
 
-    other : (f : List D.Level → List D.Level) (rs : List D.Resting) → ((w : Side) → D.levels w rs ≡ on w r f (D.levels w os)) → (w : Side) → same-side w z ≡ false → D.levels w rs ≡ D.levels w os
-    other f rs h w e = h w ∙ ap (λ b. cond b (f (D.levels w os)) (D.levels w os)) e
-
     -- what its row is after its level has changed
     module _ {ys : List ℕ} {l : List LRow.Row} (d : L.Did z xs ys l) where
-      inside-kept : i < word (cell ys) C.order-rows
-      inside-kept = rw (keeps z d s .rows-are) inside
-
-      cell-kept : (c : ℕ) → c < 16 → cell ys C.orders i c ≡ cell xs C.orders i c
-      cell-kept c h = keeps z d s .cells i c inside h
-
       rests-kept : 0 < cell ys C.orders i C.order-resting
-      rests-kept = rw (cell-kept C.order-resting (omega arith)) rests
+      rests-kept = rw (cell-kept s z d i inside C.order-resting (omega arith)) rests
 
       resting-kept : resting (cell ys C.orders i) ≡ r
       resting-kept =
-          rw (cell-kept C.order-number (omega arith), cell-kept C.order-rest-side (omega arith), cell-kept C.order-rest-price (omega arith), cell-kept C.order-visible (omega arith), cell-kept C.order-rest-leaves (omega arith))
+          rw (cell-kept s z d i inside C.order-number (omega arith), cell-kept s z d i inside C.order-rest-side (omega arith), cell-kept s z d i inside C.order-rest-price (omega arith), cell-kept s z d i inside C.order-visible (omega arith), cell-kept s z d i inside C.order-rest-leaves (omega arith))
           refl
-
-      list-kept : depth (cell ys) .resting ≡ os
-      list-kept = ap (λ g. g .rest .depth .resting) (view-kept s z d)
 
     -- ---- it goes
 
@@ -121,18 +128,18 @@ module _ {xs : List ℕ} (s : State xs) (i : ℕ) (inside : i < word (cell xs) C
       gone-follows =
           let (x, q) = level-row in
           levels-step z d s (without D.resting-number (r .number) os) (remove-follows z k r os table (side-levels (s .sound .tables) z .are) (same-mine z) e asc there x q d)
-          (other (parted (r .price) (r .visible)) (without D.resting-number (r .number) os) (λ w. levels-without w r os asc there))
+          (other-side r os (without D.resting-number (r .number) os) (λ w. parted (r .price) (r .visible)) (λ w. levels-without w r os asc there))
 
       pub gone-can : (i < order-room) × (0 < word (cell ys) C.resting-orders)
       gone-can =
           let o = gone-follows .ordered in
-          (omega (arith, inside-kept d, o .bounds .orders-fit), resting-some (cell ys) i o (inside-kept d) (rests-kept d))
+          (omega (arith, inside-kept s z d i inside, o .bounds .orders-fit), resting-some (cell ys) i o (inside-kept s z d i inside) (rests-kept d))
 
       gone-does : Did (cell ys) (Orders.take-off i (cell ys)) (ledger (cell ys) .orders) (without D.resting-number (r .number) os)
       gone-does =
           subst (λ rs. Did (cell ys) (Orders.take-off i (cell ys)) (ledger (cell ys) .orders) rs)
-          (ap₂ (λ (x : D.Resting) (l : List D.Resting). without D.resting-number (x .number) l) (resting-kept d) (list-kept d))
-          (take-off-does (cell ys) i (gone-follows .ordered) (inside-kept d) (rests-kept d))
+          (ap₂ (λ (x : D.Resting) (l : List D.Resting). without D.resting-number (x .number) l) (resting-kept d) (list-kept s z d))
+          (take-off-does (cell ys) i (gone-follows .ordered) (inside-kept s z d i inside) (rests-kept d))
 
       gone-beyond : Beyond (cell ys) (Orders.take-off i (cell ys))
       unfolding strike size
@@ -152,7 +159,7 @@ module _ {xs : List ℕ} (s : State xs) (i : ℕ) (inside : i < word (cell xs) C
 
       pub gone-done : {zs : List ℕ} → Is zs (Orders.take-off i (cell ys)) → Becomes zs (with-depth (with-resting (without D.resting-number (r .number))) (gateway (cell xs)))
       gone-done h =
-          let t = take-off-touched (cell ys) i (gone-follows .ordered) (inside-kept d) in
+          let t = take-off-touched (cell ys) i (gone-follows .ordered) (inside-kept s z d i inside) in
           row-done s z d (Orders.take-off i (cell ys)) h gone-follows gone-does gone-beyond (rows-touched i _ t refl (gone-words .0) gone-beyond gone-follows) (omega (arith, gone-words .1, gone-follows .resting-few))
 
     -- ---- it shows w, and v are left of it
@@ -189,16 +196,16 @@ module _ {xs : List ℕ} (s : State xs) (i : ℕ) (inside : i < word (cell xs) C
         showed-follows =
             let (x, q) = level-row in
             levels-step z d s showed (show-follows z k r os table (side-levels (s .sound .tables) z .are) (same-mine z) e asc there x q r′ refl refl refl d)
-            (other (reshown (r .price) (r .visible) w) showed showed-levels)
+            (other-side r os showed (λ y. reshown (r .price) (r .visible) w) showed-levels)
 
         pub showed-can : i < order-room
-        showed-can = omega (arith, inside-kept d, showed-follows .ordered .bounds .orders-fit)
+        showed-can = omega (arith, inside-kept s z d i inside, showed-follows .ordered .bounds .orders-fit)
 
         showed-does : Did (cell ys) (Orders.show i w v (cell ys)) (ledger (cell ys) .orders) showed
         showed-does =
             subst (λ rs. Did (cell ys) (Orders.show i w v (cell ys)) (ledger (cell ys) .orders) rs)
-            (ap₂ (λ (x : D.Resting) (l : List D.Resting). replace D.resting-number (D.showing w v x) l) (resting-kept d) (list-kept d))
-            (show-does (cell ys) i (showed-follows .ordered) (inside-kept d) w v (rests-kept d))
+            (ap₂ (λ (x : D.Resting) (l : List D.Resting). replace D.resting-number (D.showing w v x) l) (resting-kept d) (list-kept s z d))
+            (show-does (cell ys) i (showed-follows .ordered) (inside-kept s z d i inside) w v (rests-kept d))
 
         showed-beyond : Beyond (cell ys) (Orders.show i w v (cell ys))
         unfolding fill size
@@ -215,5 +222,5 @@ module _ {xs : List ℕ} (s : State xs) (i : ℕ) (inside : i < word (cell xs) C
         pub showed-done : {zs : List ℕ} → Is zs (Orders.show i w v (cell ys)) → Becomes zs (with-depth (with-resting (replace D.resting-number r′)) (gateway (cell xs)))
         unfolding fill
         showed-done h =
-            let t = show-touched (cell ys) i (showed-follows .ordered) (inside-kept d) w v in
+            let t = show-touched (cell ys) i (showed-follows .ordered) (inside-kept s z d i inside) w v in
             row-done s z d (Orders.show i w v (cell ys)) h showed-follows showed-does showed-beyond (rows-touched i _ t refl refl showed-beyond showed-follows) (showed-follows .resting-few)

@@ -1,23 +1,26 @@
 -- Resting orders and their levels: the rows that the operations speak of, and what they ask. An order's words are as in docs/STATE.md.
 use Prim.Native.Nat.{ℕ, _≤_, _<_}
 use mathlib.Core.Path.{_≡_}
-use mathlib.Core.Bool.{Bool, true, _&&_}
+use mathlib.Core.Bool.{Bool, true, false, _&&_}
 use mathlib.Core.List.{List}
 use mathlib.Core.Option.{none}
 use lib.Dec.{ltb, leb}
 use lib.IntN.{ℤ}
 use lib.ListN.{length}
 use Rattle.words.specs.Words.{int}
-use Rattle.gateway.specs.Limits.{word, most-changed}
+use Rattle.table.specs.Table.{Between}
+use Rattle.gateway.specs.Limits.{word, most-orders, most-changed}
 use Rattle.gateway.specs.Depth.{Depth, Key, level, key-of, same-price, find-resting, where-resting, remember, levels-fit, depth-few}
 use Rattle.gateway.specs.Depth as D
 use Rattle.gateway.specs.Rest.{pending}
 use Rattle.gateway.specs.Calls.{Gateway}
 use Rattle.store.specs.Cells as C
-use Rattle.store.specs.View.{Store, side, resting, depth}
+use Rattle.store.specs.Layout.{cell}
+use Rattle.store.specs.View.{Store, side, resting, depth, gateway}
 use Rattle.store.specs.View as View
 use Rattle.orders.specs.declared.Resting.{Resting}
 use Rattle.orders.specs.Orders.{resting-row}
+use Rattle.sound.specs.Sound.{Becomes}
 
 -- the row i is that of the resting order o
 pub record At (i : ℕ) (o : Resting) (s : Store) : Type 0 where
@@ -72,14 +75,39 @@ pub record CanShow (v : ℕ) (r : D.Resting) (d : Depth) : Type 0 where
 -- codes 7 and 5: every level is in range, and there is room
 pub record Judged (d : Depth) : Type 0 where
   pub fits : levels-fit (d .resting) ≡ true
-  pub room : Roomy d
+  pub few : depth-few d ≡ true
 
--- an order that comes: code 8, that it does not rest yet; no order has a later number than the last; codes 7 and 5
+-- an order that comes: code 8, that it does not rest yet; no order has a later number than the last
 pub record CanAdd (r : D.Resting) (s : Store) : Type 0 where
   pub absent : find-resting (r .number) (depth s .resting) ≡ none
   pub at-most-last : r .number ≤ View.word s C.last
-  pub fits : levels-fit (D.add r (depth s) .resting) ≡ true
-  pub few : depth-few (D.add r (depth s)) ≡ true
+  pub judged : Judged (D.add r (depth s))
+
+-- ---- a row for an order that comes
+
+-- what it asks of the number
+pub record CanOpen (n : ℕ) (s : Store) : Type 0 where
+  pub absent : find-resting n (depth s .resting) ≡ none
+  pub at-most-last : n ≤ View.word s C.last
+  pub room : View.word s C.resting-orders < most-orders
+
+-- no row bears the number n
+abbrev pub Missing : ℕ → Store → Type 0
+Missing n s = (j : ℕ) → j < View.word s C.order-rows → s C.orders j C.order-number ≡ n → ⊥
+
+-- whether the row i bears it, by the answer
+abbrev pub Bears : ℕ → ℕ → Store → Bool → Type 0
+Bears i n s true = (i < View.word s C.order-rows) × (s C.orders i C.order-number ≡ n)
+Bears i n s false = (i < View.word s C.order-rows → s C.orders i C.order-number ≡ n → ⊥)
+
+-- i is the first row whose number is not below n
+abbrev pub Sought : ℕ → ℕ → Store → Type 0
+Sought i n s = Between (λ j. s C.orders j C.order-number) (View.word s C.order-rows) n i i
+
+-- the row i of ys can take the order n, and the gateway is that of xs
+pub record Opens (xs ys : List ℕ) (n i : ℕ) : Type 0 where
+  pub same : Becomes ys (gateway (cell xs))
+  pub free : Free i n (cell ys)
 
 -- ---- events
 
