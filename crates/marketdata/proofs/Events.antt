@@ -1,6 +1,6 @@
 -- Events: what happens to an order where it rests, and that each is the definition's `apply`. Assumes nothing.
 use mathlib.Core.Path.{_≡_, refl, sym, ap, subst, _∙_}
-use mathlib.Core.Bool.{true, false, cond, _&&_, and-eq-true-iff}
+use mathlib.Core.Bool.{true, cond}
 use mathlib.Core.List.{List, [], _∷_, _++_}
 use mathlib.Core.Option.{Option, none, some}
 use Prim.Native.Nat.{ℕ, _-_, _≤_, _<_}
@@ -11,7 +11,8 @@ use lib.IntN.{ℤ}
 use lib.ListN.{length, length-append}
 use Rattle.orderbook.specs.declared.Side.{Side}
 use Rattle.orderbook.specs.declared.CancelReason.{CancelReason}
-use Rattle.orderbook.specs.declared.Event.the-variants.{Trade, Replenished, Cancelled, Modified}
+use Rattle.orderbook.specs.declared.Event.the-variants.{Rested, Trade, Replenished, Cancelled, Modified}
+use Rattle.words.specs.Words.{int}
 use Rattle.table.specs.Live.{look, without, replace}
 use Rattle.table.specs.declared.Found.{Found}
 use Rattle.table.specs.declared.Found.the-variants.{At, Nothing}
@@ -20,12 +21,12 @@ use Rattle.gateway.specs.Depth as D
 use Rattle.gateway.proofs.Base.{split}
 use Rattle.store.specs.Cells as C
 use Rattle.store.specs.Layout.{cell, Holds}
-use Rattle.store.specs.View.{Ready, resting, depth, gateway, order-room}
+use Rattle.store.specs.View.{Ready, side, resting, depth, gateway, order-room}
 use Rattle.orders.specs.declared.Resting.{Resting}
 use Rattle.orders.specs.Orders.{Sorted, Sees, resting-row}
 use Rattle.sound.specs.Sound.{State, Becomes}
 use Rattle.marketdata.specs.Marketdata as P
-use Rattle.marketdata.specs.Marketdata.{with-depth, resting-at, Roomy, Judged, CanFill, CanTrade, replenished, traded}
+use Rattle.marketdata.specs.Marketdata.{with-depth, resting-at, resting-of, Roomy, Judged, CanFill, CanTrade, replenished, traded}
 
 -- ---- each is the definition's `apply`
 
@@ -44,6 +45,10 @@ cancelled-applies n q why d = refl
 pub modified-applies : (n : ℕ) (p : ℤ) (q v : ℕ) (d : D.Depth) → D.apply (Modified n p q v) d ≡ D.where-resting n (D.modified p v) d
 unfolding D.apply
 modified-applies n p q v d = refl
+
+pub rested-applies : (n : ℕ) (o : Resting) (d : D.Depth) → D.apply (Rested n (side (o .side)) (int (o .price)) (o .leaves) (o .visible)) d ≡ D.add (resting-of n o) d
+unfolding D.apply
+rested-applies n o d = refl
 
 -- ---- where the order rests
 

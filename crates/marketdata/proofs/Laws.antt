@@ -9,10 +9,11 @@ use lib.Dec.{leb}
 use lib.ListN.{length}
 use Rattle.orderbook.specs.declared.Side.{Side}
 use Rattle.words.specs.Words.{int, half, _⊖_}
-use Rattle.table.specs.Live.{look, without, replace}
+use Rattle.table.specs.Live.{look, without, insert, replace}
 use Rattle.gateway.specs.Limits.{most-changed}
 use Rattle.gateway.specs.Depth as D
 use Rattle.gateway.proofs.Base.{split}
+use Rattle.gateway.proofs.Sorted.{length-insert}
 use Rattle.gateway.proofs.Levels.{same-itself}
 use Rattle.store.specs.Cells as C
 use Rattle.store.specs.Layout.{cell, Holds}
@@ -26,10 +27,11 @@ use Rattle.pending.proofs.Keys.{same-price-is}
 use Rattle.pending.proofs.Views.{remember-view}
 use Rattle.sound.specs.Sound.{State, Becomes}
 use Rattle.sound.proofs.Kept.{becomes}
-use Rattle.marketdata.specs.Marketdata.{At, resting-at, key, with-depth, with-resting, remembering, Roomy, Fits, CanShow, Judged, replenished, stays}
+use Rattle.marketdata.specs.Marketdata.{At, Free, number-at, resting-at, resting-of, key, with-depth, with-resting, remembering, Roomy, Fits, CanShow, Judged, CanAdd, CanOpen, Opens, replenished, stays}
 use Rattle.marketdata.proofs.Fits.{level-fits, few-parts}
 use Rattle.marketdata.proofs.Steps.{side-table, remember-sound}
 use Rattle.marketdata.proofs.Resting.{level-can, gone-can, gone-done, show-can, showed-can, showed-done}
+use Rattle.marketdata.proofs.Rests.{add-can, rest-can, rest-done}
 
 -- ---- a level has changed
 
@@ -201,5 +203,60 @@ module _ (xs : List ℕ) (i : ℕ) (o : Resting) (a : At i o (cell xs)) where
 
     pub modify-off-done : {ys : List ℕ} (b : Bool) → b ≡ stay → b ≡ false → Becomes ys (with-depth (D.take-off it) (gateway (cell xs))) → Becomes ys (with-depth (D.modified (int p) v it) (gateway (cell xs)))
     modify-off-done {ys} b e t h = subst (λ (x : D.Depth). Becomes ys (with-depth (λ _. x) (gateway (cell xs)))) (sym (modified-is false (sym t ∙ e) d)) h
+
+-- ---- an order that comes
+
+module _ {xs : List ℕ} (s : State xs) (i n : ℕ) (o : Resting) (f : Free i n (cell xs)) (j : Judged (D.add (resting-of n o) (depth (cell xs)))) (z : Side) (k : ℕ) (zq : z ≡ side (o .side)) (kq : int (o .price) ≡ k ⊖ half) where
+  pub levels-add-asks : Table z xs × L.CanAdd (L.size z (cell xs)) (o .visible) (look L.key k (entries z (cell xs)))
+  levels-add-asks = rw zq (side-table s (side (o .side)), add-can s n o j k kq)
+
+  module _ {ys : List ℕ} (d : L.Did z xs ys (L.added k (o .visible) (entries z (cell xs)))) where
+    added : L.Did (side (o .side)) xs ys (L.added k (o .visible) (entries (side (o .side)) (cell xs)))
+    added = rw zq at d
+
+    pub rest-asks : Holds ys × (i < order-room) × (word (cell ys) C.resting-orders < order-room)
+    rest-asks = let t = rest-can s n o j k kq added i (f .inside) (f .number-is) (f .free) in (d .table .holds, t .0, t .1)
+
+    pub join-done : {zs : List ℕ} → Is zs (Orders.rest i o (cell ys)) → Becomes zs (with-depth (with-resting (insert D.resting-number (resting-of n o))) (gateway (cell xs)))
+    join-done h = rest-done s n o j k kq added i (f .inside) (f .number-is) (f .free) h
+
+module _ {xs : List ℕ} (s : State xs) (n : ℕ) (o : Resting) (c : CanAdd (resting-of n o) (cell xs)) where
+  abbrev r″ : D.Resting
+  r″ = resting-of n o
+
+  pub row-asks : CanOpen n (cell xs)
+  unfolding D.add
+  row-asks =
+      record {
+        absent = c .absent;
+        at-most-last = c .at-most-last;
+        room = omega (arith, length-insert D.resting-number r″ (depth (cell xs) .resting), few-parts (D.add r″ (depth (cell xs))) (c .judged .few) .0, s .sound .tables .ordered .counted .resting-count);
+      }
+
+  module _ {ys : List ℕ} (i : ℕ) (p : Opens xs ys n i) where
+    pub join-asks : State ys × Free i (number-at i (cell ys)) (cell ys) × Judged (D.add (resting-of (number-at i (cell ys)) o) (depth (cell ys)))
+    join-asks =
+        let f = p .free in (
+          p .same .state,
+          record { inside = f .inside; number-is = refl; free = f .free },
+          rw (f .number-is, ap (λ g. g .rest .depth) (p .same .gateway-is)) (c .judged),
+        )
+
+    module _ {zs : List ℕ} (b : Becomes zs (with-depth (with-resting (insert D.resting-number (resting-of (number-at i (cell ys)) o))) (gateway (cell ys)))) where
+      rested : Becomes zs (with-depth (with-resting (insert D.resting-number r″)) (gateway (cell xs)))
+      rested =
+          record {
+            state = b .state;
+            gateway-is =
+                b .gateway-is ∙ ap₂ (λ m g. with-depth (with-resting (insert D.resting-number (resting-of m o))) g) (p .free .number-is) (p .same .gateway-is);
+          }
+
+      pub added-asks : State zs × Roomy (remembering (key (o .side) (o .price)) (depth (cell zs)))
+      unfolding D.add
+      added-asks = remember-asks xs (insert D.resting-number r″) rested (key (o .side) (o .price)) (few-parts (D.add r″ (depth (cell xs))) (c .judged .few) .2)
+
+      pub add-done : {ws : List ℕ} → Becomes ws (with-depth (remembering (key (o .side) (o .price))) (gateway (cell zs))) → Becomes ws (with-depth (D.add r″) (gateway (cell xs)))
+      unfolding D.add
+      add-done e = remembered xs (insert D.resting-number r″) rested (key (o .side) (o .price)) e
 
 pub ruleset laws = (remember-done, levels-remove-asks, take-off-asks, strike-done, levels-show-asks, show-asks, reshow-done, off-asks, remove-done, shown-asks, show-done, fill-off-asks, fill-off-done, fill-show-asks, fill-show-done, replenish-asks, replenish-done, modify-show-asks, modify-show-done, modify-off-asks, modify-off-done, none-left, same-left, other-left, lesser-first, lesser-second, arith)

@@ -2,5 +2,6 @@ pub mod Steps
 pub mod Fits
 pub mod Resting
 pub mod Rests
+pub mod Places
 pub mod Laws
 pub mod Events

@@ -1,15 +1,13 @@
 -- A resting order goes, or shows something else: its level and its row follow, and the state stays sound. Assumes nothing.
 use mathlib.Core.Path.{_≡_, refl, sym, ap, ap₂, subst, _∙_}
 use mathlib.Core.Logic.{⊎-elim}
-use mathlib.Core.Bool.{true, false, cond}
-use mathlib.Core.List.{List, [], _∷_}
+use mathlib.Core.Bool.{false, cond}
+use mathlib.Core.List.{List}
 use mathlib.Core.Option.{Option, none, some}
-use Prim.Native.Nat.{ℕ, _+_, _-_, _^_, _≤_, _<_}
+use Prim.Native.Nat.{ℕ, _-_, _^_, _≤_, _<_}
 use native.Mathlib.Omega.{arith}
 use Rattle.orderbook.specs.declared.Side.{Side}
-use Rattle.orderbook.specs.declared.Side.the-variants.{Buy, Sell}
 use Rattle.le.proofs.Laws.{lt-or-le}
-use Rattle.words.specs.Words.{int, half, _⊖_}
 use Rattle.table.specs.Live.{look, without, replace}
 use Rattle.gateway.specs.Limits.{most-orders}
 use Rattle.gateway.specs.Ledger.{same-side}
@@ -17,21 +15,21 @@ use Rattle.gateway.specs.Depth as D
 use Rattle.gateway.proofs.Sorted.{Rises}
 use Rattle.gateway.proofs.Levels.{parted, reshown, on, levels-without, levels-replace, level-shows}
 use Rattle.store.specs.Cells as C
-use Rattle.store.specs.Layout.{cell, Holds}
+use Rattle.store.specs.Layout.{cell}
 use Rattle.store.specs.View.{Row, Store, Is, word, fill, side, resting, ledger, depth, gateway, order-room}
 use Rattle.orders.specs.declared.Resting.{Resting}
-use Rattle.orders.specs.Orders.{Ordered, resting-row, strike}
+use Rattle.orders.specs.Orders.{Ordered, strike}
 use Rattle.orders.specs.Orders as Orders
 use Rattle.orders.proofs.Views.{Did, with-lists, resting-rises, resting-at, resting-some, take-off-touched, take-off-does, show-touched, show-does}
 use Rattle.levels.specs.declared.Row as LRow
-use Rattle.levels.specs.Levels.{row, size, entries, best, price, removed, shown, Table, CanRemove, CanShow}
+use Rattle.levels.specs.Levels.{row, size, entries, price, removed, shown, Table, CanRemove, CanShow}
 use Rattle.levels.specs.Levels as L
 use Rattle.levels.proofs.Best.{level-of, level-found}
 use Rattle.levels.proofs.Follows.{entries-rise, remove-follows, show-follows}
 use Rattle.levels.proofs.Views.{levels-view}
-use Rattle.sound.specs.Sound.{Sound, State, Becomes}
+use Rattle.sound.specs.Sound.{State, Becomes}
 use Rattle.sound.proofs.Kept.{sided, becomes}
-use Rattle.marketdata.specs.Marketdata.{At, with-depth, with-resting, Fits}
+use Rattle.marketdata.specs.Marketdata.{with-depth, with-resting}
 use Rattle.marketdata.proofs.Fits.{same-mine, reshown-at}
 use Rattle.marketdata.proofs.Steps.{Follows, Beyond, Rows, side-levels, side-table, keeps, levels-step, rows-touched, orders-step}
 

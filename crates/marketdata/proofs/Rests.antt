@@ -1,9 +1,9 @@
 -- An order comes to rest in a row of the table: its level and its row follow, and the state stays sound. Assumes nothing.
 use mathlib.Core.Path.{_≡_, refl, sym, ap, ap₂, subst, _∙_}
-use mathlib.Core.Bool.{true, false, cond}
-use mathlib.Core.List.{List, [], _∷_}
+use mathlib.Core.Bool.{cond}
+use mathlib.Core.List.{List}
 use mathlib.Core.Option.{Option, none, some}
-use Prim.Native.Nat.{ℕ, suc, _+_, _^_, _≤_, _<_}
+use Prim.Native.Nat.{ℕ, _^_, _≤_, _<_}
 use native.Mathlib.Omega.{arith}
 use lib.ListN.{length}
 use Rattle.orderbook.specs.declared.Side.{Side}
@@ -12,15 +12,15 @@ use Rattle.table.specs.Live.{look, insert}
 use Rattle.gateway.specs.Limits.{most-orders, most-levels}
 use Rattle.gateway.specs.Depth as D
 use Rattle.gateway.proofs.Counted.{levels-best}
-use Rattle.gateway.proofs.Levels.{on, levels-peopled, levels-insert}
+use Rattle.gateway.proofs.Levels.{levels-peopled, levels-insert}
 use Rattle.store.specs.Cells as C
 use Rattle.store.specs.Layout.{cell}
-use Rattle.store.specs.View.{Store, Is, word, fill, ledger, depth, gateway, order-room}
+use Rattle.store.specs.View.{Is, word, fill, ledger, depth, gateway, order-room}
 use Rattle.orders.specs.declared.Resting.{Resting}
 use Rattle.orders.specs.Orders.{rest}
 use Rattle.orders.proofs.Views.{Did, rest-touched, rest-does}
 use Rattle.levels.specs.declared.Row as LRow
-use Rattle.levels.specs.Levels.{row, size, entries, best, price, added, CanAdd}
+use Rattle.levels.specs.Levels.{row, size, entries, price, added, CanAdd}
 use Rattle.levels.specs.Levels as L
 use Rattle.levels.proofs.Best.{level-of, best-length}
 use Rattle.levels.proofs.Follows.{entries-length, add-follows}
@@ -82,17 +82,16 @@ module _ {xs : List ℕ} (s : State xs) (n : ℕ) (o : Resting) (judged : Judged
             joined-length z (r .price) (r .visible) (D.levels z os) (levels-peopled z os) (ap (λ y. y .orders) q),
             levels-stored,
           )
-      go (some x) q =
-          (
-            omega (
-              arith,
-              fits,
-              ap (λ ls. D.level-in (r .price) ls .qty) joins-levels,
-              joined-at z (r .price) (r .visible) (D.levels z os) (levels-best z os),
-              ap (λ y. y .qty) q,
-            ),
-            omega (arith, levels-orders z (r .price) os, ap (λ y. y .orders) q, orders-few),
-          )
+      go (some x) q = (
+        omega (
+          arith,
+          fits,
+          ap (λ ls. D.level-in (r .price) ls .qty) joins-levels,
+          joined-at z (r .price) (r .visible) (D.levels z os) (levels-best z os),
+          ap (λ y. y .qty) q,
+        ),
+        omega (arith, levels-orders z (r .price) os, ap (λ y. y .orders) q, orders-few),
+      )
 
   module _ {ys : List ℕ} (d : L.Did z xs ys (added k (r .visible) (entries z (cell xs)))) where
     follows : Follows more (cell ys)

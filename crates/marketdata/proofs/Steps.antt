@@ -1,8 +1,7 @@
 -- What an operation does in steps: first a side's levels change, then the row of the order, then the list of changed levels. Between the first
 -- two the levels are those of the list of orders to come. Assumes nothing.
 use mathlib.Core.Path.{_≡_, refl, sym, ap, _∙_}
-use mathlib.Core.Logic.{⊎-elim}
-use mathlib.Core.Bool.{false, true, cond, true≢false}
+use mathlib.Core.Bool.{false, cond}
 use mathlib.Core.List.{List, [], _∷_, _++_}
 use Prim.Native.Nat.{ℕ, _+_, _≤_, _<_}
 use native.Mathlib.Omega.{arith}
@@ -11,20 +10,20 @@ use Rattle.orderbook.specs.declared.Side.{Side}
 use Rattle.orderbook.specs.declared.Side.the-variants.{Buy, Sell}
 use Rattle.words.specs.Words.{int, wrap}
 use Rattle.table.specs.Live.{Ascends}
-use Rattle.table.proofs.Live.{same?, live-ext, ascends-ext}
+use Rattle.table.proofs.Live.{live-ext, ascends-ext}
 use Rattle.gateway.specs.Limits.{owner-slots, most-orders, most-levels, most-changed}
 use Rattle.gateway.specs.Ledger.{order-hold, same-side, held, open-of}
 use Rattle.gateway.specs.Depth.{Resting, is-changed}
 use Rattle.gateway.specs.Depth as D
 use Rattle.gateway.proofs.Base.{split}
 use Rattle.store.specs.Cells as C
-use Rattle.store.specs.Layout.{cell, Holds}
+use Rattle.store.specs.Layout.{cell}
 use Rattle.store.specs.View.{Row, Store, Bounds, word, fill, order, ledger, depth, changed-key}
 use Rattle.store.proofs.Places.{header-cell, account-cell, order-cell}
 use Rattle.store.proofs.Listed.{listed-length}
 use Rattle.orders.specs.declared.Live.{Live}
 use Rattle.orders.specs.Orders.{Ordered, live-row, order-of}
-use Rattle.orders.proofs.Views.{Touched, Did, Keeps, same-rows, live-kept, ordered-kept}
+use Rattle.orders.proofs.Views.{Touched, Did, Keeps, same-rows, ordered-kept}
 use Rattle.levels.specs.declared.Row as LRow
 use Rattle.levels.specs.Levels.{block, count, row, size, entries, best, Table}
 use Rattle.levels.specs.Levels as L
@@ -32,7 +31,7 @@ use Rattle.levels.proofs.Laws.{header-not-block}
 use Rattle.levels.proofs.Follows.{Holding}
 use Rattle.levels.proofs.Views.{asks-stay, bids-stay}
 use Rattle.pending.specs.Pending as Pending
-use Rattle.sound.specs.Sound.{Stored, held-cell, Held, Levels, Tables, Sound, State}
+use Rattle.sound.specs.Sound.{Stored, Held, Levels, Tables, Sound, State}
 use Rattle.sound.proofs.Kept.{sided, caches, total-same, held-kept, numbered-kept, sound-beside}
 use Rattle.marketdata.specs.Marketdata.{key, Roomy, remembering}
 

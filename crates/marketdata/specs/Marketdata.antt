@@ -34,6 +34,9 @@ pub record Free (i n : ℕ) (s : Store) : Type 0 where
   pub number-is : s C.orders i C.order-number ≡ n
   pub free : s C.orders i C.order-resting ≡ 0
 
+abbrev pub number-at : ℕ → Store → ℕ
+number-at i s = s C.orders i C.order-number
+
 -- the order of the row i
 abbrev pub resting-at : ℕ → Store → D.Resting
 resting-at i s = resting (s C.orders i)

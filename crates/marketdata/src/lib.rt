@@ -2,14 +2,15 @@
 // A row is handed on by value, so that it is neither searched nor read twice.
 use orderbook::Side;
 use orders::Resting;
+use store::cells;
 use table::Found;
 ghost use mathlib.Core.Path.{_≡_};
 ghost use Prim.Native.Nat.{_≤_};
 ghost use Rattle.words.specs.Words.{int};
-ghost use Rattle.table.specs.Live.{without, replace};
+ghost use Rattle.table.specs.Live.{without, insert, replace};
 ghost use Rattle.gateway.specs.Depth as D;
 ghost use Rattle.store.specs.Layout.{cell};
-ghost use Rattle.store.specs.View.{side, depth, gateway};
+ghost use Rattle.store.specs.View.{side, depth, gateway, Ready};
 ghost use Rattle.sound.specs.Sound.{State, Becomes};
 ghost use Rattle.marketdata.specs.Marketdata as P;
 
@@ -66,6 +67,73 @@ pub fn show(m: &mut [u8], i: usize, o: Resting, visible: u64, leaves: u64)
     ensures { λ r. ⌜ Becomes (now (m .exit)) (P.with-depth (D.show (D.showing visible leaves (P.resting-at i (cell (now (m .entry)))))) (gateway (cell (now (m .entry))))) ⌝ }
 {
     reshow(m, i, o, visible, leaves);
+    remember(m, o.side, o.price);
+}
+
+// Whether the row i is in use and bears that number.
+fn bears(m: &[u8], i: usize, number: u64) -> bool
+    requires { ⌜ Ready (now m) ⌝ }
+    ensures { λ r. ⌜ P.Bears i number (cell (now (m .entry))) r ⌝ }
+{
+    if store::get(m, store::HEADER, 0, cells::ORDER_ROWS) <= i as u64 {
+        return false;
+    }
+    if store::get(m, store::ORDERS, i, cells::ORDER_NUMBER) == number {
+        return true;
+    }
+    false
+}
+
+// A new row of that number, between the others.
+fn new_row(m: &mut [u8], number: u64) -> usize
+    requires { ⌜ State (now m) × P.CanOpen number (cell (now m)) × P.Missing number (cell (now m)) ⌝ }
+    ensures { λ r. ⌜ P.Opens (now (m .entry)) (now (m .exit)) number r ⌝ }
+{
+    orders::make_room(m);
+    let i = orders::place_of(m, number);
+    orders::open_row(m, i, number);
+    i
+}
+
+// The row of an order that is not live: a tombstone, or a new row.
+fn dead_row(m: &mut [u8], number: u64) -> usize
+    requires { ⌜ State (now m) × P.CanOpen number (cell (now m)) ⌝ }
+    ensures { λ r. ⌜ P.Opens (now (m .entry)) (now (m .exit)) number r ⌝ }
+{
+    let i = orders::place_of(m, number);
+    if bears(m, i, number) {
+        return i;
+    }
+    new_row(m, number)
+}
+
+// A row in which that order can rest.
+fn row_for(m: &mut [u8], number: u64) -> usize
+    requires { ⌜ State (now m) × P.CanOpen number (cell (now m)) ⌝ }
+    ensures { λ r. ⌜ P.Opens (now (m .entry)) (now (m .exit)) number r ⌝ }
+{
+    if let Found::At(i) = orders::find_live(m, number) {
+        return i;
+    }
+    dead_row(m, number)
+}
+
+// The order joins its level, and rests in its row.
+fn join(m: &mut [u8], i: usize, o: Resting)
+    requires { ⌜ State (now m) × P.Free i (P.number-at i (cell (now m))) (cell (now m)) × P.Judged (D.add (P.resting-of (P.number-at i (cell (now m))) o) (depth (cell (now m)))) ⌝ }
+    ensures { λ r. ⌜ Becomes (now (m .exit)) (P.with-depth (P.with-resting (insert D.resting-number (P.resting-of (P.number-at i (cell (now (m .entry)))) o))) (gateway (cell (now (m .entry))))) ⌝ }
+{
+    levels::add(m, side_of(o.side), words::raised(o.price), o.visible);
+    orders::rest(m, i, o);
+}
+
+// The order of that number rests.
+pub fn add(m: &mut [u8], number: u64, o: Resting)
+    requires { ⌜ State (now m) × P.CanAdd (P.resting-of number o) (cell (now m)) ⌝ }
+    ensures { λ r. ⌜ Becomes (now (m .exit)) (P.with-depth (D.add (P.resting-of number o)) (gateway (cell (now (m .entry))))) ⌝ }
+{
+    let i = row_for(m, number);
+    join(m, i, o);
     remember(m, o.side, o.price);
 }
 

@@ -1,4 +1,4 @@
-use mathlib.Core.Path.{refl, ap, sym}
+use mathlib.Core.Path.{ap, sym}
 use mathlib.Core.Bool.{cond, not}
 use borrow.Author.Tests.{eq-eqb, ne-eqb}
 use Rattle.orderbook.specs.declared.Side.the-variants.{Buy, Sell}
