@@ -25,7 +25,7 @@ use Rattle.levels.specs.Levels.{block, row, size}
 use Rattle.sound.specs.Sound.{Stored, Sound, State, Becomes}
 use Rattle.sound.proofs.Kept.{sided, becomes}
 use Rattle.marketdata.specs.Marketdata.{Free, CanOpen, Missing, Bears, Sought, Opens}
-use Rattle.marketdata.proofs.Steps.{Beyond, Rows, follows-itself, orders-step}
+use Rattle.marketdata.proofs.Steps.{beyond-same, Beyond, Rows, follows-itself, orders-step}
 
 -- ---- a row that bears the number
 
@@ -157,16 +157,8 @@ module _ {xs : List ℕ} (s : State xs) (n : ℕ) (c : CanOpen n (cell xs)) (mis
       each = open-row-each (cell ys) i n (now-sound .tables .ordered) made-room (b .top) low high
 
       beyond : Beyond (cell ys) t
-      unfolding open-row fill opened size
-      beyond =
-          record {
-            live-are = refl;
-            last-is = refl;
-            flying-is = refl;
-            sizes = sided (λ z. size z t ≡ size z (cell ys)) refl refl;
-            levels-are = sided (λ z. (j : ℕ) → row z t j ≡ row z (cell ys) j) (λ j. refl) (λ j. refl);
-            caches-are = λ a. refl;
-          }
+      unfolding open-row fill opened
+      beyond = beyond-same (cell ys) t refl
 
       words : (word t C.order-rows ≡ word (cell ys) C.order-rows + 1) × (word t C.resting-orders ≡ word (cell ys) C.resting-orders)
       unfolding open-row fill opened

@@ -22,16 +22,16 @@ use Rattle.orders.specs.Orders.{Ordered, strike}
 use Rattle.orders.specs.Orders as Orders
 use Rattle.orders.proofs.Views.{Did, with-lists, resting-rises, resting-at, resting-some, take-off-touched, take-off-does, show-touched, show-does}
 use Rattle.levels.specs.declared.Row as LRow
-use Rattle.levels.specs.Levels.{row, size, entries, price, removed, shown, Table, CanRemove, CanShow}
+use Rattle.levels.specs.Levels.{row, entries, price, removed, shown, Table, CanRemove, CanShow}
 use Rattle.levels.specs.Levels as L
 use Rattle.levels.proofs.Best.{level-of, level-found}
 use Rattle.levels.proofs.Follows.{entries-rise, remove-follows, show-follows}
 use Rattle.levels.proofs.Views.{levels-view}
 use Rattle.sound.specs.Sound.{State, Becomes}
-use Rattle.sound.proofs.Kept.{sided, becomes}
+use Rattle.sound.proofs.Kept.{becomes}
 use Rattle.marketdata.specs.Marketdata.{with-depth, with-resting}
 use Rattle.marketdata.proofs.Fits.{same-mine, reshown-at}
-use Rattle.marketdata.proofs.Steps.{Follows, Beyond, Rows, side-levels, side-table, keeps, levels-step, rows-touched, orders-step}
+use Rattle.marketdata.proofs.Steps.{beyond-same, Follows, Beyond, Rows, side-levels, side-table, keeps, levels-step, rows-touched, orders-step}
 
 -- ---- after the levels, the row
 
@@ -140,16 +140,8 @@ module _ {xs : List ℕ} (s : State xs) (i : ℕ) (inside : i < word (cell xs) C
           (take-off-does (cell ys) i (gone-follows .ordered) (inside-kept s z d i inside) (rests-kept d))
 
       gone-beyond : Beyond (cell ys) (Orders.take-off i (cell ys))
-      unfolding strike size
-      gone-beyond =
-          record {
-            live-are = refl;
-            last-is = refl;
-            flying-is = refl;
-            sizes = sided (λ w. size w (Orders.take-off i (cell ys)) ≡ size w (cell ys)) refl refl;
-            levels-are = sided (λ w. (j : ℕ) → row w (Orders.take-off i (cell ys)) j ≡ row w (cell ys) j) (λ j. refl) (λ j. refl);
-            caches-are = λ a. refl;
-          }
+      unfolding strike
+      gone-beyond = beyond-same (cell ys) (Orders.take-off i (cell ys)) refl
 
       gone-words : (word (Orders.take-off i (cell ys)) C.order-rows ≡ word (cell ys) C.order-rows) × (word (Orders.take-off i (cell ys)) C.resting-orders ≤ word (cell ys) C.resting-orders)
       unfolding strike
@@ -206,16 +198,8 @@ module _ {xs : List ℕ} (s : State xs) (i : ℕ) (inside : i < word (cell xs) C
             (show-does (cell ys) i (showed-follows .ordered) (inside-kept s z d i inside) w v (rests-kept d))
 
         showed-beyond : Beyond (cell ys) (Orders.show i w v (cell ys))
-        unfolding fill size
-        showed-beyond =
-            record {
-              live-are = refl;
-              last-is = refl;
-              flying-is = refl;
-              sizes = sided (λ y. size y (Orders.show i w v (cell ys)) ≡ size y (cell ys)) refl refl;
-              levels-are = sided (λ y. (j : ℕ) → row y (Orders.show i w v (cell ys)) j ≡ row y (cell ys) j) (λ j. refl) (λ j. refl);
-              caches-are = λ a. refl;
-            }
+        unfolding fill
+        showed-beyond = beyond-same (cell ys) (Orders.show i w v (cell ys)) refl
 
         pub showed-done : {zs : List ℕ} → Is zs (Orders.show i w v (cell ys)) → Becomes zs (with-depth (with-resting (replace D.resting-number r′)) (gateway (cell xs)))
         unfolding fill

@@ -25,10 +25,9 @@ use Rattle.levels.specs.Levels as L
 use Rattle.levels.proofs.Best.{level-of, best-length}
 use Rattle.levels.proofs.Follows.{entries-length, add-follows}
 use Rattle.sound.specs.Sound.{State, Becomes}
-use Rattle.sound.proofs.Kept.{sided}
 use Rattle.marketdata.specs.Marketdata.{resting-of, with-depth, with-resting, Judged}
 use Rattle.marketdata.proofs.Fits.{same-mine, level-fits, joined-at, joined-length, levels-orders, few-levels, few-parts}
-use Rattle.marketdata.proofs.Steps.{Follows, Beyond, side-levels, side-table, levels-step, rows-touched}
+use Rattle.marketdata.proofs.Steps.{beyond-same, Follows, Beyond, side-levels, side-table, levels-step, rows-touched}
 use Rattle.marketdata.proofs.Resting.{list-kept, inside-kept, cell-kept, row-done, level-stored, other-side}
 
 module _ {xs : List ℕ} (s : State xs) (n : ℕ) (o : Resting) (judged : Judged (D.add (resting-of n o) (depth (cell xs)))) (k : ℕ) (e : int (o .price) ≡ price k) where
@@ -110,16 +109,8 @@ module _ {xs : List ℕ} (s : State xs) (n : ℕ) (o : Resting) (judged : Judged
           (rest-does (cell ys) i (follows .ordered) (inside-kept s z d i inside) o (cell-kept s z d i inside C.order-resting (omega arith) ∙ free))
 
       beyond : Beyond (cell ys) (rest i o (cell ys))
-      unfolding rest fill size
-      beyond =
-          record {
-            live-are = refl;
-            last-is = refl;
-            flying-is = refl;
-            sizes = sided (λ w. size w (rest i o (cell ys)) ≡ size w (cell ys)) refl refl;
-            levels-are = sided (λ w. (j : ℕ) → row w (rest i o (cell ys)) j ≡ row w (cell ys) j) (λ j. refl) (λ j. refl);
-            caches-are = λ a. refl;
-          }
+      unfolding rest fill
+      beyond = beyond-same (cell ys) (rest i o (cell ys)) refl
 
       rows-are : word (rest i o (cell ys)) C.order-rows ≡ word (cell ys) C.order-rows
       unfolding rest fill

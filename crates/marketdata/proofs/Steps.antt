@@ -166,7 +166,26 @@ pub record Beyond (s t : Store) : Type 0 where
   pub levels-are : (z : Side) (j : ℕ) → row z t j ≡ row z s j
   pub caches-are : (a : ℕ) → caches t a ≡ caches s a
 
--- and its live orders are those of s
+-- the words and rows of that
+abbrev pub outside : Store → ℕ × ℕ × ℕ × ℕ × ℕ × (ℕ → Row) × (ℕ → Row) × (ℕ → Row)
+outside s = (word s C.live-orders, word s C.last, word s C.flying, word s C.bid-levels, word s C.ask-levels, s C.bids, s C.asks, s C.accounts)
+
+pub beyond-same : (s t : Store) → outside t ≡ outside s → Beyond s t
+unfolding size
+beyond-same s t e =
+    record {
+      live-are = ap (λ x. x .0) e;
+      last-is = ap (λ x. x .1) e;
+      flying-is = ap (λ x. x .2) e;
+      sizes = sided (λ z. size z t ≡ size z s) (ap (λ x. x .3) e) (ap (λ x. x .4) e);
+      levels-are = sided (λ z. (j : ℕ) → row z t j ≡ row z s j) (λ j. ap (λ x. level (x .5 j)) e) (λ j. ap (λ x. level (x .6 j)) e);
+      caches-are = λ a. ap (λ x. (x .7 a C.account-cash-held, x .7 a C.account-position-held, x .7 a C.account-open-orders)) e;
+    }
+  where
+    level : Row → LRow.Row
+    level r = record { key = r C.level-price; qty = r C.level-qty; orders = r C.level-orders }
+
+-- its numbers are at most the last, and its live rows store what they hold
 pub record Rows (t : Store) : Type 0 where
   pub numbers : (j : ℕ) → j < word t C.order-rows → t C.orders j C.order-number ≤ word t C.last
   pub stored : (j : ℕ) → j < word t C.order-rows → 0 < t C.orders j C.order-live → Stored (t C.orders j)
