@@ -8,6 +8,7 @@ use mathlib.Core.List.{List, [], _∷_, _++_, append-assoc, append-nil}
 use native.Mathlib.Omega.{arith}
 use borrow.Author.Tests.{lt-ltb, le-ltb, lt-leb, le-leb, eq-eqb, ne-eqb, eqb-true}
 use lib.Dec.{eqb, ltb, leb}
+use lib.ListN.{length, length-append}
 use lib.IntN.{ℤ, pos, negsuc}
 use lib.Signed.{leZ, ltZ}
 use Rattle.orderbook.specs.declared.Side.{Side}
@@ -21,7 +22,7 @@ use native.Mathlib.Numerals.{add-one}
 use Rattle.gateway.proofs.Base.{split, if-map}
 use Rattle.le.proofs.Laws.{lt-or-le}
 use Rattle.gateway.specs.Basics.{option}
-use Rattle.gateway.specs.Depth.{Level, same-price, better, joined}
+use Rattle.gateway.specs.Depth.{Level, same-price, better, joined, level-in}
 use Rattle.gateway.proofs.Sorted.{Rises}
 use Rattle.gateway.proofs.Levels.{same-itself, better-apart, better-differs, one, at-level, before-level, after-level, compared, parted, reshown}
 use Rattle.levels.specs.declared.Row.{Row}
@@ -237,3 +238,45 @@ module _ (k v : ℕ) where
     where
       less : Level → Level
       less m = record { price = m .price; qty = m .qty - v; orders = m .orders - 1 }
+
+-- ---- the level of a key
+
+-- behind others of other prices, and before one of another
+level-past : (p : ℤ) (xs ys : List Level) → Each (λ m. same-price p (m .price) ≡ false) xs → level-in p (xs ++ ys) ≡ level-in p ys
+level-past p [] ys t = refl
+level-past p (x ∷ xs) ys t = rw (t .0) (level-past p xs ys (t .1))
+
+level-ahead : (p : ℤ) (xs : List Level) (y : Level) → same-price p (y .price) ≡ false → level-in p (xs ++ (y ∷ [])) ≡ level-in p xs
+level-ahead p [] y h = rw h refl
+level-ahead p (x ∷ xs) y h = ap (cond (same-price p (x .price)) x) (level-ahead p xs y h)
+
+-- what a lookup finds, as a level
+abbrev pub level-of : ℕ → Option Row → Level
+level-of k o = option (record { price = price k; qty = 0; orders = 0 }) level o
+
+-- the lookup of a key finds the level at its price
+pub level-found : (s : Side) (k n : ℕ) (l : List Row) → Rises key n l → level-in (price k) (best s l) ≡ level-of k (look key k l)
+unfolding look
+level-found Sell k n [] t = refl
+level-found Buy k n [] t = refl
+level-found Sell k n (r ∷ l) t =
+    let u = level-found Sell k (suc (r .key)) l (t .1) in
+    three k (r .key)
+    (λ e. rw (eq-eqb (r .key) k (sym e), ap (same-price (price k)) (ap price (sym e)) ∙ same-itself (price k)) refl)
+    (λ h. rw (ne-eqb (r .key) k (λ e. omega arith), apart k (r .key) h .0) u)
+    (λ h. rw (ne-eqb (r .key) k (λ e. omega arith), apart (r .key) k h .1) u)
+level-found Buy k n (r ∷ l) t =
+    let u = level-found Buy k (suc (r .key)) l (t .1) in
+    three k (r .key)
+    (λ e.
+    level-past (price k) (best Buy l) (level r ∷ []) (apart-above k (suc (r .key)) (omega arith) l (t .1))
+    ∙ rw (eq-eqb (r .key) k (sym e), ap (same-price (price k)) (ap price (sym e)) ∙ same-itself (price k)) refl)
+    (λ h. level-ahead (price k) (best Buy l) (level r) (apart k (r .key) h .0) ∙ rw (ne-eqb (r .key) k (λ e. omega arith)) u)
+    (λ h. level-ahead (price k) (best Buy l) (level r) (apart (r .key) k h .1) ∙ rw (ne-eqb (r .key) k (λ e. omega arith)) u)
+
+-- as many levels as rows
+pub best-length : (s : Side) (l : List Row) → length (best s l) ≡ length l
+best-length Sell [] = refl
+best-length Buy [] = refl
+best-length Sell (r ∷ l) = ap suc (best-length Sell l)
+best-length Buy (r ∷ l) = length-append (best Buy l) (level r ∷ []) ∙ add-one (length (best Buy l)) ∙ ap suc (best-length Buy l)

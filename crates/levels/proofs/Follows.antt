@@ -5,7 +5,9 @@ use mathlib.Core.Path.{_≡_, refl, sym, ap, _∙_}
 use mathlib.Core.Bool.{true}
 use mathlib.Core.Option.{some}
 use mathlib.Core.List.{List, [], _∷_, _++_}
+use native.Mathlib.Numerals.{add-one}
 use native.Mathlib.Omega.{arith}
+use lib.ListN.{length, length-append}
 use Rattle.orderbook.specs.declared.Side.{Side}
 use Rattle.table.specs.Live.{Each, live, look, insert, replace, without, Ascends}
 use Rattle.table.proofs.Live.{each-live}
@@ -14,6 +16,7 @@ use Rattle.gateway.specs.Depth.{Resting, resting-number, joined, levels}
 use Rattle.gateway.proofs.Sorted.{Rises}
 use Rattle.gateway.proofs.Levels.{parted, reshown, levels-insert, levels-without, levels-replace}
 use Rattle.store.specs.Layout.{cell}
+use Rattle.store.specs.View.{Store}
 use Rattle.levels.specs.declared.Row.{Row}
 use Rattle.levels.specs.Levels.{key, row, size, entries, price, best, added, shown, removed, Table, Did}
 use Rattle.levels.proofs.Best.{best-added, best-shown, best-removed}
@@ -32,6 +35,15 @@ rises-live f (suc n) s =
 pub entries-rise : (s : Side) {xs : List ℕ} → Table s xs → Rises key 0 (entries s (cell xs))
 unfolding entries
 entries-rise s {xs} t = rises-live (row s (cell xs)) (size s (cell xs)) (t .asc)
+
+live-length : (f : ℕ → Row) (n : ℕ) → length (live (λ r. 1) f n) ≡ n
+unfolding live
+live-length f zero = refl
+live-length f (suc n) = length-append (live (λ r. 1) f n) (f n ∷ []) ∙ add-one (length (live (λ r. 1) f n)) ∙ ap suc (live-length f n)
+
+pub entries-length : (s : Side) (t : Store) → length (entries s t) ≡ size s t
+unfolding entries
+entries-length s t = live-length (row s t) (size s t)
 
 -- xs holds the levels of a side of os
 abbrev pub Holding : Side → List ℕ → List Resting → Type 0

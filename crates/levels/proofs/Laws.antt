@@ -255,14 +255,14 @@ module _ (s : Side) {xs : List ℕ} (t : Table s xs) where
   pub show-in : (k i v w : ℕ) → Sought s xs k i → CanShow v w (look key k (entries s (cell xs))) → (i < size s (cell xs)) × (row s (cell xs) i .key ≡ k) × CanShow v w (some (row s (cell xs) i))
   show-in k i v w b p = there (CanShow v w) k i b (λ x. x) p
 
-  pub show-is : {ys : List ℕ} (k i v w : ℕ) (r : Row) → CanShow v w (look key k (entries s (cell xs))) → Sought s xs k i → r ≡ row s (cell xs) i → r .key < 2 ^ 64 → r .orders < 2 ^ 64 →
+  pub show-is : {ys : List ℕ} (k i v w : ℕ) (r : Row) → CanShow v w (look key k (entries s (cell xs))) → Sought s xs k i → r ≡ row s (cell xs) i → r .key < 2 ^ 64 → r .qty < 2 ^ 64 → r .orders < 2 ^ 64 →
       ys ≡ puts widths xs (base s + 32 * i) (r .key ∷ (r .qty - v + w) ∷ r .orders ∷ []) → Did s xs ys (shown k v w (entries s (cell xs)))
-  show-is {ys} k i v w r p b e f g u =
+  show-is {ys} k i v w r p b e f c g u =
       let h = show-in k i v w b p in
       let q = ap (λ (x : Row). x .qty) e in
       rw (at-some s t b (h .0) (h .1))
       (subst (λ x. Did s xs ys (replace key (changed v w x) (entries s (cell xs)))) e
-      (replace-did s t i (changed v w r) (h .0) (f, (omega (arith, h .2 .1), (g, tt))) (ap key e) u))
+      (replace-did s t i (changed v w r) (h .0) (f, (omega (arith, h .2 .1 (rw (← q) c)), (g, tt))) (ap key e) u))
 
   pub remove-in : (k i v : ℕ) → Sought s xs k i → CanRemove v (look key k (entries s (cell xs))) → (i < size s (cell xs)) × (row s (cell xs) i .key ≡ k) × CanRemove v (some (row s (cell xs) i))
   remove-in k i v b p = there (CanRemove v) k i b (λ x. x) p

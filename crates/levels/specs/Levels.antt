@@ -138,9 +138,10 @@ abbrev pub CanAdd : ℕ → ℕ → Option Row → Type 0
 CanAdd n v none = n < most-levels
 CanAdd n v (some r) = Joins v r
 
+-- a stored quantity is a number of 64 bits, so that one that falls stays in range
 abbrev pub CanShow : ℕ → ℕ → Option Row → Type 0
 CanShow v w none = ⊥
-CanShow v w (some r) = (v ≤ r .qty) × (r .qty - v + w < 2 ^ 64)
+CanShow v w (some r) = (v ≤ r .qty) × (r .qty < 2 ^ 64 → r .qty - v + w < 2 ^ 64)
 
 abbrev pub CanRemove : ℕ → Option Row → Type 0
 CanRemove v none = ⊥

@@ -21,7 +21,7 @@ use Rattle.orders.proofs.Views.{Touched, Did, new-row, append-touched, append-d
 use Rattle.orders.proofs.Room.{make-room-does, make-room-room, make-room-each, make-room-other}
 use Rattle.levels.specs.Levels.{block, size, row}
 use Rattle.sound.specs.Sound.{Stored, held-cell, Clients, Tables, Sound}
-use Rattle.sound.proofs.Kept.{levels-kept, clients-kept, clients-write}
+use Rattle.sound.proofs.Kept.{levels-kept, clients-kept, clients-write, clients-room}
 use Rattle.sound.proofs.Totals.{Swapped, Counts, held-swapped}
 use Rattle.live.specs.Live.{CanPlace, with-ledger, holding, placing, shift, place}
 use Rattle.live.proofs.Accounts.{shift-view, open-view, tables-write, tables-shift, clients-shift, shift-counts, open-counts, hold-is, held-one, open-one}
@@ -141,19 +141,9 @@ module _ (s : Store) (d : Sound s) (n : ℕ) (o : Live) (can : CanPlace n o s) w
   unfolding place
   tables-placed = tables-shift _ _ _ _ _ (tables-write _ _ _ grown tables-grown)
 
-  -- accounts, sessions and the batch stay where they are
   clients-grown : Clients grown
   unfolding Orders.append fill
-  clients-grown =
-      clients-kept
-      (λ i l. ap (λ (r : Row). account-of (session r)) (λ z k. elsewhere C.sessions i k (λ e. omega arith) (λ e. omega arith) (λ e. omega arith) z))
-      (λ a l z. (account-kept a C.account-session z, account-kept a C.account-max-open z, account-kept a C.account-rate z))
-      (word-kept C.waiting (λ e. omega arith))
-      (λ j l. elsewhere C.batch j C.command-owner (λ e. omega arith) (λ e. omega arith) (λ e. omega arith))
-      (d .clients)
-    where
-      elsewhere : (b i k : ℕ) → (b ≡ C.orders → ⊥) → (b ≡ C.hints → ⊥) → (b ≡ C.header → ⊥) → roomy b i k ≡ s b i k
-      elsewhere b i k x y z = make-room-other s (d .tables .ordered) b i k x y (λ e f. z e)
+  clients-grown = clients-kept (λ i l. refl) (λ a l. refl) refl (λ j l. refl) (clients-room s (d .tables .ordered) (d .clients))
 
   clients-placed : Clients (place n o s)
   unfolding place

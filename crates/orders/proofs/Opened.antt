@@ -59,18 +59,22 @@ module _ (s : Store) (i n : ℕ) (d : Ordered s) (room : word s C.order-rows < o
   ascends : Ascends (λ k. k) (λ j. row j C.order-number) (next + 1)
   ascends = ascends-open (λ k. k) (gap (λ r. r C.order-number)) (d .sorted .ascends) (λ j l. rw number-here (low j l)) (λ j h l. rw number-here (high j h l))
 
-  flags : (j : ℕ) → j < next + 1 → Flags (row j)
-  flags j l =
+  -- what is true of every row, and of the new one, is true of every row after
+  pub open-row-each : (P : Row → Type 0) → ((j : ℕ) → j < next → P (s C.orders j)) → P (row i) → (j : ℕ) → j < next + 1 → P (row j)
+  open-row-each P h x j l =
       ⊎-elim
-      (λ (e : j ≡ i). rw (e, touched .here) (record { live-is = omega arith; resting-is = omega arith; kept-is = refl }))
+      (λ (e : j ≡ i). rw e x)
       (λ ne.
       ⊎-elim
-      (λ (h : j < i). rw (before j h) (d .sorted .flags j (omega arith)))
-      (λ (h : i ≤ j).
+      (λ (g : j < i). rw (before j g) (h j (omega arith)))
+      (λ (g : i ≤ j).
       let e : j ≡ j - 1 + 1 = omega (arith, ne) in
-      rw (e, behind (j - 1) (omega (arith, ne)) (omega (arith, ne))) (d .sorted .flags (j - 1) (omega (arith, ne))))
+      rw (e, behind (j - 1) (omega (arith, ne)) (omega (arith, ne))) (h (j - 1) (omega (arith, ne))))
       (lt-or-le j i))
       (same? j i)
+
+  flags : (j : ℕ) → j < next + 1 → Flags (row j)
+  flags = open-row-each Flags (d .sorted .flags) (rw (touched .here) (record { live-is = omega arith; resting-is = omega arith; kept-is = refl }))
 
   marked-open : {A : Type 0} (k : ℕ) (f : Row → A) (number : A → ℕ) → ((r : Row) → number (f r) ≡ r C.order-number) → row i k ≡ 0 →
       map (λ (p : ℕ × A). p .1) (live (λ (p : ℕ × A). p .0) (λ j. (row j k, f (row j))) (next + 1)) ≡ marked s k f
@@ -106,5 +110,5 @@ module _ (s : Store) (i n : ℕ) (d : Ordered s) (room : word s C.order-rows < o
       }
 
   -- it bears the number, and an order can rest there
-  pub open-row-here : (row i C.order-number ≡ n) × (row i C.order-resting ≡ 0)
-  open-row-here = (number-here, ap (λ (r : Row). r C.order-resting) (touched .here))
+  pub open-row-here : (row i C.order-number ≡ n) × (row i C.order-resting ≡ 0) × (row i C.order-live ≡ 0)
+  open-row-here = (number-here, ap (λ (r : Row). r C.order-resting) (touched .here), ap (λ (r : Row). r C.order-live) (touched .here))

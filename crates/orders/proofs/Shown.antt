@@ -15,6 +15,7 @@ use Rattle.table.specs.Live.{pick, Each, Changed, live, look, without, insert, 
 use Rattle.table.proofs.Live.{live-ext, live-more, live-dead, live-strike, live-replace, live-revive, each-live, change-swap}
 use Rattle.gateway.specs.Table.{update}
 use Rattle.gateway.proofs.Base.{split, if-map}
+use Rattle.gateway.proofs.Sorted.{Rises}
 
 -- ---- a map over what the tables of the definitions do, where it keeps the keys
 
@@ -80,6 +81,26 @@ module _ {A : Type 0} (p q : ℕ → ℕ × A) (n : ℕ) where
 
   pub shown-dead : ((j : ℕ) → j < n → q j ≡ p j) → q n .0 ≡ 0 → shown q (n + 1) ≡ shown p n
   shown-dead h m = ap (map (λ (x : ℕ × A). x .1)) (live-dead (λ (x : ℕ × A). x .0) q n m) ∙ shown-ext h
+
+-- the numbers rise
+module _ {A : Type 0} (number : A → ℕ) where
+  rises-more : (a : ℕ) (l : List A) (k : ℕ) (y : A) → Rises number a l → Each (λ r. number r < number y) l → a ≤ number y → Rises number a (l ++ pick k y)
+  rises-more a [] zero y t e h = tt
+  rises-more a [] (suc k) y t e h = (h, tt)
+  rises-more a (x ∷ l) k y t e h = (t .0, rises-more (suc (number x)) l k y (t .1) (e .1) (e .0))
+
+  each-value : (P : A → Type 0) (l : List (ℕ × A)) → Each (λ (x : ℕ × A). P (x .1)) l → Each P (map (λ (x : ℕ × A). x .1) l)
+  each-value P [] t = tt
+  each-value P (x ∷ l) t = (t .0, each-value P l (t .1))
+
+  pub shown-rises : (p : ℕ → ℕ × A) (n : ℕ) → Ascends (λ (x : ℕ × A). number (x .1)) p n → Rises number 0 (shown p n)
+  unfolding live
+  shown-rises p zero s = tt
+  shown-rises p (suc n) s =
+      rw (map-append (λ (x : ℕ × A). x .1) (live (λ (x : ℕ × A). x .0) p n) (pick (p n .0) (p n)), map-pick (λ (x : ℕ × A). x .1) (p n .0) (p n))
+      (rises-more 0 (shown p n) (p n .0) (p n .1) (shown-rises p n (λ i j h l. s i j h (omega arith)))
+      (each-value (λ r. number r < number (p n .1)) (live (λ (x : ℕ × A). x .0) p n) (each-live (λ (x : ℕ × A). x .0) (λ (x : ℕ × A). number (x .1) < number (p n .1)) p n (λ j l m. s j n l (omega arith))))
+      (omega arith))
 
 module _ {A : Type 0} (number : A → ℕ) {p q : ℕ → ℕ × A} {n i : ℕ} (c : Changed p q n i) (s : Ascends (λ (x : ℕ × A). number (x .1)) p n) where
   abbrev mark : ℕ × A → ℕ

@@ -8,13 +8,14 @@ use native.Mathlib.Omega.{arith}
 use borrow.Author.Tests.{eq-eqb, ne-eqb}
 use lib.ListN.{length, length-append}
 use Rattle.words.specs.Words.{int}
-use Rattle.table.specs.Live.{Changed, pick, live, without, insert, replace, Ascends}
+use Rattle.table.specs.Live.{Changed, pick, live, look, without, insert, replace, Ascends}
 use Rattle.table.proofs.Live.{same?, look-some, ascends-ext, ascends-open, gap-end}
 use Rattle.gateway.specs.Calls.{Gateway}
 use Rattle.gateway.specs.Depth as D
 use Rattle.gateway.specs.Ledger.{Order, number-of, remove, with-leaves}
 use Rattle.gateway.specs.Ledger as L
 use Rattle.gateway.specs.Table.{update}
+use Rattle.gateway.proofs.Sorted.{Rises}
 use Rattle.store.specs.Cells as C
 use Rattle.store.specs.Layout.{cell}
 use Rattle.store.specs.View.{Row, Store, Same, Is, Ready, word, write, fill, side, maybe-price, order, resting, marked, ledger, depth, gateway, order-room, Bounds}
@@ -24,7 +25,7 @@ use Rattle.store.proofs.Frames.{Agree, order-same, resting-same, gateway-same}
 use Rattle.orders.specs.declared.Live.{Live}
 use Rattle.orders.specs.declared.Resting.{Resting}
 use Rattle.orders.specs.Orders.{hint-slots, either, Flags, Sorted, Ordered, order-of, set-leaves, revise, show, strike, retire, take-off, rest, append}
-use Rattle.orders.proofs.Shown.{shown, shown-ext, shown-more, shown-dead, shown-strike, shown-replace, shown-revive, shown-update, shown-length, shown-parts, look-map}
+use Rattle.orders.proofs.Shown.{shown, shown-ext, shown-more, shown-dead, shown-strike, shown-replace, shown-revive, shown-update, shown-length, shown-parts, shown-rises, look-map}
 
 -- the gateway with other lists of orders
 abbrev pub with-lists : List Order → List D.Resting → Gateway → Gateway
@@ -135,7 +136,7 @@ module _ (i : ℕ) (r : Row) (s t : Store) (c : Touched i r s t) where
   bounds-kept = bounds-from s t (λ k l. c .words k)
 
   -- what is the same in the row i is the same in every row
-  same-rows : {B : Type 0} (f : Row → B) → f r ≡ f (s C.orders i) → (j : ℕ) → f (t C.orders j) ≡ f (s C.orders j)
+  pub same-rows : {B : Type 0} (f : Row → B) → f r ≡ f (s C.orders i) → (j : ℕ) → f (t C.orders j) ≡ f (s C.orders j)
   same-rows f e j = ⊎-elim (λ (q : j ≡ i). rw q (ap f (c .here) ∙ e)) (λ q. ap f (c .others j q)) (same? j i)
 
   changed : {A : Type 0} (k : ℕ) (f : Row → A) (n : ℕ) → i < n → Changed (λ j. read k f (s C.orders j)) (λ j. read k f (t C.orders j)) n i
@@ -234,6 +235,10 @@ did-bytes s t os rs ys h d =
 pub did-ready : (s t : Store) (os : List Order) (rs : List D.Resting) (ys : List ℕ) → Is ys t → Did s t os rs → Ready ys
 did-ready s t os rs ys h d = record { holds = h .holds; bounds = did-bytes s t os rs ys h d .ordered .bounds }
 
+-- the numbers of the resting orders rise
+pub resting-rises : (s : Store) → Sorted s → Rises D.resting-number 0 (depth s .resting)
+resting-rises s d = shown-rises D.resting-number (λ j. read C.order-resting resting (s C.orders j)) (word s C.order-rows) (d .ascends)
+
 -- a row in use is changed
 module _ (s : Store) (i : ℕ) (d : Ordered s) (l : i < word s C.order-rows) where
   abbrev was : Row
@@ -258,6 +263,13 @@ module _ (s : Store) (i : ℕ) (d : Ordered s) (l : i < word s C.order-rows) whe
       row-parts n =
           let (low, high, p, q) = shown-parts number (changed i r s t c k f (word s C.order-rows) l) rising in
           (low, high, p, ap (shown (λ j. read k f (t C.orders j))) n ∙ q ∙ ap (λ (x : Row). low ++ (pick (x k) (f x) ++ high)) (c .here))
+
+    -- what a lookup of the row's number finds
+    look-at : 0 < was k → look number (was C.order-number) (marked s k f) ≡ some (f was)
+    look-at m =
+        look-map (λ (x : ℕ × A). x .1) number (was C.order-number) (live (λ (x : ℕ × A). x .0) (λ j. read k f (s C.orders j)) (word s C.order-rows))
+        ∙ ap (Option·map (λ (x : ℕ × A). x .1))
+        (look-some (λ (x : ℕ × A). x .0) (λ (x : ℕ × A). number (x .1)) (λ j. read k f (s C.orders j)) (was C.order-number) i (word s C.order-rows) rising l (e was) m)
 
     -- where the row is marked, there is one to count
     marked-some : was k ≤ 1 → 0 < was k → 0 < length (marked s k f)
@@ -327,18 +339,20 @@ module _ (s : Store) (i : ℕ) (d : Ordered s) (l : i < word s C.order-rows) whe
   revise-does c p v h f e m =
       live-did _ (revise i c p v h s) (fill-touched i C.order-priced (c ∷ p ∷ v ∷ h ∷ []) was s s (untouched i s)) refl f refl refl e refl m
 
+  pub show-touched : (v w : ℕ) → Touched i (put-cells C.order-visible (v ∷ w ∷ []) was) s (show i v w s)
+  show-touched v w = fill-touched i C.order-visible (v ∷ w ∷ []) was s s (untouched i s)
+
   pub show-does : (v w : ℕ) → 0 < was C.order-resting → Did s (show i v w s) (ledger s .orders) (replace D.resting-number (D.showing v w (resting was)) (depth s .resting))
   unfolding fill
   show-does v w m =
-      resting-did _ (show i v w s) (fill-touched i C.order-visible (v ∷ w ∷ []) was s s (untouched i s)) refl refl refl refl m
+      resting-did _ (show i v w s) (show-touched v w) refl refl refl refl m
 
   -- its order
   pub find-at : 0 < was C.order-live → L.find (was C.order-number) (ledger s .orders) ≡ some (order was)
-  find-at m =
-      look-map (λ (x : ℕ × Order). x .1) number-of (was C.order-number) (live (λ (x : ℕ × Order). x .0) (λ j. read C.order-live order (s C.orders j)) (word s C.order-rows))
-      ∙ ap (Option·map (λ (x : ℕ × Order). x .1))
-      (look-some (λ (x : ℕ × Order). x .0) (λ (x : ℕ × Order). x .1 .number) (λ j. read C.order-live order (s C.orders j)) (was C.order-number) i (word s C.order-rows)
-      (rising C.order-live order number-of (λ r. refl)) l refl m)
+  find-at m = look-at C.order-live order number-of (λ r. refl) m
+
+  pub resting-at : 0 < was C.order-resting → D.find-resting (was C.order-number) (depth s .resting) ≡ some (resting was)
+  resting-at m = look-at C.order-resting resting D.resting-number (λ r. refl) m
 
   -- how an operation moves the live orders, by its row
   pub live-parts : (r : Row) (t : Store) (c : Touched i r s t) → word t C.order-rows ≡ word s C.order-rows →
@@ -372,30 +386,36 @@ module _ (s : Store) (i : ℕ) (d : Ordered s) (l : i < word s C.order-rows) whe
       (shown-strike number-of (changed i _ s t c C.order-live order (word s C.order-rows) l) (rising C.order-live order number-of (λ r. refl)) (ap (λ (q : Row). q C.order-live) (c .here)))
       (still _ t c refl C.order-resting resting refl refl)
 
+  pub take-off-touched : Touched i (put-cell C.order-kept (was C.order-live) (put-cell C.order-resting 0 was)) s (take-off i s)
+  unfolding strike
+  take-off-touched =
+      count-touched i C.resting-orders (word s C.resting-orders - 1) _ s _ (λ j x y z. z)
+      (write-touched i C.order-kept (was C.order-live) _ s _ (write-touched i C.order-resting 0 was s s (untouched i s)))
+
   pub take-off-does : 0 < was C.order-resting → Did s (take-off i s) (ledger s .orders) (without D.resting-number (was C.order-number) (depth s .resting))
   unfolding strike
   take-off-does m =
       let f = d .sorted .flags i l in
       let t = take-off i s in
-      let c =
-      count-touched i C.resting-orders (word s C.resting-orders - 1) _ s _ (λ j x y z. z)
-      (write-touched i C.order-kept (was C.order-live) _ s _ (write-touched i C.order-resting 0 was s s (untouched i s)))
-      in
+      let c = take-off-touched in
       row-did _ t c refl _ _ refl refl
       (record { live-is = f .live-is; resting-is = omega arith; kept-is = either-zero (was C.order-live) (f .live-is) })
       refl (omega (arith, resting-some m, f .resting-is))
       (still _ t c refl C.order-live order refl refl)
       (shown-strike D.resting-number (changed i _ s t c C.order-resting resting (word s C.order-rows) l) (rising C.order-resting resting D.resting-number (λ r. refl)) (ap (λ (q : Row). q C.order-resting) (c .here)))
 
+  pub rest-touched : (o : Resting) → Touched i (put-cells C.order-resting (1 ∷ 1 ∷ []) (put-cells C.order-rest-side (o .side ∷ o .price ∷ o .visible ∷ o .leaves ∷ []) was)) s (rest i o s)
+  unfolding rest
+  rest-touched o =
+      count-touched i C.resting-orders (word s C.resting-orders + 1) _ s _ (λ j x y z. z)
+      (fill-touched i C.order-resting (1 ∷ 1 ∷ []) _ s _ (fill-touched i C.order-rest-side (o .side ∷ o .price ∷ o .visible ∷ o .leaves ∷ []) was s s (untouched i s)))
+
   pub rest-does : (o : Resting) → was C.order-resting ≡ 0 → Did s (rest i o s) (ledger s .orders) (insert D.resting-number (resting-of (was C.order-number) o) (depth s .resting))
   unfolding rest fill
   rest-does o m =
       let f = d .sorted .flags i l in
       let t = rest i o s in
-      let c =
-      count-touched i C.resting-orders (word s C.resting-orders + 1) _ s _ (λ j x y z. z)
-      (fill-touched i C.order-resting (1 ∷ 1 ∷ []) _ s _ (fill-touched i C.order-rest-side (o .side ∷ o .price ∷ o .visible ∷ o .leaves ∷ []) was s s (untouched i s)))
-      in
+      let c = rest-touched o in
       row-did _ t c refl _ _ refl refl
       (record { live-is = f .live-is; resting-is = omega arith; kept-is = either-one (was C.order-live) })
       refl (omega (arith, m))

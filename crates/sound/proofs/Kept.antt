@@ -21,6 +21,8 @@ use Rattle.clients.proofs.Links.{two-cells, linked-ext}
 use Rattle.clients.proofs.Limits.{limited-ext}
 use Rattle.store.proofs.Frames.{Agree, order-same, gateway-same}
 use Rattle.orders.proofs.Views.{Keeps, live-kept, resting-kept, ordered-kept, same-keeps, bounds-same}
+use Rattle.orders.specs.Orders.{Ordered, make-room}
+use Rattle.orders.proofs.Room.{make-room-other}
 use Rattle.levels.specs.Levels.{block, count, key, row, size, entries, best}
 use Rattle.levels.proofs.Laws.{count-cell, block-cell}
 use Rattle.sound.specs.Sound.{Stored, held-cell, Held, Levels, Clients, Tables, Sound, Becomes}
@@ -90,6 +92,20 @@ clients-kept {s} {t} p q n b d =
 -- a cell of an account's row that it does not speak of
 pub clients-write : (a k v : ℕ) (s : Store) → ((r : Row) → marks (put-cell k v r) ≡ marks r) → Clients s → Clients (write C.accounts a k v s)
 clients-write a k v s h = clients-kept (λ i l. refl) (λ b l. row-unread C.accounts a k v s marks h b) refl (λ j l. refl)
+
+-- they are elsewhere where the table of orders is squeezed
+pub clients-room : (s : Store) → Ordered s → Clients s → Clients (make-room s)
+clients-room s o =
+    clients-kept (λ i l. ap (λ (r : Row). account-of (session r)) (λ z k. at C.sessions i k (λ e. omega arith) (λ e. omega arith) (λ e f. omega arith) z))
+    (λ a l z. (account a C.account-session z, account a C.account-max-open z, account a C.account-rate z))
+    (at C.header 0 C.waiting (λ e. omega arith) (λ e. omega arith) (λ e f. omega arith))
+    (λ j l. at C.batch j C.command-owner (λ e. omega arith) (λ e. omega arith) (λ e f. omega arith))
+  where
+    at : (b i k : ℕ) → (b ≡ C.orders → ⊥) → (b ≡ C.hints → ⊥) → (b ≡ C.header → k ≡ C.order-rows → ⊥) → make-room s b i k ≡ s b i k
+    at = make-room-other s o
+
+    account : (a k : ℕ) → make-room s C.accounts a k ≡ s C.accounts a k
+    account a k = at C.accounts a k (λ e. omega arith) (λ e. omega arith) (λ e f. omega arith)
 
 -- ---- what changes neither orders nor levels
 

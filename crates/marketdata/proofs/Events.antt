@@ -1,0 +1,169 @@
+-- Events: what happens to an order where it rests, and that each is the definition's `apply`. Assumes nothing.
+use mathlib.Core.Path.{_≡_, refl, sym, ap, subst, _∙_}
+use mathlib.Core.Bool.{true, cond}
+use mathlib.Core.List.{List, [], _∷_, _++_}
+use mathlib.Core.Option.{Option, none, some}
+use Prim.Native.Nat.{ℕ, _-_, _≤_, _<_}
+use native.Mathlib.Omega.{arith}
+use borrow.Author.Tests.{eqb-true, ne-eqb, leb-true}
+use lib.Dec.{eqb, leb}
+use lib.IntN.{ℤ}
+use lib.ListN.{length, length-append}
+use Rattle.orderbook.specs.declared.Side.{Side}
+use Rattle.orderbook.specs.declared.CancelReason.{CancelReason}
+use Rattle.orderbook.specs.declared.Event.the-variants.{Rested, Trade, Replenished, Cancelled, Modified}
+use Rattle.words.specs.Words.{int}
+use Rattle.table.specs.Live.{look, without, replace}
+use Rattle.table.specs.declared.Found.{Found}
+use Rattle.table.specs.declared.Found.the-variants.{At, Nothing}
+use Rattle.gateway.specs.Basics.{option}
+use Rattle.gateway.specs.Depth as D
+use Rattle.gateway.proofs.Base.{split}
+use Rattle.store.specs.Cells as C
+use Rattle.store.specs.Layout.{cell, Holds}
+use Rattle.store.specs.View.{Ready, side, resting, depth, gateway, order-room}
+use Rattle.orders.specs.declared.Resting.{Resting}
+use Rattle.orders.specs.Orders.{Sorted, Sees, resting-row}
+use Rattle.sound.specs.Sound.{State, Becomes}
+use Rattle.marketdata.specs.Marketdata as P
+use Rattle.marketdata.specs.Marketdata.{with-depth, resting-at, resting-of, Roomy, Judged, CanFill, CanTrade, replenished, traded}
+
+-- ---- each is the definition's `apply`
+
+pub trade-applies : (t taker maker : ℕ) (z : Side) (p : ℤ) (q tl ml : ℕ) (d : D.Depth) → D.apply (Trade t taker maker z p q tl ml) d ≡ traded taker maker q tl ml d
+unfolding D.apply
+trade-applies t taker maker z p q tl ml d = refl
+
+pub replenished-applies : (n : ℕ) (z : Side) (p : ℤ) (v : ℕ) (d : D.Depth) → D.apply (Replenished n z p v) d ≡ D.where-resting n (replenished v) d
+unfolding D.apply
+replenished-applies n z p v d = refl
+
+pub cancelled-applies : (n q : ℕ) (why : CancelReason) (d : D.Depth) → D.apply (Cancelled n q why) d ≡ D.where-resting n D.take-off d
+unfolding D.apply
+cancelled-applies n q why d = refl
+
+pub modified-applies : (n : ℕ) (p : ℤ) (q v : ℕ) (d : D.Depth) → D.apply (Modified n p q v) d ≡ D.where-resting n (D.modified p v) d
+unfolding D.apply
+modified-applies n p q v d = refl
+
+pub rested-applies : (n : ℕ) (o : Resting) (d : D.Depth) → D.apply (Rested n (side (o .side)) (int (o .price)) (o .leaves) (o .visible)) d ≡ D.add (resting-of n o) d
+unfolding D.apply
+rested-applies n o d = refl
+
+-- ---- where the order rests
+
+pub find-asks : {xs : List ℕ} → State xs → Ready xs × Sorted (cell xs)
+find-asks s = (record { holds = s .holds; bounds = s .sound .tables .ordered .bounds }, s .sound .tables .ordered .sorted)
+
+-- what a lookup sees
+abbrev pub Seen : List ℕ → ℕ → Found → Type 0
+Seen xs n r = Sees C.order-resting resting D.resting-number (cell xs) n r
+
+module _ (xs : List ℕ) (n i : ℕ) (s : State xs) (r : Found) (seen : Seen xs n r) (found : r ≡ At i) where
+  e : Seen xs n (At i)
+  e = rw found at seen
+
+  pub read-asks : Holds xs × (i < order-room)
+  read-asks = (s .holds, omega (arith, e .row .0, s .sound .tables .ordered .bounds .orders-fit))
+
+  pub found-at : (o : Resting) → o ≡ resting-row (cell xs C.orders i) → P.At i o (cell xs)
+  found-at o q = record { inside = e .row .0; rests = e .row .2; is = q }
+
+  pub found-does : (f : D.Resting → D.Depth → D.Depth) → D.where-resting n f (depth (cell xs)) ≡ f (resting-at i (cell xs)) (depth (cell xs))
+  found-does f = ap (option (depth (cell xs)) (λ o. f o (depth (cell xs)))) (e .order)
+
+  pub found-room : (f : D.Resting → D.Depth → D.Depth) → Roomy (D.where-resting n f (depth (cell xs))) → Roomy (f (resting-at i (cell xs)) (depth (cell xs)))
+  found-room f h = rw (found-does f) at h
+
+  pub found-judged : (f : D.Resting → D.Depth → D.Depth) → Judged (D.where-resting n f (depth (cell xs))) → Judged (f (resting-at i (cell xs)) (depth (cell xs)))
+  found-judged f h = rw (found-does f) at h
+
+  pub found-becomes : {ys : List ℕ} (f : D.Resting → D.Depth → D.Depth) → Becomes ys (with-depth (f (resting-at i (cell xs))) (gateway (cell xs))) → Becomes ys (with-depth (D.where-resting n f) (gateway (cell xs)))
+  found-becomes {ys} f b = subst (λ (d : D.Depth). Becomes ys (with-depth (λ _. d) (gateway (cell xs)))) (sym (found-does f)) b
+
+  pub found-shows : (o : Resting) → o ≡ resting-row (cell xs C.orders i) → (q : ℕ) → D.shows n q (depth (cell xs) .resting) ≡ true → q ≤ o .visible
+  found-shows o w q h =
+      let t : leb q (resting-at i (cell xs) .visible) ≡ true = ap (option true (λ x. leb q (x .visible))) (sym (e .order)) ∙ h in
+      rw w (leb-true q (resting-at i (cell xs) .visible) t)
+
+-- where it does not, nothing happens
+pub nothing-becomes : (xs : List ℕ) (n : ℕ) → State xs → (r : Found) → Seen xs n r → r ≡ Nothing → (f : D.Resting → D.Depth → D.Depth) →
+    Becomes xs (with-depth (D.where-resting n f) (gateway (cell xs)))
+nothing-becomes xs n s r seen absent f =
+    let e : Seen xs n Nothing = rw absent at seen in
+    subst (λ (d : D.Depth). Becomes xs (with-depth (λ _. d) (gateway (cell xs)))) (sym (ap (option (depth (cell xs)) (λ o. f o (depth (cell xs)))) (e .order)))
+    (record { state = s; gateway-is = refl })
+
+-- ---- a trade's two fills
+
+-- another order is found as before
+module _ {A : Type 0} (key : A → ℕ) (k : ℕ) where
+  look-without : (n : ℕ) → (k ≡ n → ⊥) → (l : List A) → look key k (without key n l) ≡ look key k l
+  unfolding look without
+  look-without n h [] = refl
+  look-without n h (x ∷ l) =
+      let u = look-without n h l in
+      split (λ b. (eqb (key x) n ≡ b) → look key k (cond b (without key n l) (x ∷ without key n l)) ≡ cond (eqb (key x) k) (some x) (look key k l)) (eqb (key x) n)
+      (λ _ e. let q = eqb-true (key x) n e in u ∙ sym (rw (ne-eqb (key x) k (λ w. h (sym w ∙ q))) refl)) (λ _ e. ap (cond (eqb (key x) k) (some x)) u) refl
+
+  look-replace : (r : A) → (k ≡ key r → ⊥) → (l : List A) → look key k (replace key r l) ≡ look key k l
+  unfolding look replace
+  look-replace r h [] = refl
+  look-replace r h (x ∷ l) =
+      let u = look-replace r h l in
+      split (λ b. (eqb (key x) (key r) ≡ b) → cond (eqb (key (cond b r x)) k) (some (cond b r x)) (look key k (replace key r l)) ≡ cond (eqb (key x) k) (some x) (look key k l)) (eqb (key x) (key r))
+      (λ _ e.
+      let q = eqb-true (key x) (key r) e in
+      rw (ne-eqb (key r) k (λ w. h (sym w)), ne-eqb (key x) k (λ w. h (sym w ∙ q))) u)
+      (λ _ e. ap (cond (eqb (key x) k) (some x)) u) refl
+
+remember-grows : (k : D.Key) (ks : List D.Key) → length ks ≤ length (D.remember k ks)
+remember-grows k ks =
+    split (λ b. length ks ≤ length (cond b ks (ks ++ (k ∷ [])))) (D.is-changed k ks) (λ _. omega arith) (λ _. omega (arith, length-append ks (k ∷ [])))
+
+-- a fill of the order n leaves any other, and forgets no level
+record Fill (n : ℕ) (d e : D.Depth) : Type 0 where
+  others : (k : ℕ) → (k ≡ n → ⊥) → D.find-resting k (e .resting) ≡ D.find-resting k (d .resting)
+  grows : length (d .changed) ≤ length (e .changed)
+
+fill-is : (n q v : ℕ) (o : D.Resting) (d : D.Depth) → o .number ≡ n → Fill n d (D.filled q v o d)
+unfolding D.take-off D.show
+fill-is n q v o d e =
+    split (λ b. Fill n d (cond b (D.take-off o d) (D.show (D.showing (o .visible - q) v o) d))) (eqb v 0)
+    (λ _. record { others = λ k h. look-without D.resting-number k (o .number) (λ w. h (w ∙ e)) (d .resting); grows = remember-grows (D.key-of o) (d .changed) })
+    (λ _. record { others = λ k h. look-replace D.resting-number k (D.showing (o .visible - q) v o) (λ w. h (w ∙ e)) (d .resting); grows = remember-grows (D.key-of o) (d .changed) })
+
+look-number : (n : ℕ) (o : D.Resting) (l : List D.Resting) → D.find-resting n l ≡ some o → o .number ≡ n
+unfolding look
+look-number n o [] h = let z : _≡_ {A = ℕ} 0 1 = cc in absurd (omega (arith, z))
+look-number n o (x ∷ l) h =
+    split (λ b. (eqb (x .number) n ≡ b) → cond b (some x) (D.find-resting n l) ≡ some o → o .number ≡ n) (eqb (x .number) n)
+    (λ _ e w. let q : x ≡ o = cc in ap D.resting-number (sym q) ∙ eqb-true (x .number) n e) (λ _ e w. look-number n o l w) refl h
+
+fill-where : (n q v : ℕ) (d : D.Depth) → Fill n d (D.where-resting n (D.filled q v) d)
+fill-where n q v d = go (D.find-resting n (d .resting)) refl
+  where
+    go : (x : Option D.Resting) → D.find-resting n (d .resting) ≡ x → Fill n d (option d (λ o. D.filled q v o d) x)
+    go none e = record { others = λ k h. refl; grows = omega arith }
+    go (some o) e = fill-is n q v o d (look-number n o (d .resting) e)
+
+module _ {d : D.Depth} (taker maker q tl ml : ℕ) (c : CanTrade taker maker q tl ml d) where
+  abbrev half : D.Depth
+  half = D.where-resting maker (D.filled q ml) d
+
+  pub maker-can : CanFill maker q ml d
+  maker-can = record { shows = c .maker-shows; room = omega (arith, c .room, fill-where taker q tl half .grows) }
+
+  pub taker-can : CanFill taker q tl half
+  taker-can =
+      record {
+        shows = ap (option true (λ (o : D.Resting). leb q (o .visible))) (fill-where maker q ml d .others taker (c .two)) ∙ c .taker-shows;
+        room = c .room;
+      }
+
+module _ (xs : List ℕ) (taker maker q tl ml : ℕ) (c : CanTrade taker maker q tl ml (depth (cell xs))) {ys : List ℕ} (b : Becomes ys (with-depth (D.where-resting maker (D.filled q ml)) (gateway (cell xs)))) where
+  pub taker-asks : State ys × CanFill taker q tl (depth (cell ys))
+  taker-asks = (b .state, rw (ap (λ g. g .rest .depth) (b .gateway-is)) (taker-can taker maker q tl ml c))
+
+  pub trade-done : {zs : List ℕ} → Becomes zs (with-depth (D.where-resting taker (D.filled q tl)) (gateway (cell ys))) → Becomes zs (with-depth (traded taker maker q tl ml) (gateway (cell xs)))
+  trade-done e = record { state = e .state; gateway-is = e .gateway-is ∙ ap (with-depth (D.where-resting taker (D.filled q tl))) (b .gateway-is) }

@@ -1,0 +1,7 @@
+pub mod Steps
+pub mod Fits
+pub mod Resting
+pub mod Rests
+pub mod Places
+pub mod Laws
+pub mod Events
