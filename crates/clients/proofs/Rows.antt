@@ -9,6 +9,7 @@ use lib.ListN.{set}
 use lib.Dec.{eqb}
 use Rattle.table.proofs.Live.{same?}
 use Rattle.store.specs.View.{Row, Store, write, listed}
+use Rattle.store.proofs.Rows.{row-there}
 use Rattle.store.proofs.Listed.{listed-ext, listed-set}
 use Rattle.clients.specs.Clients.{put-cells}
 
@@ -28,10 +29,10 @@ module _ {A : Type 0} (f : ℕ → Row → A) (b i n : ℕ) (s t : Store) (h : R
 
 -- what a write leaves: other rows, other cells of its row, other blocks
 pub write-row : (b i k v : ℕ) (s : Store) (j l : ℕ) → (j ≡ i → ⊥) → write b i k v s b j l ≡ s b j l
-write-row b i k v s j l ne = rw (eq-eqb b b refl, ne-eqb j i ne) refl
+write-row b i k v s j l ne = ap (λ (r : Row). r l) (row-there b i k v s j ne)
 
 pub write-rows : (b i k v : ℕ) (s : Store) → Rows b i s (write b i k v s)
-write-rows b i k v s j ne = λ d l. write-row b i k v s j l ne d
+write-rows = row-there
 
 pub write-cell : (b i k v : ℕ) (s : Store) (j l : ℕ) → (l ≡ k → ⊥) → write b i k v s b j l ≡ s b j l
 write-cell b i k v s j l ne =

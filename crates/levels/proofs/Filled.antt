@@ -11,9 +11,11 @@ use Rattle.table.specs.Live.{live}
 use Rattle.gateway.specs.Limits.{most-levels}
 use Rattle.gateway.specs.Depth as Depth
 use Rattle.store.specs.View.{Store, Bounds, listed}
-use Rattle.store.proofs.Listed.{listed-length, listed-ext, front-more}
+use Rattle.store.proofs.Listed.{listed-ext, front-more}
 use Rattle.levels.specs.declared.Row.{Row}
 use Rattle.levels.specs.declared.listed.Level.{Level}
+use Rattle.levels.proofs.Best.{best-length}
+use Rattle.levels.proofs.Follows.{entries-length}
 use Rattle.levels.specs.Levels.{row, size, entries, level, best}
 use Rattle.levels.specs.Listed.{side-of, nth, level-of, nothing, seen, Lists}
 
@@ -52,9 +54,8 @@ best-nth Buy f (suc n) =
     at : (i j : ℕ) → i ≡ j → level (f i) ≡ level (f j)
     at i j e = ap (λ k. level (f k)) e
 
-pub best-length : (z : Side) (s : Store) → length (best z (entries z s)) ≡ size z s
-unfolding entries
-best-length z s = ap length (best-nth z (row z s) (size z s)) ∙ listed-length _ (size z s)
+pub best-size : (z : Side) (s : Store) → length (best z (entries z s)) ≡ size z s
+best-size z s = best-length z (entries z s) ∙ entries-length z s
 
 -- ---- the first i of n places of l are filled
 

@@ -33,12 +33,6 @@ use Rattle.clients.specs.Clients as Clients
 use Rattle.sound.specs.Sound.{held-cell}
 use Rattle.live.specs.Live.{hold-word, shift, revise, retire, left, place, funds, settle, pay}
 
-pub side-buy : (n : ℕ) → n ≡ 0 → Buy ≡ side n
-side-buy n e = rw (eq-eqb n 0 e) refl
-
-pub side-sell : (n : ℕ) → (n ≡ 0 → ⊥) → Sell ≡ side n
-side-sell n e = rw (ne-eqb n 0 e) refl
-
 price-is : (b : Bool) (p : ℕ) → W.price-of b (int p) ≡ price-option (cond b (Some (int p)) None)
 price-is true p = refl
 price-is false p = refl
@@ -123,4 +117,4 @@ place-is xs n o h c w l e f g p q r t =
     (then-set (then-append n o′ p q)
     (account-cell (o .account) C.account-open-orders l (omega arith)) r) t)
 
-pub ruleset laws = (side-buy, side-sell, hold-of-is, shift-is, revise-is, retire-is, left-done, left-open, settle-is, pay-none, pay-some, arith)
+pub ruleset laws = (hold-of-is, shift-is, revise-is, retire-is, left-done, left-open, settle-is, pay-none, pay-some, arith)

@@ -15,12 +15,6 @@ ghost use Rattle.store.specs.View.{word, side, order-room, gateway, Is};
 ghost use Rattle.sound.specs.Sound.{held-cell, State, Becomes};
 ghost use Rattle.live.specs.Live as P;
 
-fn side_of(code: u64) -> Side
-    ensures { λ r. ⌜ r ≡ side code ⌝ }
-{
-    if code == 0 { Side::Buy } else { Side::Sell }
-}
-
 // The cell of an account's row with what its orders of a side hold.
 fn held_cell(side: Side) -> usize
     ensures { λ r. ⌜ (r ≡ held-cell side) × (r < 16) ⌝ }
@@ -35,7 +29,7 @@ fn held_cell(side: Side) -> usize
 fn hold_of(side: u64, priced: u64, price: u64, leaves: u64) -> u64
     ensures { λ r. ⌜ r ≡ P.hold-word side priced price leaves ⌝ }
 {
-    wallet::held(side_of(side), priced != 0, price, leaves)
+    wallet::held(store::side_of(side), priced != 0, price, leaves)
 }
 
 fn shift(m: &mut [u8], account: usize, side: Side, old: u64, new: u64)
@@ -55,7 +49,7 @@ fn revise(m: &mut [u8], i: usize, o: Live, priced: u64, price: u64, leaves: u64)
 {
     let hold = hold_of(o.side, priced, price, leaves);
     orders::revise(m, i, priced, price, leaves, hold);
-    shift(m, o.account as usize, side_of(o.side), o.hold, hold);
+    shift(m, o.account as usize, store::side_of(o.side), o.hold, hold);
 }
 
 // The order's open quantity is now `leaves`: what it holds follows.
@@ -75,7 +69,7 @@ fn end(m: &mut [u8], i: usize, o: Live)
     let open = store::get(m, store::ACCOUNTS, a, cells::ACCOUNT_OPEN_ORDERS);
     orders::retire(m, i);
     store::set(m, store::ACCOUNTS, a, cells::ACCOUNT_OPEN_ORDERS, open - 1);
-    shift(m, a, side_of(o.side), o.hold, 0);
+    shift(m, a, store::side_of(o.side), o.hold, 0);
 }
 
 // The order has left the book.
@@ -129,7 +123,7 @@ pub fn traded(m: &mut [u8], i: usize, o: Live, price: u64, qty: u64, leaves: u64
     requires { ⌜ State (now m) × P.At i o (cell (now m)) ⌝ }
     ensures { λ r. ⌜ Becomes (now (m .exit)) (P.with-ledger (Ledger.change (Ledger.fill (P.number-at i (cell (now (m .entry)))) (int price) qty leaves)) (gateway (cell (now (m .entry))))) ⌝ }
 {
-    pay(m, o.account as usize, side_of(o.side), price, qty);
+    pay(m, o.account as usize, store::side_of(o.side), price, qty);
     leave(m, i, o, o.priced, o.price, leaves);
 }
 
@@ -156,7 +150,7 @@ pub fn place(m: &mut [u8], number: u64, o: Live)
         },
     );
     store::set(m, store::ACCOUNTS, a, cells::ACCOUNT_OPEN_ORDERS, open + 1);
-    shift(m, a, side_of(o.side), 0, hold);
+    shift(m, a, store::side_of(o.side), 0, hold);
 }
 
 // A notice that the account's wallet changed, where it has one.

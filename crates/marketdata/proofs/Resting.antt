@@ -22,7 +22,7 @@ use Rattle.orders.specs.Orders.{Ordered, strike}
 use Rattle.orders.specs.Orders as Orders
 use Rattle.orders.proofs.Views.{Did, with-lists, resting-rises, resting-at, resting-some, take-off-touched, take-off-does, show-touched, show-does}
 use Rattle.levels.specs.declared.Row as LRow
-use Rattle.levels.specs.Levels.{row, entries, price, removed, shown, Table, CanRemove, CanShow}
+use Rattle.levels.specs.Levels.{entries, price, removed, shown, Table, CanRemove, CanShow}
 use Rattle.levels.specs.Levels as L
 use Rattle.levels.proofs.Best.{level-of, level-found}
 use Rattle.levels.proofs.Follows.{entries-rise, remove-follows, show-follows}

@@ -20,7 +20,7 @@ use Rattle.orders.specs.declared.Resting.{Resting}
 use Rattle.orders.specs.Orders.{rest}
 use Rattle.orders.proofs.Views.{Did, rest-touched, rest-does}
 use Rattle.levels.specs.declared.Row as LRow
-use Rattle.levels.specs.Levels.{row, size, entries, price, added, CanAdd}
+use Rattle.levels.specs.Levels.{size, entries, price, added, CanAdd}
 use Rattle.levels.specs.Levels as L
 use Rattle.levels.proofs.Best.{level-of, best-length}
 use Rattle.levels.proofs.Follows.{entries-length, add-follows}

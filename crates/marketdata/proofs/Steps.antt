@@ -19,7 +19,7 @@ use Rattle.gateway.specs.Depth as D
 use Rattle.gateway.proofs.Base.{split}
 use Rattle.store.specs.Cells as C
 use Rattle.store.specs.Layout.{cell}
-use Rattle.store.specs.View.{Row, Store, Bounds, word, order, session, ledger, depth, changed-key}
+use Rattle.store.specs.View.{Row, Store, Bounds, word, session, ledger, depth, changed-key}
 use Rattle.store.proofs.Places.{header-cell, account-cell, session-cell, command-cell, order-cell}
 use Rattle.store.proofs.Listed.{listed-length}
 use Rattle.orders.specs.declared.Live.{Live}

@@ -1,6 +1,5 @@
 // The depth: resting orders, their price levels, and the levels changed since the last publishing (`Depth` of marketdata/src/lib.rs).
 // A row is handed on by value, so that it is neither searched nor read twice.
-use orderbook::Side;
 use orders::Resting;
 use store::cells;
 use table::Found;
@@ -13,12 +12,6 @@ ghost use Rattle.store.specs.Layout.{cell};
 ghost use Rattle.store.specs.View.{side, depth, gateway, Ready};
 ghost use Rattle.sound.specs.Sound.{State, Becomes};
 ghost use Rattle.marketdata.specs.Marketdata as P;
-
-fn side_of(code: u64) -> Side
-    ensures { λ r. ⌜ r ≡ side code ⌝ }
-{
-    if code == 0 { Side::Buy } else { Side::Sell }
-}
 
 // The level of that side, a code, and that price, a word, has changed.
 fn remember(m: &mut [u8], side: u64, price: u64)
@@ -33,7 +26,7 @@ fn strike(m: &mut [u8], i: usize, o: Resting)
     requires { ⌜ State (now m) × P.At i o (cell (now m)) ⌝ }
     ensures { λ r. ⌜ Becomes (now (m .exit)) (P.with-depth (P.with-resting (without D.resting-number (P.resting-at i (cell (now (m .entry))) .number))) (gateway (cell (now (m .entry))))) ⌝ }
 {
-    levels::remove(m, side_of(o.side), words::raised(o.price), o.visible);
+    levels::remove(m, store::side_of(o.side), words::raised(o.price), o.visible);
     orders::take_off(m, i);
 }
 
@@ -53,7 +46,7 @@ fn reshow(m: &mut [u8], i: usize, o: Resting, visible: u64, leaves: u64)
 {
     levels::show(
         m,
-        side_of(o.side),
+        store::side_of(o.side),
         words::raised(o.price),
         o.visible,
         visible,
@@ -123,7 +116,7 @@ fn join(m: &mut [u8], i: usize, o: Resting)
     requires { ⌜ State (now m) × P.Free i (P.number-at i (cell (now m))) (cell (now m)) × P.Judged (D.add (P.resting-of (P.number-at i (cell (now m))) o) (depth (cell (now m)))) ⌝ }
     ensures { λ r. ⌜ Becomes (now (m .exit)) (P.with-depth (P.with-resting (insert D.resting-number (P.resting-of (P.number-at i (cell (now (m .entry)))) o))) (gateway (cell (now (m .entry))))) ⌝ }
 {
-    levels::add(m, side_of(o.side), words::raised(o.price), o.visible);
+    levels::add(m, store::side_of(o.side), words::raised(o.price), o.visible);
     orders::rest(m, i, o);
 }
 

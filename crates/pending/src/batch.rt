@@ -136,14 +136,6 @@ pub fn clear_batch(m: &mut [u8])
     crate::set_word(m, cells::WAITING, 0);
 }
 
-// ---- a command read back
-
-fn side_of(n: u64) -> Side
-    ensures { λ r. ⌜ r ≡ side n ⌝ }
-{
-    if n == 0 { Side::Buy } else { Side::Sell }
-}
-
 fn tif_of(n: u64) -> TimeInForce
     ensures { λ r. ⌜ r ≡ tif n ⌝ }
 {
@@ -183,7 +175,7 @@ fn command_of(r: [u64; 12]) -> Command
     let kind = r[cells::COMMAND_KIND];
     let id = r[cells::COMMAND_ID];
     let owner = r[cells::COMMAND_OWNER] as u32;
-    let side = side_of(r[cells::COMMAND_SIDE]);
+    let side = store::side_of(r[cells::COMMAND_SIDE]);
     let qty = r[cells::COMMAND_QTY];
     match kind {
         0 => Command::Limit {

@@ -1,10 +1,11 @@
 // The gateway's state in one lent slice of bytes: blocks of rows of 64-bit cells. docs/STATE.md has the layout.
 pub mod cells;
 
+use orderbook::Side;
 ghost use mathlib.Core.Path.{_≡_};
 ghost use Prim.Native.Nat.{_+_, _<_};
 ghost use lib.ListN.{length};
-ghost use Rattle.store.specs.View.{fill, listed, Is, zeros};
+ghost use Rattle.store.specs.View.{fill, listed, Is, zeros, side};
 ghost use Rattle.store.specs.Layout.{blocks, cells, start, width, spot, cell, Cell, Cells, Holds, Set};
 
 pub const HEADER: usize = 0;
@@ -120,4 +121,11 @@ pub fn clear(m: &mut [u8])
         le::put_u64(m, 8 * i, 0);
         i += 1;
     }
+}
+
+// The side of a code: 0 for a buy.
+pub fn side_of(code: u64) -> Side
+    ensures { λ r. ⌜ r ≡ side code ⌝ }
+{
+    if code == 0 { Side::Buy } else { Side::Sell }
 }

@@ -1,7 +1,7 @@
 use mathlib.Core.Path.{refl}
 use native.Mathlib.Omega.{arith}
 use borrow.Author.Needs.{needs}
-use Rattle.store.specs.Layout.{start, width, spot, cells}
+use Rattle.store.specs.Layout.{spot}
 use Rattle.store.proofs.Places.{spot-fits}
 use Rattle.store.proofs.spot_of.Statement.{statement}
 use Rattle.store.proofs.spot_of.Tie as tie

@@ -1,5 +1,4 @@
 use borrow.Author.Needs.{needs}
-use Rattle.store.specs.Layout.{width}
 use Rattle.store.proofs.width_of.Statement.{statement}
 use Rattle.store.proofs.width_of.Tie as tie
 
