@@ -18,12 +18,12 @@ use Rattle.store.specs.View.{Row, Store, word, side, order, ledger, gateway, or
 use Rattle.store.proofs.Places.{header-cell, order-cell}
 use Rattle.store.proofs.Frames.{Agree}
 use Rattle.orders.specs.declared.Live.{Live}
-use Rattle.orders.specs.Orders.{live-row, make-room}
+use Rattle.orders.specs.Orders.{live-row, number-at, make-room}
 use Rattle.orders.proofs.Views.{revised, find-at, live-some}
 use Rattle.sound.specs.Sound.{Sound, State, Becomes}
 use Rattle.sound.proofs.Kept.{becomes}
 use Rattle.sound.proofs.Totals.{open-few}
-use Rattle.live.specs.Live.{At, number-at, with-ledger, placing, CanPlace, revise, retire, left, pay, place}
+use Rattle.live.specs.Live.{At, with-ledger, placing, CanPlace, revise, retire, left, pay, place}
 use Rattle.live.proofs.Views.{revise-view, revise-sound, retire-view, retire-sound, open-some}
 use Rattle.live.proofs.Money.{with-wallets, pay-view, pay-sound, pay-elsewhere}
 use Rattle.live.proofs.Placed.{room, word-kept, place-view, place-sound}

@@ -11,9 +11,8 @@ use Rattle.words.specs.Words.{int, wrap}
 use Rattle.words.proofs.Int.{int-zero}
 use Rattle.table.proofs.Live.{same?}
 use Rattle.gateway.specs.Limits.{owner-slots}
-use Rattle.gateway.specs.Rest.{account-of}
 use Rattle.store.specs.Cells as C
-use Rattle.store.specs.View.{Row, Store, word, write, fill, side, session, ledger, depth, gateway, order-room}
+use Rattle.store.specs.View.{Row, Store, word, write, fill, side, ledger, depth, gateway, order-room}
 use Rattle.orders.specs.declared.Live.{Live}
 use Rattle.orders.specs.Orders.{order-of}
 use Rattle.orders.specs.Orders as Orders

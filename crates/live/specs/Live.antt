@@ -29,9 +29,6 @@ pub record At (i : ℕ) (o : Live) (s : Store) : Type 0 where
   pub live : 0 < s C.orders i C.order-live
   pub is : o ≡ live-row (s C.orders i)
 
-abbrev pub number-at : ℕ → Store → ℕ
-number-at i s = s C.orders i C.order-number
-
 abbrev pub with-ledger : (Ledger → Ledger) → Gateway → Gateway
 with-ledger f g = record { core = record { ledger = f (g .core .ledger); flights = g .core .flights; accounts = g .core .accounts }; rest = g .rest }
 

@@ -12,6 +12,7 @@ ghost use Rattle.gateway.specs.Ledger as Ledger;
 ghost use Rattle.store.specs.Cells as C;
 ghost use Rattle.store.specs.Layout.{cell, Holds};
 ghost use Rattle.store.specs.View.{word, side, order-room, gateway, Is};
+ghost use Rattle.orders.specs.Orders.{number-at};
 ghost use Rattle.sound.specs.Sound.{held-cell, State, Becomes};
 ghost use Rattle.live.specs.Live as P;
 
@@ -55,7 +56,7 @@ fn revise(m: &mut [u8], i: usize, o: Live, priced: u64, price: u64, leaves: u64)
 // The order's open quantity is now `leaves`: what it holds follows.
 pub fn set_leaves(m: &mut [u8], i: usize, o: Live, leaves: u64)
     requires { ⌜ State (now m) × P.At i o (cell (now m)) ⌝ }
-    ensures { λ r. ⌜ Becomes (now (m .exit)) (P.with-ledger (Ledger.change (Ledger.set-leaves (P.number-at i (cell (now (m .entry)))) leaves)) (gateway (cell (now (m .entry))))) ⌝ }
+    ensures { λ r. ⌜ Becomes (now (m .exit)) (P.with-ledger (Ledger.change (Ledger.set-leaves (number-at i (cell (now (m .entry)))) leaves)) (gateway (cell (now (m .entry))))) ⌝ }
 {
     revise(m, i, o, o.priced, o.price, leaves);
 }
@@ -75,7 +76,7 @@ fn end(m: &mut [u8], i: usize, o: Live)
 // The order has left the book.
 pub fn retire(m: &mut [u8], i: usize, o: Live)
     requires { ⌜ State (now m) × P.At i o (cell (now m)) ⌝ }
-    ensures { λ r. ⌜ Becomes (now (m .exit)) (P.with-ledger (Ledger.change (Ledger.retire (P.number-at i (cell (now (m .entry)))))) (gateway (cell (now (m .entry))))) ⌝ }
+    ensures { λ r. ⌜ Becomes (now (m .exit)) (P.with-ledger (Ledger.change (Ledger.retire (number-at i (cell (now (m .entry)))))) (gateway (cell (now (m .entry))))) ⌝ }
 {
     end(m, i, o);
 }
@@ -95,7 +96,7 @@ fn leave(m: &mut [u8], i: usize, o: Live, priced: u64, price: u64, leaves: u64)
 // A modify changed its price and its open quantity.
 pub fn reprice(m: &mut [u8], i: usize, o: Live, price: u64, leaves: u64)
     requires { ⌜ State (now m) × P.At i o (cell (now m)) ⌝ }
-    ensures { λ r. ⌜ Becomes (now (m .exit)) (P.with-ledger (Ledger.change (Ledger.reprice (P.number-at i (cell (now (m .entry)))) (int price) leaves)) (gateway (cell (now (m .entry))))) ⌝ }
+    ensures { λ r. ⌜ Becomes (now (m .exit)) (P.with-ledger (Ledger.change (Ledger.reprice (number-at i (cell (now (m .entry)))) (int price) leaves)) (gateway (cell (now (m .entry))))) ⌝ }
 {
     leave(m, i, o, 1, price, leaves);
 }
@@ -121,7 +122,7 @@ fn pay(m: &mut [u8], account: usize, side: Side, price: u64, qty: u64)
 // The order traded `qty` at `price`, and has `leaves` open.
 pub fn traded(m: &mut [u8], i: usize, o: Live, price: u64, qty: u64, leaves: u64)
     requires { ⌜ State (now m) × P.At i o (cell (now m)) ⌝ }
-    ensures { λ r. ⌜ Becomes (now (m .exit)) (P.with-ledger (Ledger.change (Ledger.fill (P.number-at i (cell (now (m .entry)))) (int price) qty leaves)) (gateway (cell (now (m .entry))))) ⌝ }
+    ensures { λ r. ⌜ Becomes (now (m .exit)) (P.with-ledger (Ledger.change (Ledger.fill (number-at i (cell (now (m .entry)))) (int price) qty leaves)) (gateway (cell (now (m .entry))))) ⌝ }
 {
     pay(m, o.account as usize, store::side_of(o.side), price, qty);
     leave(m, i, o, o.priced, o.price, leaves);

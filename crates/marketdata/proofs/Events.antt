@@ -26,7 +26,8 @@ use Rattle.orders.specs.declared.Resting.{Resting}
 use Rattle.orders.specs.Orders.{Sorted, Sees, resting-row}
 use Rattle.sound.specs.Sound.{State, Becomes}
 use Rattle.marketdata.specs.Marketdata as P
-use Rattle.marketdata.specs.Marketdata.{with-depth, resting-at, resting-of, Roomy, Judged, CanFill, CanTrade, replenished, traded}
+use Rattle.marketdata.specs.Marketdata.{with-depth, resting-at, Roomy, Judged, CanFill, CanTrade, replenished, traded}
+use Rattle.orders.specs.Orders.{resting-of}
 
 -- ---- each is the definition's `apply`
 

@@ -36,7 +36,8 @@ use Rattle.pending.specs.Pending as Pending
 use Rattle.sound.specs.Sound.{Stored, Held, Levels, Clients, Tables, Sound, State}
 use Rattle.sound.proofs.Kept.{sided, caches, total-same, held-kept, numbered-kept, marks, clients-kept}
 use Rattle.sound.proofs.Waiting.{push-level-sound}
-use Rattle.marketdata.specs.Marketdata.{key, Roomy, remembering}
+use Rattle.marketdata.specs.Marketdata.{Roomy, remembering}
+use Rattle.pending.specs.Pending.{key}
 
 -- the state is sound, but its levels are those of the orders rs
 pub record Follows (rs : List Resting) (s : Store) : Type 0 where

@@ -7,7 +7,6 @@ use mathlib.Core.Option.{none}
 use lib.Dec.{ltb, leb}
 use lib.IntN.{ℤ}
 use lib.ListN.{length}
-use Rattle.words.specs.Words.{int}
 use Rattle.table.specs.Table.{Between}
 use Rattle.gateway.specs.Limits.{word, most-orders, most-changed}
 use Rattle.gateway.specs.Depth.{Depth, Key, level, key-of, same-price, find-resting, where-resting, remember, levels-fit, depth-few}
@@ -16,7 +15,7 @@ use Rattle.gateway.specs.Rest.{pending}
 use Rattle.gateway.specs.Calls.{Gateway}
 use Rattle.store.specs.Cells as C
 use Rattle.store.specs.Layout.{cell}
-use Rattle.store.specs.View.{Store, side, resting, depth, gateway}
+use Rattle.store.specs.View.{Store, resting, depth, gateway}
 use Rattle.store.specs.View as View
 use Rattle.orders.specs.declared.Resting.{Resting}
 use Rattle.orders.specs.Orders.{resting-row}
@@ -34,20 +33,9 @@ pub record Free (i n : ℕ) (s : Store) : Type 0 where
   pub number-is : s C.orders i C.order-number ≡ n
   pub free : s C.orders i C.order-resting ≡ 0
 
-abbrev pub number-at : ℕ → Store → ℕ
-number-at i s = s C.orders i C.order-number
-
 -- the order of the row i
 abbrev pub resting-at : ℕ → Store → D.Resting
 resting-at i s = resting (s C.orders i)
-
--- the order of a number, with these words
-abbrev pub resting-of : ℕ → Resting → D.Resting
-resting-of n o = record { number = n; side = side (o .side); price = int (o .price); visible = o .visible; leaves = o .leaves }
-
--- the level of a side's code and a price's word
-abbrev pub key : ℕ → ℕ → Key
-key z p = (side z, int p)
 
 -- ---- the gateway with another depth
 

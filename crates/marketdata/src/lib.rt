@@ -10,13 +10,15 @@ ghost use Rattle.table.specs.Live.{without, insert, replace};
 ghost use Rattle.gateway.specs.Depth as D;
 ghost use Rattle.store.specs.Layout.{cell};
 ghost use Rattle.store.specs.View.{side, depth, gateway, Ready};
+ghost use Rattle.orders.specs.Orders.{number-at, resting-of};
+ghost use Rattle.pending.specs.Pending as Pending;
 ghost use Rattle.sound.specs.Sound.{State, Becomes};
 ghost use Rattle.marketdata.specs.Marketdata as P;
 
 // The level of that side, a code, and that price, a word, has changed.
 fn remember(m: &mut [u8], side: u64, price: u64)
-    requires { ⌜ State (now m) × P.Roomy (P.remembering (P.key side price) (depth (cell (now m)))) ⌝ }
-    ensures { λ r. ⌜ Becomes (now (m .exit)) (P.with-depth (P.remembering (P.key side price)) (gateway (cell (now (m .entry))))) ⌝ }
+    requires { ⌜ State (now m) × P.Roomy (P.remembering (Pending.key side price) (depth (cell (now m)))) ⌝ }
+    ensures { λ r. ⌜ Becomes (now (m .exit)) (P.with-depth (P.remembering (Pending.key side price)) (gateway (cell (now (m .entry))))) ⌝ }
 {
     pending::changed::remember(m, side, price);
 }
@@ -113,8 +115,8 @@ fn row_for(m: &mut [u8], number: u64) -> usize
 
 // The order joins its level, and rests in its row.
 fn join(m: &mut [u8], i: usize, o: Resting)
-    requires { ⌜ State (now m) × P.Free i (P.number-at i (cell (now m))) (cell (now m)) × P.Judged (D.add (P.resting-of (P.number-at i (cell (now m))) o) (depth (cell (now m)))) ⌝ }
-    ensures { λ r. ⌜ Becomes (now (m .exit)) (P.with-depth (P.with-resting (insert D.resting-number (P.resting-of (P.number-at i (cell (now (m .entry)))) o))) (gateway (cell (now (m .entry))))) ⌝ }
+    requires { ⌜ State (now m) × P.Free i (number-at i (cell (now m))) (cell (now m)) × P.Judged (D.add (resting-of (number-at i (cell (now m))) o) (depth (cell (now m)))) ⌝ }
+    ensures { λ r. ⌜ Becomes (now (m .exit)) (P.with-depth (P.with-resting (insert D.resting-number (resting-of (number-at i (cell (now (m .entry)))) o))) (gateway (cell (now (m .entry))))) ⌝ }
 {
     levels::add(m, store::side_of(o.side), words::raised(o.price), o.visible);
     orders::rest(m, i, o);
@@ -122,8 +124,8 @@ fn join(m: &mut [u8], i: usize, o: Resting)
 
 // The order of that number rests.
 pub fn add(m: &mut [u8], number: u64, o: Resting)
-    requires { ⌜ State (now m) × P.CanAdd (P.resting-of number o) (cell (now m)) ⌝ }
-    ensures { λ r. ⌜ Becomes (now (m .exit)) (P.with-depth (D.add (P.resting-of number o)) (gateway (cell (now (m .entry))))) ⌝ }
+    requires { ⌜ State (now m) × P.CanAdd (resting-of number o) (cell (now m)) ⌝ }
+    ensures { λ r. ⌜ Becomes (now (m .exit)) (P.with-depth (D.add (resting-of number o)) (gateway (cell (now (m .entry))))) ⌝ }
 {
     let i = row_for(m, number);
     join(m, i, o);

@@ -7,7 +7,6 @@ use Prim.Native.Nat.{ℕ, zero, suc, _+_, _-_, _%_, _≤_, _<_}
 use native.Mathlib.Omega.{arith}
 use borrow.Author.Tests.{eq-eqb, ne-eqb}
 use lib.ListN.{length, length-append}
-use Rattle.words.specs.Words.{int}
 use Rattle.table.specs.Live.{Changed, pick, live, look, without, insert, replace, Ascends}
 use Rattle.table.proofs.Live.{same?, look-some, ascends-ext, ascends-open, gap-end}
 use Rattle.gateway.specs.Calls.{Gateway}
@@ -24,7 +23,7 @@ use Rattle.store.proofs.Rows.{put-cell, row-here, row-there}
 use Rattle.store.proofs.Frames.{Agree, order-same, resting-same, gateway-same}
 use Rattle.orders.specs.declared.Live.{Live}
 use Rattle.orders.specs.declared.Resting.{Resting}
-use Rattle.orders.specs.Orders.{hint-slots, either, Flags, Sorted, Ordered, order-of, set-leaves, revise, show, strike, retire, take-off, rest, append}
+use Rattle.orders.specs.Orders.{hint-slots, either, Flags, Sorted, Ordered, order-of, resting-of, set-leaves, revise, show, strike, retire, take-off, rest, append}
 use Rattle.orders.proofs.Shown.{shown, shown-ext, shown-more, shown-dead, shown-strike, shown-replace, shown-revive, shown-update, shown-length, shown-parts, shown-rises, look-map}
 
 -- the gateway with other lists of orders
@@ -153,10 +152,6 @@ module _ (i : ℕ) (r : Row) (s t : Store) (c : Touched i r s t) where
 abbrev pub revised : ℕ → ℕ → ℕ → Order → Order
 revised c p v o =
     record { number = o .number; account = o .account; client-ref = o .client-ref; side = o .side; price = maybe-price c p; leaves = v }
-
--- the resting order of a number, with these words
-abbrev pub resting-of : ℕ → Resting → D.Resting
-resting-of n o = record { number = n; side = side (o .side); price = int (o .price); visible = o .visible; leaves = o .leaves }
 
 -- t is in order and holds the gateway of s, but for the lists of orders
 pub record Did (s t : Store) (os : List Order) (rs : List D.Resting) : Type 0 where

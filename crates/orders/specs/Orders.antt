@@ -8,6 +8,8 @@ use lib.ListN.{length, getD}
 use Rattle.table.specs.Live.{look, kept, Ascends}
 use Rattle.table.specs.Table.{Finds, found}
 use Rattle.table.specs.declared.Found.{Found}
+use Rattle.words.specs.Words.{int}
+use Rattle.gateway.specs.Depth as D
 use Rattle.gateway.specs.Ledger.{Order}
 use Rattle.store.specs.Cells as C
 use Rattle.store.specs.View.{Row, Store, word, write, fill, side, maybe-price, order, resting, marked, order-room, Bounds}
@@ -67,7 +69,7 @@ abbrev pub resting-row : Row → Resting
 resting-row r =
     record { side = r C.order-rest-side; price = r C.order-rest-price; visible = r C.order-visible; leaves = r C.order-rest-leaves }
 
--- the order of a number, with these words
+-- the orders of a number, with these words
 abbrev pub order-of : ℕ → Live → Order
 order-of n o =
     record {
@@ -78,6 +80,12 @@ order-of n o =
       price = maybe-price (o .priced) (o .price);
       leaves = o .leaves;
     }
+
+abbrev pub resting-of : ℕ → Resting → D.Resting
+resting-of n o = record { number = n; side = side (o .side); price = int (o .price); visible = o .visible; leaves = o .leaves }
+
+abbrev pub number-at : ℕ → Store → ℕ
+number-at i s = s C.orders i C.order-number
 
 -- of the rows in use, the one that bears the number n and whose cell k is not 0
 abbrev pub FindsRow : ℕ → Store → ℕ → Found → Type 0
