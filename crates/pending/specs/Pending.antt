@@ -19,6 +19,8 @@ use Rattle.gateway.specs.Limits.{most-in-flight}
 use Rattle.store.specs.Cells as C
 use Rattle.store.specs.View.{Row, Store, word, write, fill, flag, optional, side, depth}
 use Rattle.pending.specs.declared.Flight as F
+use Rattle.pending.specs.declared.Trade as T
+use Rattle.pending.specs.declared.changed.Changed as L
 
 -- a row behind the others of a block; the word k has how many there are
 abbrev pub push-row : ℕ → ℕ → List ℕ → Store → Store
@@ -52,7 +54,15 @@ land n s = write C.header 0 C.flying (word s C.last + 1 - n) s
 abbrev pub in-flight-as : ℕ → F.Flight → Flight
 in-flight-as n r = record { number = n; session = optional (r .sender); owner = r .owner; places = flag (r .places) }
 
+-- a trade's row, by its words
+abbrev pub trade-words : Row → T.Trade
+trade-words r =
+    record { seq = r C.trade-seq; «trade_id» = r C.trade-trade-id; side = r C.trade-side; price = r C.trade-price; qty = r C.trade-qty }
+
 -- ---- changed levels
+
+abbrev pub changed-words : Row → L.Changed
+changed-words r = record { side = r C.changed-side; price = r C.changed-price }
 
 -- the level of a side's code and a price's word
 abbrev pub key : ℕ → ℕ → Key

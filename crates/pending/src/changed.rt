@@ -65,3 +65,19 @@ pub fn remember(m: &mut [u8], side: u64, price: u64)
     let row = [side, price];
     crate::push_row(m, store::CHANGED, cells::CHANGED_ROWS, &row);
 }
+
+// A changed level: its side a code, its price a word.
+pub struct Changed {
+    pub side: u64,
+    pub price: u64,
+}
+
+pub fn level_at(m: &[u8], i: usize) -> Changed
+    requires { ⌜ Holds (now m) × (i < most-changed) ⌝ }
+    ensures { λ r. ⌜ r ≡ P.changed-words (cell (now (m .entry)) C.changed i) ⌝ }
+{
+    Changed {
+        side: store::get(m, store::CHANGED, i, cells::CHANGED_SIDE),
+        price: store::get(m, store::CHANGED, i, cells::CHANGED_PRICE),
+    }
+}

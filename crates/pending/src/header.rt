@@ -1,8 +1,18 @@
-// The words of the header that a call sets.
+// The words of the header.
 use store::cells;
+ghost use mathlib.Core.Path.{_≡_};
+ghost use Prim.Native.Nat.{_<_};
 ghost use Rattle.store.specs.Layout.{cell, Holds};
-ghost use Rattle.store.specs.View.{Is};
+ghost use Rattle.store.specs.View.{word, Is};
 ghost use Rattle.pending.specs.Pending as P;
+
+// A word of the header: a number of the gateway, or how many rows of a block are in use.
+pub fn word_at(m: &[u8], k: usize) -> u64
+    requires { ⌜ Holds (now m) × (k < 32) ⌝ }
+    ensures { λ r. ⌜ r ≡ word (cell (now (m .entry))) k ⌝ }
+{
+    store::get(m, store::HEADER, 0, k)
+}
 
 pub fn set_clock(m: &mut [u8], time: u64)
     requires { ⌜ Holds (now m) ⌝ }

@@ -45,6 +45,13 @@ pub fn push_notice(m: &mut [u8], account: u64)
     push_row(m, store::NOTICES, cells::NOTICE_ROWS, &row);
 }
 
+pub fn notice_at(m: &[u8], i: usize) -> u64
+    requires { ⌜ Holds (now m) × (i < most-notices) ⌝ }
+    ensures { λ r. ⌜ r ≡ cell (now (m .entry)) C.notices i C.notice-account ⌝ }
+{
+    store::get(m, store::NOTICES, i, cells::NOTICE_ACCOUNT)
+}
+
 // The fields of a trade, its side a code and its price a word.
 pub struct Trade {
     pub seq: u64,
@@ -61,6 +68,19 @@ pub fn push_trade(m: &mut [u8], t: Trade)
 {
     let row = [t.seq, t.trade_id, t.side, t.price, t.qty];
     push_row(m, store::TRADES, cells::TRADE_ROWS, &row);
+}
+
+pub fn trade_at(m: &[u8], i: usize) -> Trade
+    requires { ⌜ Holds (now m) × (i < most-trades) ⌝ }
+    ensures { λ r. ⌜ r ≡ P.trade-words (cell (now (m .entry)) C.trades i) ⌝ }
+{
+    Trade {
+        seq: store::get(m, store::TRADES, i, cells::TRADE_SEQ),
+        trade_id: store::get(m, store::TRADES, i, cells::TRADE_TRADE_ID),
+        side: store::get(m, store::TRADES, i, cells::TRADE_SIDE),
+        price: store::get(m, store::TRADES, i, cells::TRADE_PRICE),
+        qty: store::get(m, store::TRADES, i, cells::TRADE_QTY),
+    }
 }
 
 // Nothing waits to be published any more.
