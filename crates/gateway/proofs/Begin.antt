@@ -31,19 +31,14 @@ use Rattle.gateway.specs.Start.{Started, not-started, started, start-unl
 use Rattle.gateway.specs.Start.{restored-wallet, restored-wallets, restored-ledger, order-tests, saved-tests, restore-tests, hold-notice-of, empty-depth, restore-saved, restore}
 use Rattle.gateway.specs.Fits.{Unsigned, MaybeFundsFit, AccountsFit, ListedFits, ListingFits, Bytes}
 use Rattle.gateway.proofs.Base.{split}
-use Rattle.gateway.proofs.Sorted.{Rises, rises-from, each-insert}
+use Rattle.gateway.proofs.Sorted.{rises-from, each-insert}
 use Rattle.gateway.proofs.Bytes.{SavedWallet, SavedOrder, SavedFits, decode-fits}
-use Rattle.gateway.proofs.Invariant.{CoreOk, All, Keyed, In, Owned, OrderFits, WalletFits, WalletsFit}
-use Rattle.gateway.proofs.Sessions.{SessionsOk, at, Known}
-use Rattle.gateway.proofs.Feed.{FeedOk}
+use Rattle.gateway.proofs.Invariant.{All, Keyed, In}
 use Rattle.gateway.proofs.Listing.{distinct, live-number, live-rises, resting-rises, live-length, each-listed}
-use Rattle.gateway.proofs.Calls.{RestOk, listed-few, pass-append}
+use Rattle.gateway.proofs.Calls.{listed-few, pass-append}
 use Rattle.gateway.proofs.Restore.{Accounts, nothing-saved, by-slot-length, by-slot-owned}
-
--- the whole gateway's invariant
-pub record Ok (g : Gateway) : Type 0 where
-  pub core-is : CoreOk (g .core)
-  pub rest-is : RestOk (length (g .core .accounts)) (g .core .ledger .last) (g .rest)
+use Rattle.gateway.specs.Table.{Rises}
+use Rattle.gateway.specs.Invariant.{CoreOk, FeedOk, Known, Ok, OrderFits, Owned, RestOk, SessionsOk, WalletFits, WalletsFit, at}
 
 abbrev pub Begins : ℕ → List Account → Started → Type 0
 Begins limit l (not-started k) = Unit {0}
@@ -97,11 +92,11 @@ funds-by-slot limit l h = by-slot-fits owner-slots (accounts-of limit l) (entere
 
 -- ---- the rest that begins
 
-no-sessions : (limit : ℕ) → SessionsOk limit (replicate session-slots none)
-no-sessions limit =
+no-sessions : (t : List (Option Account)) → SessionsOk t (replicate session-slots none)
+no-sessions t =
     record {
       slots = length-replicate {A = Option Session} session-slots none;
-      known = λ i. subst (Known limit) (sym (nobody session-slots i)) tt;
+      known = λ i. subst (Known t) (sym (nobody session-slots i)) tt;
       single = λ a i j p q. absurd (no-one (sym (nobody session-slots i) ∙ p));
     }
   where
@@ -113,9 +108,9 @@ no-sessions limit =
     nobody (suc n) zero = refl
     nobody (suc n) (suc i) = nobody n i
 
-begin-ok : (timing : Timing) (k : Ledger) (t : List (Option Account)) (d : Depth) (ns : List ℕ) → FeedOk d [] ns → RestOk (length t) (k .last) (begin timing k t d ns .rest)
+begin-ok : (timing : Timing) (k : Ledger) (t : List (Option Account)) (d : Depth) (ns : List ℕ) → FeedOk d [] ns → RestOk t (k .last) (begin timing k t d ns .rest)
 begin-ok timing k t d ns f =
-    record { sessions = no-sessions (length t); buckets = by-slot-length bucket-of owner-slots t; batch = omega arith; delivered = omega arith; feed = f }
+    record { sessions = no-sessions t; buckets = by-slot-length bucket-of owner-slots t; batch = omega arith; delivered = omega arith; feed = f }
 
 -- ---- set-up
 

@@ -30,9 +30,9 @@ use Rattle.gateway.specs.Bytes.{Read, row, section, head-widths, wallet-
 use Rattle.gateway.specs.Bytes.{wallet-row, order-row, raw, row-wallet, row-order, saved, price-ok, flags-ok, keys-rise, all-rows, table-ok, well-formed, encode, checked, decode}
 use Rattle.gateway.proofs.Base.{split}
 use Rattle.gateway.proofs.Money.{word-back}
-use Rattle.gateway.proofs.Invariant.{OrderFits}
-use Rattle.gateway.proofs.Sorted.{Rises}
 use Rattle.gateway.proofs.Rows.{Fit, done, field, FitRows, row-back, section-back, Of, missing, got, of-then, Wrote, chain, row-only, section-only, bytes-append, row-bytes, section-bytes, rows-length}
+use Rattle.gateway.specs.Table.{Rises}
+use Rattle.gateway.specs.Invariant.{OrderFits}
 
 -- ---- the three parts, as numbers
 

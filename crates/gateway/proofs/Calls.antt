@@ -36,25 +36,17 @@ use Rattle.gateway.specs.Calls.{Call, add-account, connect, set-paper-co
 use Rattle.gateway.specs.Calls.{within, ticked, all-ended, is-idle, fresh-session, without-session, gone, joined, replay-tests, finished, finish-tests, plan}
 use Rattle.gateway.specs.Fits.{Unsigned, CommandFits, EventFits, KindFits, InboundFits, CallFits}
 use Rattle.gateway.proofs.Base.{split}
-use Rattle.gateway.proofs.Invariant.{CoreOk, Runs, runs-below, ItemFits}
-use Rattle.gateway.proofs.Sessions.{SessionsOk, Known, Alike, alike-ok, set-alike, update-alike, closed-alike, stamped-alike, emptied-ok, nobody, taken-ok}
-use Rattle.gateway.proofs.Feed.{FeedOk, apply-rises, published-ok}
+use Rattle.gateway.proofs.Invariant.{runs-below, ItemFits}
+use Rattle.gateway.proofs.Sessions.{Alike, alike-ok, set-alike, update-alike, closed-alike, stamped-alike, emptied-ok, nobody, taken-ok}
+use Rattle.gateway.proofs.Feed.{apply-rises, published-ok}
 use Rattle.gateway.proofs.Listing.{agrees-distinct, resting-rises, resting-length}
-
--- ---- the rest's invariant
-
-pub record RestOk (limit last : ℕ) (r : Rest) : Type 0 where
-  pub sessions : SessionsOk limit (r .sessions)
-  pub buckets : length (r .buckets) ≡ owner-slots
-  pub batch : length (r .batch) ≤ most-in-batch
-  pub delivered : r .delivered ≤ last
-  pub feed : FeedOk (r .depth) (r .trades) (r .notices)
+use Rattle.gateway.specs.Invariant.{CoreOk, FeedOk, Known, RestOk, Runs, SessionsOk}
 
 abbrev pub Good : Core → Plan → Type 0
 Good c (refuse k) = Unit {0}
-Good c (quiet a ms r) = RestOk (length (c .accounts)) (c .ledger .last) r
+Good c (quiet a ms r) = RestOk (c .accounts) (c .ledger .last) r
 Good c (records from i ms r) =
-    Pass (tests i c) × ((Unsigned (from .client-ref) × ItemFits i) × RestOk (length (c .accounts)) (c .ledger .last) r)
+    Pass (tests i c) × ((Unsigned (from .client-ref) × ItemFits i) × RestOk (c .accounts) (c .ledger .last) r)
 
 -- ---- plans
 
@@ -81,24 +73,42 @@ pub pass-append : {A : Type 0} (xs ys : Tests A) → Pass (xs ++ ys) → Pass xs
 pass-append [] ys h = (tt, h)
 pass-append (x ∷ xs) ys h = let t = pass-append xs ys (h .1) in ((h .0, t .0), t .1)
 
+-- ---- accounts that exist
+
+not-none : {A : Type 0} {x : A} → some x ≡ none → ⊥
+not-none e = let z : _≡_ {A = ℕ} 0 1 = cc in omega arith
+
+-- a slot that holds something is within the list
+pub held-slot : {A : Type 0} (xs : List (Option A)) (s : ℕ) (y : A) → getD xs s none ≡ some y → s < length xs
+held-slot [] s y h = absurd (not-none (sym h))
+held-slot (x ∷ xs) zero y h = omega arith
+held-slot (x ∷ xs) (suc s) y h = let t = held-slot xs s y h in omega arith
+
+pub known-below : (t : List (Option Account)) (a : ℕ) → Known t (some a) → a < length t
+known-below t a h = go (getD t a none) refl h
+  where
+    go : (o : Option Account) → getD t a none ≡ o → is-some o ≡ true → a < length t
+    go none e q = absurd (let z : _≡_ {A = ℕ} 0 1 = cc in omega (arith, z))
+    go (some x) e q = held-slot t a x e
+
 -- ---- what keeps the rest
 
-module _ (limit last : ℕ) where
-  alike-rest : (xs : List (Option Session)) (r : Rest) → Alike (r .sessions) xs → RestOk limit last r → RestOk limit last (with-sessions xs r)
+module _ (t : List (Option Account)) (last : ℕ) where
+  alike-rest : (xs : List (Option Session)) (r : Rest) → Alike (r .sessions) xs → RestOk t last r → RestOk t last (with-sessions xs r)
   alike-rest xs r e ok =
-      record { sessions = alike-ok limit e (ok .sessions); buckets = ok .buckets; batch = ok .batch; delivered = ok .delivered; feed = ok .feed }
+      record { sessions = alike-ok t e (ok .sessions); buckets = ok .buckets; batch = ok .batch; delivered = ok .delivered; feed = ok .feed }
 
-  update-rest : (s : ℕ) (f : Session → Session) → ((x : Session) → f x .account ≡ x .account) → (r : Rest) → RestOk limit last r → RestOk limit last (update-session s f r)
+  update-rest : (s : ℕ) (f : Session → Session) → ((x : Session) → f x .account ≡ x .account) → (r : Rest) → RestOk t last r → RestOk t last (update-session s f r)
   update-rest s f h r ok = alike-rest _ r (update-alike s f h r) ok
 
-  emptied-rest : (s : ℕ) (r : Rest) → RestOk limit last r → RestOk limit last (without-session s r)
+  emptied-rest : (s : ℕ) (r : Rest) → RestOk t last r → RestOk t last (without-session s r)
   emptied-rest s r ok =
-      record { sessions = emptied-ok limit (r .sessions) s (ok .sessions); buckets = ok .buckets; batch = ok .batch; delivered = ok .delivered; feed = ok .feed }
+      record { sessions = emptied-ok t (r .sessions) s (ok .sessions); buckets = ok .buckets; batch = ok .batch; delivered = ok .delivered; feed = ok .feed }
 
-  timed-rest : (t : ℕ) (r : Rest) → RestOk limit last r → RestOk limit last (at-time t r)
-  timed-rest t r ok = record { sessions = ok .sessions; buckets = ok .buckets; batch = ok .batch; delivered = ok .delivered; feed = ok .feed }
+  timed-rest : (now : ℕ) (r : Rest) → RestOk t last r → RestOk t last (at-time now r)
+  timed-rest now r ok = record { sessions = ok .sessions; buckets = ok .buckets; batch = ok .batch; delivered = ok .delivered; feed = ok .feed }
 
-  published-rest : (r : Rest) → RestOk limit last r → RestOk limit last (published r)
+  published-rest : (r : Rest) → RestOk t last r → RestOk t last (published r)
   published-rest r ok = record { sessions = ok .sessions; buckets = ok .buckets; batch = ok .batch; delivered = ok .delivered; feed = published-ok (ok .feed) }
 
 -- stamping changes sessions alone
@@ -107,8 +117,8 @@ stamped-is [] r = refl
 stamped-is (send s m ∷ ms) r = stamped-is ms _
 stamped-is (close s ∷ ms) r = stamped-is ms r
 
-pub stamped-rest : (limit last : ℕ) (ms : List Mail) (r : Rest) → RestOk limit last r → RestOk limit last (stamped ms r)
-stamped-rest limit last ms r ok = subst (RestOk limit last) (sym (stamped-is ms r)) (alike-rest limit last _ r (stamped-alike ms r) ok)
+pub stamped-rest : (t : List (Option Account)) (last : ℕ) (ms : List Mail) (r : Rest) → RestOk t last r → RestOk t last (stamped ms r)
+stamped-rest t last ms r ok = subst (RestOk t last) (sym (stamped-is ms r)) (alike-rest t last _ r (stamped-alike ms r) ok)
 
 -- ---- numbering
 
@@ -125,8 +135,8 @@ next-passes : (c : Core) (k : Command) → own-number (next c) k ≡ true → ow
 unfolding tests
 next-passes c k o w f l t = (eq-eqb (next c) (next c) refl, (o, (w, (f, (l, (t, tt))))))
 
-queued-ok : (limit last : ℕ) (k : Command) (r : Rest) → ltb (length (r .batch)) most-in-batch ≡ true → RestOk limit last r → RestOk limit last (queued k r)
-queued-ok limit last k r h ok =
+queued-ok : (t : List (Option Account)) (last : ℕ) (k : Command) (r : Rest) → ltb (length (r .batch)) most-in-batch ≡ true → RestOk t last r → RestOk t last (queued k r)
+queued-ok t last k r h ok =
     record {
       sessions = ok .sessions;
       buckets = ok .buckets;
@@ -137,7 +147,7 @@ queued-ok limit last k r h ok =
 
 -- a command that places nothing, numbered where there is room
 numbered-good : {A : Type 0} (x : A) (s : Option ℕ) (k : Command) (c : Core) (r : Rest) → order-of k ≡ none → own-number (next c) k ≡ true →
-    owner-below (length (c .accounts)) k ≡ true → CommandFits k → CoreOk c → RestOk (length (c .accounts)) (c .ledger .last) r →
+    owner-below (length (c .accounts)) k ≡ true → CommandFits k → CoreOk c → RestOk (c .accounts) (c .ledger .last) r →
     Pass (can-number x c r) → Good c (numbered s k c r)
 numbered-good x s k c r e o w f ok rok t = (
   next-passes c k o w (t .0) (rw e refl) (no-more c (next c) k e ok),
@@ -146,13 +156,13 @@ numbered-good x s k c r e o w f ok rok t = (
 
 -- ---- receiving
 
-token-ok : (a : ℕ) (c : Core) (r : Rest) → RestOk (length (c .accounts)) (c .ledger .last) r →
-    RestOk (length (c .accounts)) (c .ledger .last) (with-buckets (set (r .buckets) a (taken a c r .bucket)) r)
+token-ok : (a : ℕ) (c : Core) (r : Rest) → RestOk (c .accounts) (c .ledger .last) r →
+    RestOk (c .accounts) (c .ledger .last) (with-buckets (set (r .buckets) a (taken a c r .bucket)) r)
 token-ok a c r ok =
     record { sessions = ok .sessions; buckets = rw length-set (ok .buckets); batch = ok .batch; delivered = ok .delivered; feed = ok .feed }
 
-with-token-good : (s a ref : ℕ) (c : Core) (r : Rest) (enter : Rest → Plan) → RestOk (length (c .accounts)) (c .ledger .last) r →
-    ((q : Rest) → RestOk (length (c .accounts)) (c .ledger .last) q → Good c (enter q)) → Good c (with-token s a ref c r enter)
+with-token-good : (s a ref : ℕ) (c : Core) (r : Rest) (enter : Rest → Plan) → RestOk (c .accounts) (c .ledger .last) r →
+    ((q : Rest) → RestOk (c .accounts) (c .ledger .last) q → Good c (enter q)) → Good c (with-token s a ref c r enter)
 with-token-good s a ref c r enter ok h =
     let after = with-buckets (set (r .buckets) a (taken a c r .bucket)) r in
     unless-good c (reject s ref after) (enter after) _ (λ k. token-ok a c r ok) (λ t. h after (token-ok a c r ok))
@@ -178,8 +188,8 @@ or-true : (b : Bool) (x : Bool) → x ≡ true → b || x ≡ true
 or-true true x h = refl
 or-true false x h = h
 
-noticed-ok : (limit last : ℕ) (ns : List ℕ) (r : Rest) → leb (length (r .notices ++ ns)) most-notices ≡ true → RestOk limit last r → RestOk limit last (noticing ns r)
-noticed-ok limit last ns r h ok =
+noticed-ok : (t : List (Option Account)) (last : ℕ) (ns : List ℕ) (r : Rest) → leb (length (r .notices ++ ns)) most-notices ≡ true → RestOk t last r → RestOk t last (noticing ns r)
+noticed-ok t last ns r h ok =
     record {
       sessions = ok .sessions;
       buckets = ok .buckets;
@@ -189,7 +199,7 @@ noticed-ok limit last ns r h ok =
     }
 
 enter-new-good : (s a : ℕ) (o : NewOrder) (c : Core) (r : Rest) → InboundFits (In.NewOrder o) → a < length (c .accounts) → CoreOk c →
-    RestOk (length (c .accounts)) (c .ledger .last) r → Good c (enter-new s a o c r)
+    RestOk (c .accounts) (c .ledger .last) r → Good c (enter-new s a o c r)
 enter-new-good s a o c r f l ok rok =
     let k = command-of (next c) a (o .side) (o .qty) (o .kind) in
     unless-good c (reject s (o .«client_ref») r) _ (new-tests a o k c r) (λ w. rok)
@@ -204,20 +214,20 @@ enter-new-good s a o c r f l ok rok =
       ),
     ))
 
-ended-ok : (limit last s : ℕ) (r : Rest) → RestOk limit last r → RestOk limit last (update-session s set-closing r)
-ended-ok limit last s r ok = update-rest limit last s set-closing (λ x. refl) r ok
+ended-ok : (t : List (Option Account)) (last s : ℕ) (r : Rest) → RestOk t last r → RestOk t last (update-session s set-closing r)
+ended-ok t last s r ok = update-rest t last s set-closing (λ x. refl) r ok
 
 -- a wallet's modify is not allowed
 abbrev may-modify : ℕ → Core → Tests RejectCode
 may-modify a c = (NotAllowed, not (is-some (wallet-at a c))) ∷ []
 
 enter-other-good : (s : ℕ) (own : Tests RejectCode) (k : Command) (c : Core) (r : Rest) → order-of k ≡ none → own-number (next c) k ≡ true →
-    owner-below (length (c .accounts)) k ≡ true → CommandFits k → CoreOk c → RestOk (length (c .accounts)) (c .ledger .last) r → Good c (enter-other s own k c r)
+    owner-below (length (c .accounts)) k ≡ true → CommandFits k → CoreOk c → RestOk (c .accounts) (c .ledger .last) r → Good c (enter-other s own k c r)
 enter-other-good s own k c r e o w f ok rok =
     unless-good c (reject s 0 r) (numbered (some s) k c r) (own ++ can-number Unavailable c r) (λ x. rok)
     (λ t. numbered-good Unavailable (some s) k c r e o w f ok rok (pass-append own (can-number Unavailable c r) t .1))
 
-hear-good : (s a : ℕ) (m : Inbound) (c : Core) (r : Rest) → InboundFits m → a < length (c .accounts) → CoreOk c → RestOk (length (c .accounts)) (c .ledger .last) r →
+hear-good : (s a : ℕ) (m : Inbound) (c : Core) (r : Rest) → InboundFits m → a < length (c .accounts) → CoreOk c → RestOk (c .accounts) (c .ledger .last) r →
     Good c (hear s a m c r)
 unfolding hear order-of own-number owner-below
 hear-good s a (In.Login version b token) c r f l ok rok = rok
@@ -235,15 +245,6 @@ hear-good s a In.MassCancel c r f l ok rok =
 
 -- ---- logging in
 
-not-none : {A : Type 0} {x : A} → some x ≡ none → ⊥
-not-none e = let z : _≡_ {A = ℕ} 0 1 = cc in omega arith
-
--- a slot that holds something is within the list
-pub held-slot : {A : Type 0} (xs : List (Option A)) (s : ℕ) (y : A) → getD xs s none ≡ some y → s < length xs
-held-slot [] s y h = absurd (not-none (sym h))
-held-slot (x ∷ xs) zero y h = omega arith
-held-slot (x ∷ xs) (suc s) y h = let t = held-slot xs s y h in omega arith
-
 token-held : (t : ℕ) (o : Option Account) → token-is t o ≡ true → (a : Account) × (o ≡ some a)
 token-held t none h = absurd (let z : _≡_ {A = ℕ} 0 1 = cc in omega (arith, z))
 token-held t (some a) h = (a, refl)
@@ -252,8 +253,8 @@ not-some : (b : Bool) → not b ≡ true → b ≡ false
 not-some true h = sym h
 not-some false h = refl
 
-logged-in-good : (s a : ℕ) (y : Session) (c : Core) (r : Rest) → session-at s r ≡ some y → a < length (c .accounts) → is-some (session-of a r) ≡ false →
-    RestOk (length (c .accounts)) (c .ledger .last) r → Good c (logged-in s a c r)
+logged-in-good : (s a : ℕ) (y : Session) (c : Core) (r : Rest) → session-at s r ≡ some y → Known (c .accounts) (some a) → is-some (session-of a r) ≡ false →
+    RestOk (c .accounts) (c .ledger .last) r → Good c (logged-in s a c r)
 logged-in-good s a y c r e l n ok =
     record {
       sessions =
@@ -264,13 +265,13 @@ logged-in-good s a y c r e l n ok =
       feed = ok .feed;
     }
 
-greet-good : (s : ℕ) (y : Session) (m : Inbound) (c : Core) (r : Rest) → session-at s r ≡ some y → RestOk (length (c .accounts)) (c .ledger .last) r → Good c (greet s m c r)
+greet-good : (s : ℕ) (y : Session) (m : Inbound) (c : Core) (r : Rest) → session-at s r ≡ some y → RestOk (c .accounts) (c .ledger .last) r → Good c (greet s m c r)
 unfolding greet
 greet-good s y (In.Login version a token) c r e ok =
     unless-good c _ (logged-in s a c r) (login-tests version a token c r) (λ why. ended-ok _ _ s r ok)
     (λ t.
     let h = token-held token (account-at a c) (t .1 .0) in
-    logged-in-good s a y c r e (held-slot (c .accounts) a (h .0) (h .1)) (not-some _ (t .1 .1 .0)) ok)
+    logged-in-good s a y c r e (ap is-some (h .1)) (not-some _ (t .1 .1 .0)) ok)
 greet-good s y In.Logout c r e ok = ended-ok _ _ s r ok
 greet-good s y In.Heartbeat c r e ok = ended-ok _ _ s r ok
 greet-good s y (In.NewOrder o) c r e ok = ended-ok _ _ s r ok
@@ -287,12 +288,12 @@ present-some (some y) h = (y, refl)
 updated-there : (s : ℕ) (y : Session) (f : Session → Session) (r : Rest) → session-at s r ≡ some y → session-at s (update-session s f r) ≡ some (f y)
 updated-there s y f r e = getD-set-same (r .sessions) s _ none (held-slot (r .sessions) s y e) ∙ ap (Option·map f) e
 
-heard-good : (s : ℕ) (y : Session) (m : Inbound) (c : Core) (r : Rest) (a : Option ℕ) → InboundFits m → session-at s r ≡ some y → Known (length (c .accounts)) a →
-    CoreOk c → RestOk (length (c .accounts)) (c .ledger .last) r → Good c (option (greet s m c r) (λ b. hear s b m c r) a)
+heard-good : (s : ℕ) (y : Session) (m : Inbound) (c : Core) (r : Rest) (a : Option ℕ) → InboundFits m → session-at s r ≡ some y → Known (c .accounts) a →
+    CoreOk c → RestOk (c .accounts) (c .ledger .last) r → Good c (option (greet s m c r) (λ b. hear s b m c r) a)
 heard-good s y m c r none f e l ok rok = greet-good s y m c r e rok
-heard-good s y m c r (some a) f e l ok rok = hear-good s a m c r f l ok rok
+heard-good s y m c r (some a) f e l ok rok = hear-good s a m c r f (known-below (c .accounts) a l) ok rok
 
-receive-good : (s : ℕ) (m : Inbound) (c : Core) (r : Rest) → InboundFits m → CoreOk c → RestOk (length (c .accounts)) (c .ledger .last) r → Good c (receive s m c r)
+receive-good : (s : ℕ) (m : Inbound) (c : Core) (r : Rest) → InboundFits m → CoreOk c → RestOk (c .accounts) (c .ledger .last) r → Good c (receive s m c r)
 unfolding receive
 receive-good s m c r f ok rok =
     let after = update-session s (set-received (r .clock)) r in
@@ -316,7 +317,7 @@ event-passes : (n : ℕ) (e : Event) (c : Core) → Pass (event-tests n e c) →
 unfolding tests
 event-passes n e c t h = (t .0, (t .1 .0, (t .1 .1 .0, (h, tt))))
 
-deliver-good : (n : ℕ) (e : Event) (c : Core) (r : Rest) → EventFits e → CoreOk c → RestOk (length (c .accounts)) (c .ledger .last) r → Pass (deliver-tests n e c r) → Good c (deliver n e c r)
+deliver-good : (n : ℕ) (e : Event) (c : Core) (r : Rest) → EventFits e → CoreOk c → RestOk (c .accounts) (c .ledger .last) r → Pass (deliver-tests n e c r) → Good c (deliver n e c r)
 deliver-good n e c r f ok rok t =
     let u = pass-append (event-tests n e c) (feed-tests n e c r) t in
     let v = u .1 in (
@@ -341,11 +342,11 @@ deliver-good n e c r f ok rok t =
 
 -- ---- the other calls
 
-gone-good : (a : Option ℕ) (c : Core) (r : Rest) → Known (length (c .accounts)) a → CoreOk c → RestOk (length (c .accounts)) (c .ledger .last) r → Good c (gone a c r)
+gone-good : (a : Option ℕ) (c : Core) (r : Rest) → Known (c .accounts) a → CoreOk c → RestOk (c .accounts) (c .ledger .last) r → Good c (gone a c r)
 unfolding order-of own-number owner-below
 gone-good none c r l ok rok = rok
 gone-good (some a) c r l ok rok =
-    guard-good c (numbered none (CancelAll a) c r) (can-number full c r) (λ t. numbered-good full none (CancelAll a) c r refl refl (lt-ltb a _ l) tt ok rok t)
+    guard-good c (numbered none (CancelAll a) c r) (can-number full c r) (λ t. numbered-good full none (CancelAll a) c r refl refl (lt-ltb a _ (known-below (c .accounts) a l)) tt ok rok t)
 
 pub listed-few : (xs : List Listed) (m : ℕ) → length xs ≡ m → m ≤ most-orders → levels-few (listed-depth xs .resting) ≡ true → depth-few (listed-depth xs) ≡ true
 unfolding depth-few
@@ -353,8 +354,8 @@ listed-few xs m e h t =
     and-eq-true-iff (leb (length (listed-depth xs .resting)) most-orders) _ .1
     (le-leb (length (listed-depth xs .resting)) most-orders (omega (arith, resting-length xs)), and-eq-true-iff (levels-few (listed-depth xs .resting)) true .1 (t, refl))
 
-finished-ok : (xs : List Listed) (c : Core) (r : Rest) → CoreOk c → RestOk (length (c .accounts)) (c .ledger .last) r → Pass (finish-tests xs c) →
-    RestOk (length (c .accounts)) (c .ledger .last) (finished xs c r)
+finished-ok : (xs : List Listed) (c : Core) (r : Rest) → CoreOk c → RestOk (c .accounts) (c .ledger .last) r → Pass (finish-tests xs c) →
+    RestOk (c .accounts) (c .ledger .last) (finished xs c r)
 finished-ok xs c r ok rok t =
     let d = agrees-distinct xs (c .ledger .orders) (t .0) in
     record {
@@ -373,7 +374,7 @@ replayed-first : (n : ℕ) (e : Event) (c : Core) → Pass (tests (event n e) c)
 unfolding tests
 replayed-first n e c t = t .0
 
-pub plan-good : (c : Core) (r : Rest) (x : Call) → CallFits x → CoreOk c → RestOk (length (c .accounts)) (c .ledger .last) r → Good c (plan c r x)
+pub plan-good : (c : Core) (r : Rest) (x : Call) → CallFits x → CoreOk c → RestOk (c .accounts) (c .ledger .last) r → Good c (plan c r x)
 unfolding plan
 plan-good c r (add-account a) f ok rok =
     guard-good c (records system (account a) [] (joined a r)) (tests (account a) c)

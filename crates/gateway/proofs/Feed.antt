@@ -16,7 +16,9 @@ use Rattle.gateway.specs.Basics.{option}
 use Rattle.gateway.specs.Depth.{Resting, Depth, resting-number, find-resting, add, show, take-off, where-resting, filled, modified, showing, lesser, same-price, apply, depth-agrees, levels-fit, levels-few, depth-few}
 use Rattle.gateway.specs.Entry.{settled-depth}
 use Rattle.gateway.proofs.Base.{split}
-use Rattle.gateway.proofs.Sorted.{Rises, absent-is, rises-insert, rises-replace, rises-without}
+use Rattle.gateway.proofs.Sorted.{absent-is, rises-insert, rises-replace, rises-without}
+use Rattle.gateway.specs.Table.{Rises}
+use Rattle.gateway.specs.Invariant.{FeedOk}
 
 abbrev Ascending : Depth → Type 0
 Ascending d = Rises resting-number 0 (d .resting)
@@ -68,13 +70,6 @@ apply-rises (StopPlaced i s t l q) d a h = h
 apply-rises (Triggered i) d a h = h
 apply-rises (MassCancelled o k) d a h = h
 apply-rises (PhaseChanged p) d a h = h
-
-pub record FeedOk (d : Depth) (ts : List TradeTick) (ns : List ℕ) : Type 0 where
-  pub ascending : Rises resting-number 0 (d .resting)
-  pub fit : levels-fit (d .resting) ≡ true
-  pub few : depth-few d ≡ true
-  pub few-trades : length ts ≤ most-trades
-  pub few-notices : length ns ≤ most-notices
 
 settled-few : (d : Depth) → depth-few d ≡ true → depth-few (settled-depth d) ≡ true
 unfolding depth-few

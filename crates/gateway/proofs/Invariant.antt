@@ -28,15 +28,16 @@ use Rattle.gateway.specs.Ledger.{Order, Ledger, New, Item, account, comm
 use Rattle.gateway.specs.Ledger.{Change, mark-by, fill, set-leaves, reprice, retire, changes, change, changed, pay, paper, funds-of, step, same-side, order-hold, held, fits, wallet-fits, wallets-fit, holds-fit, open-of}
 use Rattle.gateway.specs.Basics.{is-some}
 use Rattle.table.specs.Live.{Each, without}
-use Rattle.gateway.specs.Table.{update}
+use Rattle.gateway.specs.Table.{update, Rises}
 use Rattle.gateway.specs.Core.{Pass, Origin, Flight, Core, flight, drop-below, places, owner-below, tests, core-step}
 use Rattle.gateway.specs.Start.{funds-in}
 use Rattle.gateway.specs.Fits.{Unsigned, Signed, PriceFits, FundsFit, MaybeFundsFit, AccountFits, CommandFits, EventFits}
 use Rattle.gateway.proofs.Base.{split}
 use Rattle.table.proofs.Live.{same?}
-use Rattle.gateway.proofs.Sorted.{Rises, rises-from}
+use Rattle.gateway.proofs.Sorted.{rises-from}
 use Rattle.gateway.proofs.Forget.{step-forget, holds-forget}
 use Rattle.gateway.proofs.Money.{settle-fits, zero-fits}
+use Rattle.gateway.specs.Invariant.{CoreOk, LedgerFits, OrderFits, Owned, Runs, WalletFits, WalletsFit}
 
 -- ---- orders
 
@@ -50,6 +51,7 @@ All P os = Each P os
 abbrev pub Keyed : (ℕ → ℕ → Type 0) → Order → Type 0
 Keyed P o = P (o .number) (o .account)
 
+-- such a P: `Inside` of the invariant
 abbrev pub In : ℕ → ℕ → ℕ → ℕ → Type 0
 In last limit n a = (n ≤ last) × (a < limit)
 
@@ -129,21 +131,6 @@ rise-more : (k m limit : ℕ) (os : List Order) (o : Order) → k ≤ o .number 
 rise-more k m limit [] o h g t u = (h, tt)
 rise-more k m limit (p ∷ os) o h g t u = (t .0, rise-more (suc (p .number)) m limit os o (omega (arith, u .0 .0)) g (t .1) (u .1))
 
--- ---- what fits
-
-pub record OrderFits (o : Order) : Type 0 where
-  pub ref-fits : Unsigned (o .client-ref)
-  pub price-fits : PriceFits (o .price)
-  pub leaves-fit : Unsigned (o .leaves)
-
-abbrev pub WalletFits : Option Funds → Type 0
-WalletFits none = Unit {0}
-WalletFits (some w) = FundsFit w
-
-abbrev pub WalletsFit : List (Option Funds) → Type 0
-WalletsFit [] = Unit {0}
-WalletsFit (w ∷ ws) = WalletFits w × WalletsFit ws
-
 abbrev ChangeFits : Change → Type 0
 ChangeFits (mark-by t m p) = Signed p
 ChangeFits (fill n p q v) = Unsigned v
@@ -192,12 +179,6 @@ left-fits : (f : Order → Order) → ((o : Order) → OrderFits o → OrderFits
 left-fits f g n v os u h =
     split (λ b. All OrderFits (cond b (remove n os) (update number-of n (λ o. with-leaves v (f o)) os))) (eqb v 0) (λ e. remove-fits n os h)
     (λ e. update-fits (λ o. with-leaves v (f o)) (λ o k. leaves-fits v (f o) u (g o k)) n os h)
-
-pub record LedgerFits (l : Ledger) : Type 0 where
-  pub last-fits : Unsigned (l .last)
-  pub money-fits : WalletsFit (l .wallets)
-  pub orders-fit : All OrderFits (l .orders)
-  pub mark-fits : PriceFits (l .mark)
 
 settled-fits : (s : Side) (p : ℤ) (q : ℕ) (w : Option Funds) → WalletFits (Option·map (settle s p q) w)
 settled-fits s p q none = tt
@@ -316,10 +297,6 @@ unfolding pay
 pay-length m p q none ws h = h
 pay-length m p q (some o) ws h = rw length-set h
 
--- a wallet where the account has funds, and only there
-abbrev pub Owned : List (Option Account) → List (Option Funds) → Type 0
-Owned t ws = (i : ℕ) → is-some (getD ws i none) ≡ is-some (funds-in (getD t i none))
-
 some-map : (f : Funds → Funds) (w : Option Funds) → is-some (Option·map f w) ≡ is-some w
 some-map f none = refl
 some-map f (some w) = refl
@@ -374,10 +351,6 @@ fits-none a (some w) os h = simp (held-none a Buy os h, held-none a Sell os h, z
 
 -- ---- the run of commands in flight: consecutive numbers that end at the last
 
-abbrev pub Runs : ℕ → List Flight → Type 0
-Runs last [] = Unit {0}
-Runs last (f ∷ fs) = (f .number + length fs ≡ last) × Runs last fs
-
 runs-more : (last n : ℕ) (fs : List Flight) (f : Flight) → n ≡ last + 1 → f .number ≡ n → Runs last fs → Runs n (fs ++ (f ∷ []))
 runs-more last n [] f e g h = (omega arith, tt)
 runs-more last n (x ∷ fs) f e g h = (omega (arith, h .0, length-append fs (f ∷ [])), runs-more last n fs f e g (h .1))
@@ -395,18 +368,6 @@ few-below m n (f ∷ fs) h =
     split (λ b. length (cond b (drop-below n fs) (f ∷ fs)) ≤ m) (ltb (f .number) n) (λ e. t) (λ e. h)
 
 -- ---- the invariant
-
-pub record CoreOk (c : Core) : Type 0 where
-  pub slots : length (c .ledger .wallets) ≡ owner-slots
-  pub owned : Owned (c .accounts) (c .ledger .wallets)
-  pub rise : Rise 0 (c .ledger .orders)
-  pub inside : All (Keyed (In (c .ledger .last) (length (c .accounts)))) (c .ledger .orders)
-  pub few : length (c .ledger .orders) ≤ most-orders
-  pub runs : Runs (c .ledger .last) (c .flights)
-  pub flying : length (c .flights) ≤ most-in-flight
-  pub holds : holds-fit (c .ledger) ≡ true
-  pub limit : length (c .accounts) ≤ owner-slots
-  pub fit : LedgerFits (c .ledger)
 
 -- a wallet's hold totals do not see the reference
 holds-ref : (ref n : ℕ) (k : Command) (l : Ledger) → l .last < n → holds-fit (step ref (command n k) l) ≡ holds-fit (step 0 (command n k) l)
@@ -474,7 +435,7 @@ core-ok from (event n e) c r f ok p =
       slots = paid (λ ws. length ws ≡ owner-slots) (pay-length owner-slots) (changes n e) (c .ledger) (ok .slots) .1;
       owned = paid (Owned (c .accounts)) (pay-owned (c .accounts)) (changes n e) (c .ledger) (ok .owned) .1;
       rise = rise-shrinks 0 s (ok .rise);
-      inside = rw last-stays (all-shrinks _ s (ok .inside));
+      inside = rw last-stays (all-shrinks (In (c .ledger .last) (length (c .accounts))) s (ok .inside));
       few = omega (arith, length-shrinks s, ok .few);
       runs = rw last-stays (runs-below _ n (c .flights) (ok .runs));
       flying = few-below most-in-flight n (c .flights) (ok .flying);

@@ -17,8 +17,8 @@ use Rattle.table.specs.Live.{Each, look, without, insert, replace}
 use Rattle.gateway.specs.Ledger.{same-side}
 use Rattle.gateway.specs.Depth.{Resting, Level, Depth, same-price, better, joined, levels, level-in, resting-number, add, show, take-off}
 use Rattle.gateway.proofs.Base.{split}
-use Rattle.gateway.proofs.Sorted.{Rises}
 use Rattle.gateway.proofs.Counted.{and-comm, better-trans, joins}
+use Rattle.gateway.specs.Table.{Rises}
 
 -- ---- prices compared
 

@@ -31,10 +31,11 @@ use Rattle.gateway.specs.Start.{Started, not-started, started, start-unl
 use Rattle.gateway.specs.Fits.{Unsigned, AccountsFit, ListingFits, Bytes, CallFits, CallsFit}
 use Rattle.gateway.specs.Restart.{next-of, final}
 use Rattle.gateway.proofs.Base.{split}
-use Rattle.gateway.proofs.Invariant.{CoreOk, All, Keyed, In, Shrinks, Runs, shrunk, all-shrinks, all-more}
+use Rattle.gateway.proofs.Invariant.{All, Keyed, In, Shrinks, shrunk, all-shrinks, all-more}
 use Rattle.gateway.proofs.Calls.{Good, plan-good}
-use Rattle.gateway.proofs.Begin.{Ok, Begins, set-up-begins, restore-begins}
+use Rattle.gateway.proofs.Begin.{Begins, set-up-begins, restore-begins}
 use Rattle.gateway.proofs.Restart.{call-ok}
+use Rattle.gateway.specs.Invariant.{CoreOk, Ok, Runs}
 
 abbrev No : ℕ → List Order → Type 0
 No n os = All (Keyed (λ m a. m ≡ n → ⊥)) os

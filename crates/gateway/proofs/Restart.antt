@@ -8,7 +8,7 @@
 -- What it does not say: it does not speak of sessions, the depth, batches or what waits to be published, which a restart loses; and an event of a
 -- command numbered at or before the checkpoint finds no command in the restored gateway, so nothing is claimed then. 01 also excludes checkpoints
 -- followed by an accepted `finish`; here they are included, since `finish` moves nothing that the ledger holds. Assumes nothing.
-use Prim.Native.Nat.{ℕ, _+_, _<_, _≤_}
+use Prim.Native.Nat.{ℕ, zero, suc, _+_, _<_, _≤_}
 use mathlib.Core.Bool.{true, cond, not, and-eq-true-iff}
 use mathlib.Core.Path.{_≡_, refl, ap, sym, _∙_, subst}
 use mathlib.Core.Option.{Option, none, some, Option·map}
@@ -22,7 +22,7 @@ use Rattle.orderbook.specs.declared.Listed.{Listed}
 use Rattle.accounts.specs.declared.Account.{Account}
 use Rattle.accounts.specs.declared.Funds.{Funds}
 use Rattle.accounts.specs.declared.Timing.{Timing}
-use Rattle.gateway.specs.Basics.{option}
+use Rattle.gateway.specs.Basics.{option, is-some}
 use Rattle.gateway.specs.Limits.{malformed}
 use Rattle.gateway.specs.Ledger.{Order, Item, account, command, event, order-hold, open-of, step, replayed}
 use Rattle.gateway.specs.Saved.{contents, opening}
@@ -38,17 +38,13 @@ use Rattle.gateway.proofs.Base.{split}
 use Rattle.gateway.proofs.Forget.{above, step-forget, open-forget, held-forget}
 use Rattle.gateway.proofs.View.{view, step-view, tests-view}
 use Rattle.gateway.proofs.Invariant.{core-ok, last-stays}
-use Rattle.gateway.proofs.Calls.{RestOk, Good, plan-good, unless-pass, stamped-rest}
+use Rattle.gateway.proofs.Calls.{Good, plan-good, unless-pass, stamped-rest}
 use Rattle.gateway.proofs.Restore.{Accounts, begun-from, restores, opening-contents, view-now}
 use Rattle.gateway.proofs.Bytes.{decode-encode}
-use Rattle.gateway.proofs.Begin.{Ok, Begins, set-up-begins, restore-begins, contents-fit}
+use Rattle.gateway.proofs.Begin.{Begins, set-up-begins, restore-begins, contents-fit}
+use Rattle.gateway.specs.Invariant.{at, Known, RestOk, Ok}
 
 -- ---- one call, and a list of calls, keep the invariant
-
-size-after : (i : Item) (t : List (Option Account)) → length (accounts-after i t) ≡ length t
-size-after (account a) t = rw length-set refl
-size-after (command n k) t = refl
-size-after (event n e) t = refl
 
 -- the last number never falls
 last-grows : (from : Origin) (i : Item) (c : Core) → Pass (tests i c) → c .ledger .last ≤ core-step from i c .ledger .last
@@ -57,8 +53,32 @@ last-grows from (account a) c p = omega arith
 last-grows from (command n k) c p = omega (arith, eqb-true n (c .ledger .last + 1) (p .0))
 last-grows from (event n e) c p = rw last-stays (omega arith)
 
-rest-later : (limit m n : ℕ) (r : Rest) → m ≤ n → RestOk limit m r → RestOk limit n r
-rest-later limit m n r h ok = record { sessions = ok .sessions; buckets = ok .buckets; batch = ok .batch; delivered = omega (arith, ok .delivered); feed = ok .feed }
+rest-later : (t : List (Option Account)) (m n : ℕ) (r : Rest) → m ≤ n → RestOk t m r → RestOk t n r
+rest-later t m n r h ok = record { sessions = ok .sessions; buckets = ok .buckets; batch = ok .batch; delivered = omega (arith, ok .delivered); feed = ok .feed }
+
+-- an account that exists stays
+still-known : (a : Account) (t : List (Option Account)) (o : Option ℕ) → Known t o → Known (accounts-after (account a) t) o
+still-known a t none h = tt
+still-known a t (some b) h = go t (a .id) b h
+  where
+    go : (t : List (Option Account)) (i b : ℕ) → is-some (getD t b none) ≡ true → is-some (getD (set t i (some a)) b none) ≡ true
+    go [] i b q = q
+    go (x ∷ t) zero zero q = refl
+    go (x ∷ t) zero (suc b) q = q
+    go (x ∷ t) (suc i) zero q = q
+    go (x ∷ t) (suc i) (suc b) q = go t i b q
+
+rest-known : (i : Item) (t : List (Option Account)) (last : ℕ) (r : Rest) → RestOk t last r → RestOk (accounts-after i t) last r
+rest-known (account a) t last r ok =
+    record {
+      sessions = record { slots = ok .sessions .slots; known = λ i. still-known a t (at (r .sessions) i) (ok .sessions .known i); single = ok .sessions .single };
+      buckets = ok .buckets;
+      batch = ok .batch;
+      delivered = ok .delivered;
+      feed = ok .feed;
+    }
+rest-known (command n k) t last r ok = ok
+rest-known (event n e) t last r ok = ok
 
 carry-ok : (g : Gateway) (p : Plan) → Ok g → Good (g .core) p → Ok (next-of g (carry-out (g .core) p))
 carry-ok g (refuse k) ok h = ok
@@ -66,7 +86,8 @@ carry-ok g (quiet a ms r) ok h = record { core-is = ok .core-is; rest-is = stamp
 carry-ok g (records from i ms r) ok h =
     record {
       core-is = core-ok from i (g .core) (h .1 .0 .0) (h .1 .0 .1) (ok .core-is) (h .0);
-      rest-is = subst (λ n. RestOk n (core-step from i (g .core) .ledger .last) (stamped ms r)) (sym (size-after i (g .core .accounts)))
+      rest-is =
+          rest-known i (g .core .accounts) _ (stamped ms r)
           (rest-later _ _ _ (stamped ms r) (last-grows from i (g .core) (h .0)) (stamped-rest _ _ ms r (h .1 .1)));
     }
 

@@ -21,7 +21,8 @@ use Rattle.gateway.specs.Start.{Started, started, start-unless, accounts
 use Rattle.gateway.specs.Restart.{forget}
 use Rattle.gateway.proofs.Base.{split}
 use Rattle.gateway.proofs.View.{view}
-use Rattle.gateway.proofs.Invariant.{CoreOk, All, Keyed, In, Owned, Runs}
+use Rattle.gateway.proofs.Invariant.{All, Keyed, In}
+use Rattle.gateway.specs.Invariant.{CoreOk, Owned, Runs}
 
 -- ---- wallets: slots, saved and filled again
 

@@ -1,4 +1,4 @@
--- Sessions and accounts name each other: each session's account is below the limit, and no two sessions have one account. Assumes nothing.
+-- Sessions and accounts name each other: each session's account exists, and no two sessions have one account. Assumes nothing.
 use Prim.Native.Nat.{ℕ, zero, suc, _<_}
 use mathlib.Core.Bool.{Bool, true, false, cond}
 use mathlib.Core.Path.{_≡_, refl, ap, sym, _∙_, subst}
@@ -10,24 +10,13 @@ use borrow.Author.Tests.{eq-eqb}
 use lib.ListN.{length, getD, set, length-set}
 use lib.Seq.{getD-set-same, getD-set-other}
 use lib.Dec.{eqb}
+use Rattle.accounts.specs.declared.Account.{Account}
 use Rattle.gateway.specs.Limits.{session-slots}
 use Rattle.gateway.specs.Basics.{option, is-some}
 use Rattle.gateway.specs.Rest.{Session, Mail, send, close, Rest, session-at, account-of, logged-in, session-from, session-of, update-session, set-sent, stamped}
 use Rattle.gateway.specs.Calls.{close-where}
 use Rattle.table.proofs.Live.{same?}
-
--- the account of the session in slot i
-abbrev pub at : List (Option Session) → ℕ → Option ℕ
-at xs i = account-of (getD xs i none)
-
-abbrev pub Known : ℕ → Option ℕ → Type 0
-Known limit none = Unit {0}
-Known limit (some a) = a < limit
-
-pub record SessionsOk (limit : ℕ) (xs : List (Option Session)) : Type 0 where
-  pub slots : length xs ≡ session-slots
-  pub known : (i : ℕ) → Known limit (at xs i)
-  pub single : (a i j : ℕ) → at xs i ≡ some a → at xs j ≡ some a → i ≡ j
+use Rattle.gateway.specs.Invariant.{Known, SessionsOk, at}
 
 -- ---- what keeps every account
 
@@ -36,11 +25,11 @@ pub record Alike (xs ys : List (Option Session)) : Type 0 where
   pub len : length ys ≡ length xs
   pub acct : (i : ℕ) → at ys i ≡ at xs i
 
-pub alike-ok : (limit : ℕ) {xs ys : List (Option Session)} → Alike xs ys → SessionsOk limit xs → SessionsOk limit ys
-alike-ok limit e ok =
+pub alike-ok : (t : List (Option Account)) {xs ys : List (Option Session)} → Alike xs ys → SessionsOk t xs → SessionsOk t ys
+alike-ok t e ok =
     record {
       slots = e .len ∙ ok .slots;
-      known = λ i. subst (Known limit) (sym (e .acct i)) (ok .known i);
+      known = λ i. subst (Known t) (sym (e .acct i)) (ok .known i);
       single = λ a i j p q. ok .single a i j (sym (e .acct i) ∙ p) (sym (e .acct j) ∙ q);
     }
 
@@ -108,11 +97,11 @@ at-emptied (x ∷ xs) zero (suc i) = inr refl
 at-emptied (x ∷ xs) (suc s) zero = inr refl
 at-emptied (x ∷ xs) (suc s) (suc i) = at-emptied xs s i
 
-pub emptied-ok : (limit : ℕ) (xs : List (Option Session)) (s : ℕ) → SessionsOk limit xs → SessionsOk limit (set xs s none)
-emptied-ok limit xs s ok =
+pub emptied-ok : (t : List (Option Account)) (xs : List (Option Session)) (s : ℕ) → SessionsOk t xs → SessionsOk t (set xs s none)
+emptied-ok t xs s ok =
     record {
       slots = rw length-set (ok .slots);
-      known = λ i. ⊎-elim (λ e. subst (Known limit) (sym e) tt) (λ e. subst (Known limit) (sym e) (ok .known i)) (at-emptied xs s i);
+      known = λ i. ⊎-elim (λ e. subst (Known t) (sym e) tt) (λ e. subst (Known t) (sym e) (ok .known i)) (at-emptied xs s i);
       single = λ a i j p q. ok .single a i j (was a i p) (was a j q);
     }
   where
@@ -136,12 +125,12 @@ nobody a s (x ∷ xs) h (suc i) p = nobody a (suc s) xs (tail (logged-in a x) h)
     tail false e = e
 
 -- a login: slot s is account a's, and nobody else has a
-pub taken-ok : (limit a s : ℕ) (xs : List (Option Session)) (v : Option Session) → account-of v ≡ some a → a < limit → s < length xs →
-    ((i : ℕ) → at xs i ≡ some a → ⊥) → SessionsOk limit xs → SessionsOk limit (set xs s v)
-taken-ok limit a s xs v e l h free ok =
+pub taken-ok : (t : List (Option Account)) (a s : ℕ) (xs : List (Option Session)) (v : Option Session) → account-of v ≡ some a → Known t (some a) → s < length xs →
+    ((i : ℕ) → at xs i ≡ some a → ⊥) → SessionsOk t xs → SessionsOk t (set xs s v)
+taken-ok t a s xs v e l h free ok =
     record {
       slots = rw length-set (ok .slots);
-      known = λ i. ⊎-elim (λ (q : i ≡ s). subst (Known limit) (sym (here i q)) l) (λ ne. subst (Known limit) (sym (at-set-other xs s i v ne)) (ok .known i)) (same? i s);
+      known = λ i. ⊎-elim (λ (q : i ≡ s). subst (Known t) (sym (here i q)) l) (λ ne. subst (Known t) (sym (at-set-other xs s i v ne)) (ok .known i)) (same? i s);
       single = λ b i j p q.
           ⊎-elim
           (λ (u : i ≡ s). ⊎-elim (λ (w : j ≡ s). u ∙ sym w) (λ ne. absurd (free j (sym (at-set-other xs s j v ne) ∙ q ∙ sym p ∙ here i u))) (same? j s))

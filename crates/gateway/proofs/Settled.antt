@@ -31,8 +31,9 @@ use Rattle.gateway.specs.Core.{Pass, Origin, Core, numbers-agree, tests,
 use Rattle.gateway.proofs.Base.{split}
 use Rattle.gateway.proofs.Sorted.{Absent}
 use Rattle.gateway.proofs.Money.{bounds}
-use Rattle.gateway.proofs.Invariant.{CoreOk, Rise, shrunk, rise-shrinks}
+use Rattle.gateway.proofs.Invariant.{Rise, shrunk, rise-shrinks}
 use Rattle.gateway.proofs.Calls.{held-slot}
+use Rattle.gateway.specs.Invariant.{CoreOk}
 
 -- ---- wallets
 

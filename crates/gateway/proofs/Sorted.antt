@@ -10,31 +10,27 @@ use lib.ListN.{length}
 use lib.Dec.{eqb, ltb}
 use Rattle.table.specs.Live.{Each, look, without, insert, replace}
 use Rattle.gateway.specs.Basics.{is-some}
+use Rattle.gateway.specs.Table.{Rises}
 use Rattle.gateway.proofs.Base.{split}
 
 module _ {A : Type 0} (key : A → ℕ) where
-  -- keys rise from n on
-  abbrev pub Rises : ℕ → List A → Type 0
-  Rises n [] = Unit {0}
-  Rises n (x ∷ l) = (n ≤ key x) × Rises (suc (key x)) l
-
-  pub rises-from : (m n : ℕ) → m ≤ n → (l : List A) → Rises n l → Rises m l
+  pub rises-from : (m n : ℕ) → m ≤ n → (l : List A) → Rises key n l → Rises key m l
   rises-from m n h [] t = tt
   rises-from m n h (x ∷ l) t = (omega (arith, t .0), t .1)
 
-  pub rises-without : (k n : ℕ) (l : List A) → Rises n l → Rises n (without key k l)
+  pub rises-without : (k n : ℕ) (l : List A) → Rises key n l → Rises key n (without key k l)
   unfolding without
   rises-without k n [] t = tt
   rises-without k n (x ∷ l) t =
       let u = rises-without k (suc (key x)) l (t .1) in
-      split (λ b. Rises n (cond b (without key k l) (x ∷ without key k l))) (eqb (key x) k)
+      split (λ b. Rises key n (cond b (without key k l) (x ∷ without key k l))) (eqb (key x) k)
       (λ e. rises-from n (suc (key x)) (omega (arith, t .0)) (without key k l) u) (λ e. (t .0, u))
 
-  pub rises-replace : (r : A) (n : ℕ) (l : List A) → Rises n l → Rises n (replace key r l)
+  pub rises-replace : (r : A) (n : ℕ) (l : List A) → Rises key n l → Rises key n (replace key r l)
   unfolding replace
   rises-replace r n [] t = tt
   rises-replace r n (x ∷ l) t =
-      split (λ b. (eqb (key x) (key r) ≡ b) → Rises n (cond b r x ∷ replace key r l)) (eqb (key x) (key r))
+      split (λ b. (eqb (key x) (key r) ≡ b) → Rises key n (cond b r x ∷ replace key r l)) (eqb (key x) (key r))
       (λ _ e. let q = eqb-true (key x) (key r) e in (omega (arith, t .0), rises-replace r (suc (key r)) l (rises-from (suc (key r)) (suc (key x)) (omega arith) l (t .1))))
       (λ _ e. (t .0, rises-replace r (suc (key x)) l (t .1))) refl
 
@@ -50,12 +46,12 @@ module _ {A : Type 0} (key : A → ℕ) where
   unfolding look
   absent-head k x l h = let t = not-some (eqb (key x) k) x (look key k l) h in (eqb-false (key x) k (t .0), t .1)
 
-  pub rises-insert : (r : A) (n : ℕ) (l : List A) → n ≤ key r → Absent (key r) l → Rises n l → Rises n (insert key r l)
+  pub rises-insert : (r : A) (n : ℕ) (l : List A) → n ≤ key r → Absent (key r) l → Rises key n l → Rises key n (insert key r l)
   unfolding insert
   rises-insert r n [] h a t = (h, tt)
   rises-insert r n (x ∷ l) h a t =
       let b = absent-head (key r) x l a in
-      split (λ c. (ltb (key r) (key x) ≡ c) → Rises n (cond c (r ∷ x ∷ l) (x ∷ insert key r l))) (ltb (key r) (key x))
+      split (λ c. (ltb (key r) (key x) ≡ c) → Rises key n (cond c (r ∷ x ∷ l) (x ∷ insert key r l))) (ltb (key r) (key x))
       (λ _ e. (h, (ltb-true (key r) (key x) e, t .1)))
       (λ _ e. (t .0, rises-insert r (suc (key x)) l (let p = b .0 in let q : key x ≤ key r = ltb-false (key r) (key x) e in omega arith) (b .1) (t .1))) refl
 

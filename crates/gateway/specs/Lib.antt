@@ -13,4 +13,5 @@ pub mod Listing
 pub mod Calls
 pub mod Start
 pub mod Fits
+pub mod Invariant
 pub mod Restart

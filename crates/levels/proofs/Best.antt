@@ -23,10 +23,10 @@ use Rattle.gateway.proofs.Base.{split, if-map}
 use Rattle.le.proofs.Laws.{lt-or-le}
 use Rattle.gateway.specs.Basics.{option}
 use Rattle.gateway.specs.Depth.{Level, same-price, better, joined, level-in}
-use Rattle.gateway.proofs.Sorted.{Rises}
 use Rattle.gateway.proofs.Levels.{same-itself, better-apart, better-differs, one, at-level, before-level, after-level, compared, parted, reshown}
 use Rattle.levels.specs.declared.Row.{Row}
 use Rattle.levels.specs.Levels.{key, price, level, best, opened, one-more, changed, one-less, added, shown, removed}
+use Rattle.gateway.specs.Table.{Rises}
 
 -- ---- prices as their keys
 

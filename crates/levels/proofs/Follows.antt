@@ -13,13 +13,13 @@ use Rattle.table.specs.Live.{Each, live, look, insert, replace, without, Ascend
 use Rattle.table.proofs.Live.{each-live}
 use Rattle.gateway.specs.Ledger.{same-side}
 use Rattle.gateway.specs.Depth.{Resting, resting-number, joined, levels}
-use Rattle.gateway.proofs.Sorted.{Rises}
 use Rattle.gateway.proofs.Levels.{parted, reshown, levels-insert, levels-without, levels-replace}
 use Rattle.store.specs.Layout.{cell}
 use Rattle.store.specs.View.{Store}
 use Rattle.levels.specs.declared.Row.{Row}
 use Rattle.levels.specs.Levels.{key, row, size, entries, price, best, added, shown, removed, Table, Did}
 use Rattle.levels.proofs.Best.{best-added, best-shown, best-removed}
+use Rattle.gateway.specs.Table.{Rises}
 
 rises-more : (a : ℕ) (l : List Row) (y : Row) → Rises key a l → Each (λ r. key r < key y) l → a ≤ key y → Rises key a (l ++ (y ∷ []))
 rises-more a [] y t e h = (h, tt)

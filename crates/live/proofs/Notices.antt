@@ -38,22 +38,22 @@ nothing-noticed {xs} st ns e =
         record { core = g .core; rest = record { timing = r .timing; clock = r .clock; sessions = r .sessions; buckets = r .buckets; batch = r .batch; delivered = r .delivered; published = r .published; depth = r .depth; trades = r .trades; notices = ms; collar = r .collar } }
 
 -- whether there is a wallet
-no-wallet : (s : Store) (a : ℕ) (b : Bool) → b ≡ is-some (wallet (s C.accounts a)) → b ≡ false → wallet-notice a s ≡ []
+pub no-wallet : (s : Store) (a : ℕ) (b : Bool) → b ≡ is-some (wallet (s C.accounts a)) → b ≡ false → wallet-notice a s ≡ []
 no-wallet s a b e f = ap (λ c. cond c (a ∷ []) []) (sym e ∙ f)
 
-a-wallet : (s : Store) (a : ℕ) (b : Bool) → b ≡ is-some (wallet (s C.accounts a)) → b ≡ true → wallet-notice a s ≡ a ∷ []
+pub a-wallet : (s : Store) (a : ℕ) (b : Bool) → b ≡ is-some (wallet (s C.accounts a)) → b ≡ true → wallet-notice a s ≡ a ∷ []
 a-wallet s a b e f = ap (λ c. cond c (a ∷ []) []) (sym e ∙ f)
 
 -- a hold that stays, and one that changes
 abbrev nobody : List ℕ
 nobody = []
 
-same-hold : (s : Store) (a old new : ℕ) → old ≡ new → hold-notice a (int old) (int new) s ≡ []
+pub same-hold : (s : Store) (a old new : ℕ) → old ≡ new → hold-notice a (int old) (int new) s ≡ []
 same-hold s a old new e =
     let z : is-zero (int new -ℤ int old) ≡ true = ap is-zero (ap (λ x. int new -ℤ int x) e ∙ +ℤ-invr (int new)) in
     rw z (split (λ b. cond b nobody nobody ≡ nobody) (is-some (wallet (s C.accounts a))) (λ e. refl) (λ e. refl))
 
-other-hold : (s : Store) (a old new : ℕ) → old < 2 ^ 64 → new < 2 ^ 64 → (old ≡ new → ⊥) → hold-notice a (int old) (int new) s ≡ wallet-notice a s
+pub other-hold : (s : Store) (a old new : ℕ) → old < 2 ^ 64 → new < 2 ^ 64 → (old ≡ new → ⊥) → hold-notice a (int old) (int new) s ≡ wallet-notice a s
 other-hold s a old new f g n =
     split (λ b. (is-zero (int new -ℤ int old) ≡ b) → hold-notice a (int old) (int new) s ≡ wallet-notice a s) (is-zero (int new -ℤ int old))
     (λ _ e.

@@ -27,7 +27,7 @@ fn held_cell(side: Side) -> usize
 }
 
 // What an order with these words holds: nothing without a price.
-fn hold_of(side: u64, priced: u64, price: u64, leaves: u64) -> u64
+pub fn hold_of(side: u64, priced: u64, price: u64, leaves: u64) -> u64
     ensures { λ r. ⌜ r ≡ P.hold-word side priced price leaves ⌝ }
 {
     wallet::held(store::side_of(side), priced != 0, price, leaves)

@@ -12,7 +12,6 @@ use Rattle.table.specs.Live.{look, without, replace}
 use Rattle.gateway.specs.Limits.{most-orders}
 use Rattle.gateway.specs.Ledger.{same-side}
 use Rattle.gateway.specs.Depth as D
-use Rattle.gateway.proofs.Sorted.{Rises}
 use Rattle.gateway.proofs.Levels.{parted, reshown, on, levels-without, levels-replace, level-shows}
 use Rattle.store.specs.Cells as C
 use Rattle.store.specs.Layout.{cell}
@@ -32,6 +31,7 @@ use Rattle.sound.proofs.Kept.{becomes}
 use Rattle.marketdata.specs.Marketdata.{with-depth, with-resting}
 use Rattle.marketdata.proofs.Fits.{same-mine, reshown-at}
 use Rattle.marketdata.proofs.Steps.{beyond-same, Follows, Beyond, Rows, side-levels, side-table, keeps, levels-step, rows-touched, orders-step}
+use Rattle.gateway.specs.Table.{Rises}
 
 -- ---- after the levels, the row
 

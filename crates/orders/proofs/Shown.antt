@@ -13,9 +13,8 @@ use lib.ListN.{length, length-append, length-map}
 use Rattle.le.proofs.Laws.{lt-or-le}
 use Rattle.table.specs.Live.{pick, Each, Changed, live, look, without, insert, replace, Ascends}
 use Rattle.table.proofs.Live.{live-ext, live-more, live-dead, live-strike, live-replace, live-revive, each-live, change-swap}
-use Rattle.gateway.specs.Table.{update}
+use Rattle.gateway.specs.Table.{update, Rises}
 use Rattle.gateway.proofs.Base.{split, if-map}
-use Rattle.gateway.proofs.Sorted.{Rises}
 
 -- ---- a map over what the tables of the definitions do, where it keeps the keys
 

@@ -13,8 +13,7 @@ use Rattle.gateway.specs.Calls.{Gateway}
 use Rattle.gateway.specs.Depth as D
 use Rattle.gateway.specs.Ledger.{Order, number-of, remove, with-leaves}
 use Rattle.gateway.specs.Ledger as L
-use Rattle.gateway.specs.Table.{update}
-use Rattle.gateway.proofs.Sorted.{Rises}
+use Rattle.gateway.specs.Table.{update, Rises}
 use Rattle.store.specs.Cells as C
 use Rattle.store.specs.Layout.{cell}
 use Rattle.store.specs.View.{Row, Store, Same, Is, Ready, word, write, fill, side, maybe-price, order, resting, marked, ledger, depth, gateway, order-room, Bounds}

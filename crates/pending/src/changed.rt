@@ -40,7 +40,7 @@ fn is_at(m: &[u8], i: usize, side: u64, price: u64) -> bool
 }
 
 // The scan starts at the newest row.
-fn is_changed(m: &[u8], side: u64, price: u64) -> bool
+pub fn is_changed(m: &[u8], side: u64, price: u64) -> bool
     requires { ⌜ Ready (now m) ⌝ }
     ensures { λ r. ⌜ r ≡ D.is-changed (P.key side price) (depth (cell (now (m .entry))) .changed) ⌝ }
 {
