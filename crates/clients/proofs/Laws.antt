@@ -4,7 +4,7 @@ use mathlib.Core.Logic.{⊎-elim}
 use mathlib.Core.Bool.{Bool, true, false, cond, Bool·not-not, _&&_}
 use mathlib.Core.Option.{Option, none, some}
 use mathlib.Core.List.{List, [], _∷_}
-use Prim.Native.Nat.{ℕ, zero, suc, _+_, _-_, _^_, _≤_, _<_}
+use Prim.Native.Nat.{ℕ, zero, suc, _+_, _-_, _≤_, _<_}
 use native.Mathlib.Omega.{arith}
 use borrow.Author.Tests.{ltb-true, ne-eqb}
 use lib.Dec.{eqb, ltb}
@@ -15,7 +15,7 @@ use Rattle.accounts.specs.declared.Funds.{Funds}
 use Rattle.accounts.specs.declared.MaybeFunds as F
 use Rattle.table.proofs.Live.{same?}
 use lib.IntN.{ℤ}
-use Rattle.words.specs.Words.{int, fit, word-of}
+use Rattle.words.specs.Words.{int, fit, word-of, modulus}
 use Rattle.words.proofs.Int.{of-int}
 use Rattle.words.proofs.Wrap.{fit-int}
 use Rattle.risk.specs.declared.Bucket.{Bucket}
@@ -163,11 +163,11 @@ write-funds-is i c p h l x y z q =
     then-cells C.accounts i (P.money-cells c p)
     (sets-is C.accounts i ((C.account-funded, 1) ∷ (C.account-funds-cash, c) ∷ (C.account-funds-position, p) ∷ []) h (omega arith) l refl (then-sets x (then-sets y (then-sets z no-sets)))) q
 
-word-fits : (w : ℕ) (z : ℤ) → w < 2 ^ 64 → int w ≡ z → Signed z
+word-fits : (w : ℕ) (z : ℤ) → w < modulus → int w ≡ z → Signed z
 unfolding fits
 word-fits w z h e = ap (λ x. is-some (fit x)) (sym e) ∙ ap is-some (fit-int w h)
 
-pub fund-is : {zs : List ℕ} (s : Store) (i c p : ℕ) (f : Funds) → c < 2 ^ 64 → p < 2 ^ 64 → int c ≡ f .cash → int p ≡ f .position →
+pub fund-is : {zs : List ℕ} (s : Store) (i c p : ℕ) (f : Funds) → c < modulus → p < modulus → int c ≡ f .cash → int p ≡ f .position →
     Is zs (P.fund i c p s) → Is zs (P.fund i (word-of (f .cash)) (word-of (f .position)) s) × FundsFit f
 fund-is s i c p f h k e g q = (rw (← e, ← g, of-int c h, of-int p k) q, (word-fits c (f .cash) h e, word-fits p (f .position) k g))
 

@@ -25,7 +25,7 @@ use Rattle.wallet.specs.Wallet as W
 use Rattle.wallet.specs.declared.Wallet.{Wallet}
 use Rattle.wallet.specs.declared.Changed as C
 use Rattle.words.proofs.Int.{of-int}
-use Rattle.words.specs.Words.{int, amount}
+use Rattle.words.specs.Words.{int, amount, modulus}
 use Rattle.words.specs.declared.Amount.{Amount}
 use Rattle.words.specs.declared.Amount.the-variants.{Fits, TooBig}
 use Rattle.entry.specs.Entry as E
@@ -42,7 +42,7 @@ wrote-one out ys a h e = rw (le-ltb (length out) 8 h, e)
 pub wrote-two : (out ys zs : List ℕ) (a b : ℕ) → 16 ≤ length out → ys ≡ put 8 out 0 a → zs ≡ put 8 ys 8 b → answer 0 zs ≡ E.write E.two (a ∷ b ∷ []) out
 wrote-two out ys zs a b h e f = rw (le-ltb (length out) 16 h, f, e)
 
-pub fits : (a : Amount) (w r : ℕ) (out ys : List ℕ) → w < 2 ^ 64 → a ≡ Fits w → answer r ys ≡ E.write E.two (1 ∷ w ∷ []) out → answer r ys ≡ E.write-amount (amount a) out
+pub fits : (a : Amount) (w r : ℕ) (out ys : List ℕ) → w < modulus → a ≡ Fits w → answer r ys ≡ E.write E.two (1 ∷ w ∷ []) out → answer r ys ≡ E.write-amount (amount a) out
 fits a w r out ys h t e = rw (t, of-int w h) e
 
 pub too-big : (a : Amount) (r : ℕ) (out ys : List ℕ) → a ≡ TooBig → answer r ys ≡ E.write E.two (0 ∷ 0 ∷ []) out → answer r ys ≡ E.write-amount (amount a) out
@@ -69,7 +69,7 @@ unsized n k xs b h = rw (ne-eqb n k h)
 -- ---- wallets
 
 abbrev pub Words : Wallet → Type 0
-Words w = (w .cash < 2 ^ 64) × (w .position < 2 ^ 64) × (w .«cash_held» < 2 ^ 64) × (w .«position_held» < 2 ^ 64)
+Words w = (w .cash < modulus) × (w .position < modulus) × (w .«cash_held» < modulus) × (w .«position_held» < modulus)
 
 pub wrote-wallet : (w : Wallet) (m m₁ m₂ m₃ m₄ : List ℕ) → Words w → m₁ ≡ put 8 m 0 (w .cash) → m₂ ≡ put 8 m₁ 8 (w .position) → m₃ ≡ put 8 m₂ 16 (w .«cash_held») → m₄ ≡ put 8 m₃ 24 (w .«position_held»)
     → answer 0 m₄ ≡ answer 0 (E.put-balance (W.balance-of w) m)

@@ -182,7 +182,7 @@ pub extern "C" fn entry_settle(side: u32, price: u64, qty: u64, wallet: &mut [u8
 pub extern "C" fn entry_near(price: u64, mark: u64, percent: u32, out: &mut [u8]) -> u32
     ensures { λ r. ⌜ answer r (now (out .exit)) ≡ E.near-mark price mark percent (now (out .entry)) ⌝ }
 {
-    write_one(out, flag(risk::near(price, mark, percent)))
+    write_one(out, flag(risk::near(price, mark, percent as u64)))
 }
 
 fn read_bucket(m: &[u8]) -> Bucket

@@ -19,9 +19,9 @@ use Rattle.orderbook.specs.declared.Side.the-variants.{Buy, Sell}
 use Rattle.orderbook.specs.declared.MaybePrice.{MaybePrice}
 use Rattle.orderbook.specs.declared.MaybePrice.the-variants.{None, Some}
 use Rattle.accounts.specs.declared.Funds.{Funds}
-use Rattle.words.specs.Words.{place-of, fit-in, inside, above}
+use Rattle.words.specs.Words.{place-of, fit-in, inside, above, modulus}
 use Rattle.table.specs.Live.{Each}
-use Rattle.gateway.specs.Limits.{word, owner-slots, most-orders}
+use Rattle.gateway.specs.Limits.{owner-slots, most-orders}
 use Rattle.gateway.specs.Basics.{is-some}
 use Rattle.gateway.specs.Ledger.{Order, fits, number-of}
 use Rattle.gateway.specs.Fits.{Unsigned, Signed, PriceFits, FundsFit, Bytes}
@@ -71,15 +71,15 @@ whole-only (got a (y ∷ ys) h) = tt
 
 -- ---- words and prices
 
--- a number that fits has a word
+-- a number that fits has a modulus
 word-of : (z : ℤ) → Signed z → Unsigned (ofZ w64 z)
 unfolding fits place-of
 word-of (pos n) h =
-    split (λ b. (leb n 9223372036854775807 ≡ b) → is-some (fit-in (cond b (inside (pos n)) above)) ≡ true → n < word) (leb n 9223372036854775807)
+    split (λ b. (leb n 9223372036854775807 ≡ b) → is-some (fit-in (cond b (inside (pos n)) above)) ≡ true → n < modulus) (leb n 9223372036854775807)
     (λ _ e h. omega (arith, leb-true n 9223372036854775807 e)) (λ _ e h. absurd (let z : _≡_ {A = ℕ} 0 1 = cc in omega (arith, z))) refl h
 word-of (negsuc n) h = omega arith
 
--- a word's number fits
+-- a modulus's number fits
 word-fits : (w : ℕ) → Unsigned w → Signed (toZ w64 w)
 unfolding fits place-of
 word-fits w h = go (toZ w64 w) (toZ-fits w64 w (record { fits = h }))

@@ -24,7 +24,7 @@ use Rattle.protocol.specs.declared.RejectCode.{RejectCode}
 use Rattle.protocol.specs.declared.RejectCode.the-variants.{Unavailable, NotAllowed}
 use Rattle.accounts.specs.declared.Account.{Account}
 use Rattle.gateway.specs.Basics.{option, is-some}
-use Rattle.gateway.specs.Limits.{word, owner-slots, most-orders, most-in-flight, most-in-batch, most-trades, most-notices, full}
+use Rattle.gateway.specs.Limits.{owner-slots, most-orders, most-in-flight, most-in-batch, most-trades, most-notices, full}
 use Rattle.gateway.specs.Ledger.{account, command, event, order-of, owner-of, placed, step, wallets-fit, holds-fit}
 use Rattle.gateway.specs.Core.{Tests, Pass, system, Flight, Core, account-at, drop-below, is-first, places, own-number, owner-below, fits-after, event-tests, tests}
 use Rattle.gateway.specs.Depth.{depth-few, levels-few}
@@ -41,6 +41,7 @@ use Rattle.gateway.proofs.Sessions.{Alike, alike-ok, set-alike, update-
 use Rattle.gateway.proofs.Feed.{apply-rises, published-ok}
 use Rattle.gateway.proofs.Listing.{agrees-distinct, resting-rises, resting-length}
 use Rattle.gateway.specs.Invariant.{CoreOk, FeedOk, Known, RestOk, Runs, SessionsOk}
+use Rattle.words.specs.Words.{modulus}
 
 abbrev pub Good : Core → Plan → Type 0
 Good c (refuse k) = Unit {0}
@@ -151,7 +152,7 @@ numbered-good : {A : Type 0} (x : A) (s : Option ℕ) (k : Command) (c : Core) (
     Pass (can-number x c r) → Good c (numbered s k c r)
 numbered-good x s k c r e o w f ok rok t = (
   next-passes c k o w (t .0) (rw e refl) (no-more c (next c) k e ok),
-  ((omega arith, (ltb-true (next c) word (t .1 .1 .0), f)), queued-ok _ _ k r (t .1 .0) rok),
+  ((omega arith, (ltb-true (next c) modulus (t .1 .1 .0), f)), queued-ok _ _ k r (t .1 .0) rok),
 )
 
 -- ---- receiving
@@ -209,7 +210,7 @@ enter-new-good s a o c r f l ok rok =
       next-passes c k (kind-own (next c) a (o .side) (o .qty) (o .kind)) (kind-owner _ (next c) a (o .side) (o .qty) (o .kind) (lt-ltb a _ l)) (u .0)
           (or-true (not (places k)) _ (v .0)) (v .1 .1 .0),
       (
-        (f .0, (ltb-true (next c) word (u .1 .1 .0), kind-fits (next c) a (o .side) (o .qty) (o .kind) (f .1 .0) (f .1 .1))),
+        (f .0, (ltb-true (next c) modulus (u .1 .1 .0), kind-fits (next c) a (o .side) (o .qty) (o .kind) (f .1 .0) (f .1 .1))),
         queued-ok _ _ k _ (u .1 .0) (noticed-ok _ _ (new-notice a o (wallet-at a c)) r (v .1 .0) rok),
       ),
     ))

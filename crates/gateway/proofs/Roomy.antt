@@ -34,10 +34,10 @@ use Rattle.protocol.specs.declared.RejectCode.the-variants.{TooManyOrders, Thro
 use Rattle.accounts.specs.declared.Account.{Account}
 use Rattle.accounts.specs.declared.Funds.{Funds}
 use Rattle.accounts.specs.declared.Timing.{Timing}
-use Rattle.words.specs.Words.{least, most, fit, fit-in, place-of, inside, above, below}
+use Rattle.words.specs.Words.{least, most, fit, fit-in, place-of, inside, above, below, modulus}
 use Rattle.risk.specs.declared.Bucket.{Bucket}
 use Rattle.gateway.specs.Basics.{option, is-some}
-use Rattle.gateway.specs.Limits.{word, most-in-flight, most-orders, most-notices, most-trades, full, too-short, inconsistent, not-quiet}
+use Rattle.gateway.specs.Limits.{most-in-flight, most-orders, most-notices, most-trades, full, too-short, inconsistent, not-quiet}
 use Rattle.table.specs.Live.{look, insert}
 use Rattle.gateway.specs.Ledger.{Order, Ledger, New, Item, account, command, event, order-of, owner-of, placed, Change, mark-by, fill, set-leaves, reprice, retire, wallet-of, change, changes, step, same-side, hold, order-hold, held-by, held, fits, wallets-fit, holds-fit}
 use Rattle.gateway.specs.Core.{Tests, Pass, Origin, Core, account-at, places, tests, fits-after}
@@ -57,7 +57,7 @@ use Rattle.gateway.proofs.Calls.{unless-pass}
 pub record Roomy (c : Core) (r : Rest) : Type 0 where
   pub flying : length (c .flights) < most-in-flight
   pub waiting : r .batch ≡ []
-  pub number : next c < word
+  pub number : next c < modulus
   pub orders : c .ledger .orders ≡ []
   pub resting : r .depth .resting ≡ []
   pub changed : r .depth .changed ≡ []
@@ -66,7 +66,7 @@ pub record Roomy (c : Core) (r : Rest) : Type 0 where
   pub delivered : r .delivered ≡ c .ledger .last
 
 -- such a gateway begins where no order is listed or saved
-pub begins-roomy : (timing : Timing) (l : Ledger) (t : List (Option Account)) → l .orders ≡ [] → l .last + 1 < word →
+pub begins-roomy : (timing : Timing) (l : Ledger) (t : List (Option Account)) → l .orders ≡ [] → l .last + 1 < modulus →
     (let g = begin timing l t empty-depth [] in Roomy (g .core) (g .rest))
 begins-roomy timing l t e h =
     record { flying = omega arith; waiting = refl; number = h; orders = e; resting = refl; changed = refl; trades = refl; notices = refl; delivered = refl }
@@ -160,7 +160,7 @@ unfolding unless
 first-open p k b ts g h q = split (λ x. (b ≡ x) → Open (cond x (unless ts refuse p) (refuse k))) b (λ _ e. guard-open p ts (h e) q) (λ _ e. g) refl
 
 can-pass : {A : Type 0} (k : A) (c : Core) (r : Rest) → Roomy c r → Pass (can-number k c r)
-can-pass k c r h = (lt-ltb (length (c .flights)) most-in-flight (h .flying), (rw (h .waiting) refl, (lt-ltb (next c) word (h .number), tt)))
+can-pass k c r h = (lt-ltb (length (c .flights)) most-in-flight (h .flying), (rw (h .waiting) refl, (lt-ltb (next c) modulus (h .number), tt)))
 
 -- clock, sessions and buckets do not matter
 moved : (t : ℕ) (xs : List (Option Session)) (bs : List Bucket) (c : Core) (r : Rest) → Roomy c r → Roomy c (with-buckets bs (with-sessions xs (at-time t r)))

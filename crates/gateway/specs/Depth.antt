@@ -12,9 +12,10 @@ use Rattle.orderbook.specs.declared.Side.the-variants.{Buy, Sell}
 use Rattle.orderbook.specs.declared.Event.{Event}
 use Rattle.orderbook.specs.declared.Event.the-variants.{Accepted, Rejected, Trade, Rested, Replenished, Cancelled, Modified, StopPlaced, Triggered, MassCancelled, PhaseChanged}
 use Rattle.gateway.specs.Basics.{option, is-some}
-use Rattle.gateway.specs.Limits.{word, most-orders, most-levels, most-changed}
+use Rattle.gateway.specs.Limits.{most-orders, most-levels, most-changed}
 use Rattle.gateway.specs.Ledger.{same-side}
 use Rattle.table.specs.Live.{look, without, insert, replace}
+use Rattle.words.specs.Words.{modulus}
 
 -- a resting order; an iceberg shows a part of what is left
 pub record Resting : Type 0 where
@@ -154,7 +155,7 @@ depth-agrees (PhaseChanged p) d = true
 
 abbrev pub quantities-fit : List Level → Bool
 quantities-fit [] = true
-quantities-fit (l ∷ ls) = ltb (l .qty) word && quantities-fit ls
+quantities-fit (l ∷ ls) = ltb (l .qty) modulus && quantities-fit ls
 
 -- code 7: every level's quantity is in range
 unfoldable pub levels-fit : List Resting → Bool

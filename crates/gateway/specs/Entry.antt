@@ -32,7 +32,7 @@ use Rattle.protocol.specs.declared.RejectCode.the-variants.{TooManyOrders, Thro
 use Rattle.accounts.specs.declared.Account.{Account}
 use Rattle.accounts.specs.declared.Funds.{Funds}
 use Rattle.gateway.specs.Basics.{option, each, is-some}
-use Rattle.gateway.specs.Limits.{word, protocol-version, most-orders, most-in-flight, most-in-batch, most-notices}
+use Rattle.gateway.specs.Limits.{protocol-version, most-orders, most-in-flight, most-in-batch, most-notices}
 use Rattle.wallet.specs.Wallet as W
 use Rattle.risk.specs.declared.Bucket.{Bucket}
 use Rattle.risk.specs.declared.Taken.{Taken}
@@ -42,6 +42,7 @@ use Rattle.gateway.specs.Ledger.{Order, Item, command, price-option, hol
 use Rattle.gateway.specs.Core.{Tests, Origin, Core, account-at, fits-after}
 use Rattle.gateway.specs.Depth.{Depth, Level, level, levels}
 use Rattle.gateway.specs.Rest.{Mail, send, close, Rest, with-buckets, with-batch, with-published, pending, session-at, is-open, is-present, is-subscribed, account-of, session-of, update-session, set-received, set-account, set-closing, set-subscribed, each-session}
+use Rattle.words.specs.Words.{modulus}
 
 -- ---- plans
 
@@ -138,7 +139,7 @@ next c = c .ledger .last + 1
 -- what every numbering asks: not 256 in flight, not 256 in the batch, a number left
 abbrev pub can-number : {A : Type 0} → A → Core → Rest → Tests A
 can-number k c r =
-    (k, ltb (length (c .flights)) most-in-flight) ∷ (k, ltb (length (r .batch)) most-in-batch) ∷ (k, ltb (next c) word) ∷ []
+    (k, ltb (length (c .flights)) most-in-flight) ∷ (k, ltb (length (r .batch)) most-in-batch) ∷ (k, ltb (next c) modulus) ∷ []
 
 abbrev pub queued : Command → Rest → Rest
 queued k r = with-batch (r .batch ++ (k ∷ [])) r

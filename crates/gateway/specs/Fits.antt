@@ -19,12 +19,12 @@ use Rattle.protocol.specs.declared.OrderKind.the-variants as Kind
 use Rattle.accounts.specs.declared.Account.{Account}
 use Rattle.accounts.specs.declared.Funds.{Funds}
 use Rattle.accounts.specs.declared.MaybeFunds as F
-use Rattle.gateway.specs.Limits.{word}
 use Rattle.gateway.specs.Ledger.{command, event, fits}
 use Rattle.gateway.specs.Calls.{Call, add-account, connect, set-paper-collar, wallet, last-seq, depth-levels, receive-from, tick, publish, end-session, shut-down, disconnect, detach, take-batch, deliver-event, replay-command, replay-event, finish, checkpoint}
+use Rattle.words.specs.Words.{modulus}
 
 abbrev pub Unsigned : ℕ → Type 0
-Unsigned n = n < word
+Unsigned n = n < modulus
 
 abbrev pub Signed : ℤ → Type 0
 Signed z = fits z ≡ true

@@ -28,10 +28,6 @@ most-notices = 2048
 abbrev pub most-changed : ℕ
 most-changed = 1024
 
--- one past the greatest number of 64 bits
-abbrev pub word : ℕ
-word = 18446744073709551616
-
 -- the protocol version that a login names (VERSION)
 abbrev pub protocol-version : ℕ
 protocol-version = 1

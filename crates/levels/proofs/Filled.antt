@@ -15,7 +15,7 @@ use Rattle.store.proofs.Listed.{listed-ext, front-more}
 use Rattle.levels.specs.declared.Row.{Row}
 use Rattle.levels.specs.declared.listed.Level.{Level}
 use Rattle.levels.proofs.Best.{best-length}
-use Rattle.levels.proofs.Follows.{entries-length}
+use Rattle.levels.proofs.Depth.{entries-length}
 use Rattle.levels.specs.Levels.{row, size, entries, level, best}
 use Rattle.levels.specs.Listed.{side-of, nth, level-of, nothing, seen, Lists}
 

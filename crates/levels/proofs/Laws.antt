@@ -4,7 +4,7 @@ use mathlib.Core.Logic.{⊎-elim}
 use mathlib.Core.Bool.{true}
 use mathlib.Core.List.{List, [], _∷_}
 use mathlib.Core.Option.{Option, none, some}
-use Prim.Native.Nat.{ℕ, suc, _+_, _*_, _-_, _^_, _≤_, _<_}
+use Prim.Native.Nat.{ℕ, suc, _+_, _*_, _-_, _≤_, _<_}
 use native.Mathlib.Omega.{arith}
 use borrow.Author.Tests.{eq-eqb, ne-eqb}
 use lib.ListN.{length}
@@ -27,6 +27,7 @@ use Rattle.store.proofs.Places.{header-cell, bid-cell, ask-cell, cell-block, ce
 use Rattle.levels.specs.declared.Row.{Row}
 use Rattle.levels.specs.Rows.{widths, values, made, read}
 use Rattle.levels.specs.Levels.{block, count, base, key, row, size, entries, opened, one-more, changed, one-less, added, shown, removed, Joins, CanAdd, CanShow, CanRemove, Table, Did, Sought, IsAt, Place}
+use Rattle.words.specs.Words.{modulus}
 
 -- ---- the block in bytes
 
@@ -172,7 +173,7 @@ module _ (s : Side) {xs : List ℕ} (t : Table s xs) where
       counted-did (n - 1) (outside-wider (base s) (base s + 16384) (omega arith) (omega (arith, t .few)) (c .frame)) w (omega (arith, t .few))
       (ascends-close key g a) (live-close (λ r. 1) key g a ∙ rw (← m, e))
 
-pub insert-did : (s : Side) {xs ys zs us : List ℕ} (n b i k v : ℕ) → Place s xs k i → k < 2 ^ 64 → v < 2 ^ 64 → n ≡ size s (cell xs) → b ≡ base s → Opened b 32 n i xs ys →
+pub insert-did : (s : Side) {xs ys zs us : List ℕ} (n b i k v : ℕ) → Place s xs k i → k < modulus → v < modulus → n ≡ size s (cell xs) → b ≡ base s → Opened b 32 n i xs ys →
     zs ≡ puts widths ys (base s + 32 * i) (values (opened k v)) → Set zs us C.header 0 (count s) (n + 1) → Did s xs us (insert key (opened k v) (entries s (cell xs)))
 unfolding entries read
 insert-did s {xs} {ys} {zs} n b i k v p kf vf e h d w u =
@@ -231,7 +232,7 @@ module _ (s : Side) {xs : List ℕ} (t : Table s xs) where
   pub not-here-is : (k i : ℕ) (r : Row) → Sought s xs k i → r ≡ row s (cell xs) i → (r .key ≡ k → ⊥) → look key k (entries s (cell xs)) ≡ none
   not-here-is k i r b q w = at-none s t b (λ l e. w (ap key q ∙ e))
 
-  pub join-is : {ys : List ℕ} (i v : ℕ) (r : Row) → i < size s (cell xs) → Joins v (row s (cell xs) i) → r ≡ row s (cell xs) i → r .key < 2 ^ 64 →
+  pub join-is : {ys : List ℕ} (i v : ℕ) (r : Row) → i < size s (cell xs) → Joins v (row s (cell xs) i) → r ≡ row s (cell xs) i → r .key < modulus →
       ys ≡ puts widths xs (base s + 32 * i) (r .key ∷ (r .qty + v) ∷ (r .orders + 1) ∷ []) → Did s xs ys (replace key (one-more v (row s (cell xs) i)) (entries s (cell xs)))
   join-is {ys} i v r h j e f w =
       let q = ap (λ (x : Row). x .qty) e in
@@ -255,7 +256,7 @@ module _ (s : Side) {xs : List ℕ} (t : Table s xs) where
   pub show-in : (k i v w : ℕ) → Sought s xs k i → CanShow v w (look key k (entries s (cell xs))) → (i < size s (cell xs)) × (row s (cell xs) i .key ≡ k) × CanShow v w (some (row s (cell xs) i))
   show-in k i v w b p = there (CanShow v w) k i b (λ x. x) p
 
-  pub show-is : {ys : List ℕ} (k i v w : ℕ) (r : Row) → CanShow v w (look key k (entries s (cell xs))) → Sought s xs k i → r ≡ row s (cell xs) i → r .key < 2 ^ 64 → r .qty < 2 ^ 64 → r .orders < 2 ^ 64 →
+  pub show-is : {ys : List ℕ} (k i v w : ℕ) (r : Row) → CanShow v w (look key k (entries s (cell xs))) → Sought s xs k i → r ≡ row s (cell xs) i → r .key < modulus → r .qty < modulus → r .orders < modulus →
       ys ≡ puts widths xs (base s + 32 * i) (r .key ∷ (r .qty - v + w) ∷ r .orders ∷ []) → Did s xs ys (shown k v w (entries s (cell xs)))
   show-is {ys} k i v w r p b e f c g u =
       let h = show-in k i v w b p in
@@ -275,7 +276,7 @@ module _ (s : Side) {xs : List ℕ} (t : Table s xs) where
       (subst (λ n. Did s xs ys (without key n (entries s (cell xs)))) (h .1) d)
 
   pub remove-one-is : {ys : List ℕ} (k i v : ℕ) (r : Row) → CanRemove v (look key k (entries s (cell xs))) → Sought s xs k i → r ≡ row s (cell xs) i → (r .orders ≡ 1 → ⊥) →
-      r .key < 2 ^ 64 → r .qty < 2 ^ 64 → r .orders < 2 ^ 64 →
+      r .key < modulus → r .qty < modulus → r .orders < modulus →
       ys ≡ puts widths xs (base s + 32 * i) (r .key ∷ (r .qty - v) ∷ (r .orders - 1) ∷ []) → Did s xs ys (removed k v (entries s (cell xs)))
   remove-one-is {ys} k i v r p b e more f g o u =
       let h = remove-in k i v b p in

@@ -3,12 +3,12 @@ use mathlib.Core.Path.{_≡_}
 use mathlib.Core.Bool.{Bool, true, false, cond}
 use mathlib.Core.List.{List, [], _∷_, _++_}
 use mathlib.Core.Option.{Option, none, some}
-use Prim.Native.Nat.{ℕ, _+_, _-_, _^_, _≤_, _<_}
+use Prim.Native.Nat.{ℕ, _+_, _-_, _≤_, _<_}
 use lib.Dec.{eqb}
 use lib.IntN.{ℤ}
 use Rattle.orderbook.specs.declared.Side.{Side}
 use Rattle.orderbook.specs.declared.Side.the-variants.{Buy, Sell}
-use Rattle.words.specs.Words.{half, _⊖_}
+use Rattle.words.specs.Words.{half, _⊖_, modulus}
 use Rattle.table.specs.Live.{live, look, insert, replace, without, Ascends}
 use Rattle.table.specs.Table.{Between}
 use Rattle.table.specs.declared.Found.{Found}
@@ -132,7 +132,7 @@ removed k v l = option l (λ r. cond (eqb (r .orders) 1) (without key k l) (repl
 -- ---- what the judging establishes: room for a new level, and numbers in range
 
 abbrev pub Joins : ℕ → Row → Type 0
-Joins v r = (r .qty + v < 2 ^ 64) × (r .orders + 1 < 2 ^ 64)
+Joins v r = (r .qty + v < modulus) × (r .orders + 1 < modulus)
 
 abbrev pub CanAdd : ℕ → ℕ → Option Row → Type 0
 CanAdd n v none = n < most-levels
@@ -141,7 +141,7 @@ CanAdd n v (some r) = Joins v r
 -- a stored quantity is a number of 64 bits, so that one that falls stays in range
 abbrev pub CanShow : ℕ → ℕ → Option Row → Type 0
 CanShow v w none = ⊥
-CanShow v w (some r) = (v ≤ r .qty) × (r .qty < 2 ^ 64 → r .qty - v + w < 2 ^ 64)
+CanShow v w (some r) = (v ≤ r .qty) × (r .qty < modulus → r .qty - v + w < modulus)
 
 abbrev pub CanRemove : ℕ → Option Row → Type 0
 CanRemove v none = ⊥

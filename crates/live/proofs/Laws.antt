@@ -3,7 +3,7 @@ use mathlib.Core.Path.{_≡_, refl, sym, ap, ap₂, subst, _∙_}
 use mathlib.Core.Bool.{Bool, true, false, cond, not}
 use mathlib.Core.Option.{none, some}
 use mathlib.Core.List.{List}
-use Prim.Native.Nat.{ℕ, _+_, _-_, _^_, _<_}
+use Prim.Native.Nat.{ℕ, _+_, _-_, _<_}
 use native.Mathlib.Omega.{arith}
 use borrow.Author.Tests.{eq-eqb, ne-eqb}
 use lib.Dec.{eqb}
@@ -13,7 +13,7 @@ use Rattle.orderbook.specs.declared.Side.{Side}
 use Rattle.orderbook.specs.declared.Side.the-variants.{Buy, Sell}
 use Rattle.orderbook.specs.declared.MaybePrice.the-variants.{None, Some}
 use Rattle.protocol.specs.declared.Balance.{Balance}
-use Rattle.words.specs.Words.{int, wrap}
+use Rattle.words.specs.Words.{int, wrap, modulus}
 use Rattle.words.proofs.Wrap.{wrap-int}
 use Rattle.wallet.specs.declared.Wallet.{Wallet}
 use Rattle.wallet.specs.Wallet as W
@@ -37,7 +37,7 @@ price-is : (b : Bool) (p : ℕ) → W.price-of b (int p) ≡ price-option (cond 
 price-is true p = refl
 price-is false p = refl
 
-pub hold-of-is : (z c p v r : ℕ) (w : Side) → r < 2 ^ 64 → w ≡ side z → int r ≡ W.held w (W.price-of (not (eqb c 0)) (int p)) v → r ≡ hold-word z c p v
+pub hold-of-is : (z c p v r : ℕ) (w : Side) → r < modulus → w ≡ side z → int r ≡ W.held w (W.price-of (not (eqb c 0)) (int p)) v → r ≡ hold-word z c p v
 unfolding hold-word hold
 hold-of-is z c p v r w f e h = sym (wrap-int r f) ∙ ap wrap (h ∙ ap₂ (λ x y. W.held x y v) e (price-is (not (eqb c 0)) p))
 
@@ -82,7 +82,7 @@ pub left-open : {ys : List ℕ} (s : Store) (i : ℕ) (o : Live) (c p v : ℕ) �
 unfolding left
 left-open s i o c p v e h = rw (ne-eqb v 0 e) h
 
-pub settle-is : (xs : List ℕ) {ys : List ℕ} (a : ℕ) (z : Side) (p q : ℕ) (w r : Wallet) → w ≡ Clients.wallet-words (cell xs C.accounts a) → r .cash < 2 ^ 64 → r .position < 2 ^ 64 →
+pub settle-is : (xs : List ℕ) {ys : List ℕ} (a : ℕ) (z : Side) (p q : ℕ) (w r : Wallet) → w ≡ Clients.wallet-words (cell xs C.accounts a) → r .cash < modulus → r .position < modulus →
     W.balance-of r ≡ W.settled z (int p) q (W.balance-of w) → Is ys (Clients.set-money a (r .cash) (r .position) (cell xs)) → Is ys (settle a z p q (cell xs))
 unfolding settle
 settle-is xs a z p q w r e c d g s =

@@ -2,11 +2,11 @@
 use mathlib.Core.Path.{_≡_, refl, sym, ap, _∙_}
 use mathlib.Core.Bool.{Bool, true, false, cond}
 use mathlib.Core.List.{List, [], _∷_, append-nil}
-use Prim.Native.Nat.{ℕ, _+_, _^_, _≤_, _<_}
+use Prim.Native.Nat.{ℕ, _+_, _≤_, _<_}
 use native.Mathlib.Omega.{arith}
 use lib.ListN.{length}
 use lib.IntN.{ℤ, pos, _+ℤ_, _-ℤ_, +ℤ-idl, +ℤ-invr, -ℤ-+ℤ-cancel}
-use Rattle.words.specs.Words.{int}
+use Rattle.words.specs.Words.{int, modulus}
 use Rattle.words.proofs.Int.{int-injective}
 use Rattle.gateway.specs.Limits.{most-notices}
 use Rattle.gateway.specs.Basics.{is-some}
@@ -53,7 +53,7 @@ same-hold s a old new e =
     let z : is-zero (int new -ℤ int old) ≡ true = ap is-zero (ap (λ x. int new -ℤ int x) e ∙ +ℤ-invr (int new)) in
     rw z (split (λ b. cond b nobody nobody ≡ nobody) (is-some (wallet (s C.accounts a))) (λ e. refl) (λ e. refl))
 
-pub other-hold : (s : Store) (a old new : ℕ) → old < 2 ^ 64 → new < 2 ^ 64 → (old ≡ new → ⊥) → hold-notice a (int old) (int new) s ≡ wallet-notice a s
+pub other-hold : (s : Store) (a old new : ℕ) → old < modulus → new < modulus → (old ≡ new → ⊥) → hold-notice a (int old) (int new) s ≡ wallet-notice a s
 other-hold s a old new f g n =
     split (λ b. (is-zero (int new -ℤ int old) ≡ b) → hold-notice a (int old) (int new) s ≡ wallet-notice a s) (is-zero (int new -ℤ int old))
     (λ _ e.
@@ -80,10 +80,10 @@ none-becomes {xs} st a b e f = nothing-noticed st (wallet-notice a (cell xs)) (n
 pub same-becomes : {xs : List ℕ} → State xs → (a old new : ℕ) → old ≡ new → Becomes xs (with-notices (hold-notice a (int old) (int new) (cell xs)) (gateway (cell xs)))
 same-becomes {xs} st a old new e = nothing-noticed st (hold-notice a (int old) (int new) (cell xs)) (same-hold (cell xs) a old new e)
 
-pub other-becomes : (xs : List ℕ) {ys : List ℕ} (a old new : ℕ) → old < 2 ^ 64 → new < 2 ^ 64 → (old ≡ new → ⊥) → Becomes ys (with-notices (wallet-notice a (cell xs)) (gateway (cell xs))) →
+pub other-becomes : (xs : List ℕ) {ys : List ℕ} (a old new : ℕ) → old < modulus → new < modulus → (old ≡ new → ⊥) → Becomes ys (with-notices (wallet-notice a (cell xs)) (gateway (cell xs))) →
     Becomes ys (with-notices (hold-notice a (int old) (int new) (cell xs)) (gateway (cell xs)))
 other-becomes xs a old new f g n b = record { state = b .state; gateway-is = b .gateway-is ∙ sym (ap (λ ns. with-notices ns (gateway (cell xs))) (other-hold (cell xs) a old new f g n)) }
 
-pub other-needs : (xs : List ℕ) (a old new : ℕ) → old < 2 ^ 64 → new < 2 ^ 64 → (old ≡ new → ⊥) → length (hold-notice a (int old) (int new) (cell xs)) + word (cell xs) C.notice-rows ≤ most-notices →
+pub other-needs : (xs : List ℕ) (a old new : ℕ) → old < modulus → new < modulus → (old ≡ new → ⊥) → length (hold-notice a (int old) (int new) (cell xs)) + word (cell xs) C.notice-rows ≤ most-notices →
     length (wallet-notice a (cell xs)) + word (cell xs) C.notice-rows ≤ most-notices
 other-needs xs a old new f g n l = omega (arith, ap (λ ns. length ns) (other-hold (cell xs) a old new f g n))

@@ -16,8 +16,8 @@ use Rattle.store.specs.View.{Row, Store, word, write, fill, side, ledger, depth
 use Rattle.orders.specs.declared.Live.{Live}
 use Rattle.orders.specs.Orders.{order-of}
 use Rattle.orders.specs.Orders as Orders
-use Rattle.orders.proofs.Views.{Touched, Did, new-row, append-touched, append-does}
-use Rattle.orders.proofs.Room.{make-room-does, make-room-room, make-room-each, make-room-other}
+use Rattle.orders.proofs.Views.{Touched, Did, new-row, append-touched, append-view}
+use Rattle.orders.proofs.Room.{make-room-view, make-room-room, make-room-each, make-room-other}
 use Rattle.levels.specs.Levels.{block, size, row}
 use Rattle.sound.specs.Sound.{Stored, held-cell, Clients, Tables, Sound}
 use Rattle.sound.proofs.Kept.{levels-kept, clients-kept, clients-write, clients-room}
@@ -33,7 +33,7 @@ module _ (s : Store) (d : Sound s) (n : ℕ) (o : Live) (can : CanPlace n o s) w
   grown = Orders.append n (holding o) roomy
 
   made : Did s roomy (ledger s .orders) (depth s .resting)
-  made = make-room-does s (d .tables .ordered)
+  made = make-room-view s (d .tables .ordered)
 
   -- what squeezing leaves alone
   pub word-kept : (k : ℕ) → (k ≡ C.order-rows → ⊥) → word roomy k ≡ word s k
@@ -49,7 +49,7 @@ module _ (s : Store) (d : Sound s) (n : ℕ) (o : Live) (can : CanPlace n o s) w
   above = make-room-each s (d .tables .ordered) (λ r. r C.order-number < n) (can .above)
 
   appended : Did roomy grown (ledger roomy .orders ++ (order-of n (holding o) ∷ [])) (depth roomy .resting)
-  appended = append-does roomy n (holding o) (made .ordered) room above
+  appended = append-view roomy n (holding o) (made .ordered) room above
 
   orders-are : ledger grown .orders ≡ ledger s .orders ++ (order-of n o ∷ [])
   orders-are = ap (λ g. g .core .ledger .orders) (appended .view) ∙ ap (λ g. g .core .ledger .orders ++ (order-of n o ∷ [])) (made .view)

@@ -18,7 +18,8 @@ use Rattle.store.proofs.Rows.{put-cell}
 use Rattle.orders.specs.declared.Live.{Live}
 use Rattle.orders.specs.Orders.{Ordered, live-row, strike}
 use Rattle.orders.specs.Orders as Orders
-use Rattle.orders.proofs.Views.{Touched, Did, put-cells, revised, revise-touched, retire-touched, revise-does, retire-does, live-parts}
+use Rattle.orders.proofs.Views as Lists
+use Rattle.orders.proofs.Views.{Touched, Did, put-cells, revised, revise-touched, retire-touched, live-parts}
 use Rattle.levels.specs.Levels.{size, row}
 use Rattle.sound.specs.Sound.{Stored, Clients, Tables, Sound}
 use Rattle.sound.proofs.Kept.{sided, levels-kept, clients-kept, clients-write}
@@ -99,7 +100,7 @@ module _ (s : Store) (d : Sound s) (i : ℕ) (l : i < word s C.order-rows) (m : 
     touched = revise-touched s i (d .tables .ordered) l c p v h
 
     does : (f : Order → Order) → f (order was) ≡ revised c p v (order was) → Did s u (update number-of (was C.order-number) f (ledger s .orders)) (depth s .resting)
-    does f e = revise-does s i (d .tables .ordered) l c p v h f e m
+    does f e = Lists.revise-view s i (d .tables .ordered) l c p v h f e m
 
     now-stored : Stored now-row
     now-stored = record { hold-is = hold-is (was C.order-side) c p v; owner-is = stored .owner-is }
@@ -186,12 +187,12 @@ module _ (s : Store) (d : Sound s) (i : ℕ) (l : i < word s C.order-rows) (m : 
 
   pub retire-view : gateway ended ≡ with-ledger (with-orders (remove (was C.order-number) (ledger s .orders))) (gateway s)
   unfolding retire
-  retire-view = shift-view _ _ _ _ _ ∙ open-view _ _ struck ∙ retire-does s i (d .tables .ordered) l m .view
+  retire-view = shift-view _ _ _ _ _ ∙ open-view _ _ struck ∙ Lists.retire-view s i (d .tables .ordered) l m .view
 
   tables-retired : Tables ended
   unfolding retire strike size
   tables-retired =
-      let g = retire-does s i (d .tables .ordered) l m in
+      let g = Lists.retire-view s i (d .tables .ordered) l m in
       tables-shift _ _ _ _ _
       (tables-write _ _ _ struck
       (tables-row i ended-row (retire-touched s i (d .tables .ordered) l) (d .tables) (g .ordered) refl refl (omega arith) refl (ap (λ x. x .rest .depth .resting) (g .view)) (sided (λ z. size z struck ≡ size z s) refl refl) (sided (λ z. (j : ℕ) → row z struck j ≡ row z s j) (λ j. refl) (λ j. refl))))

@@ -70,17 +70,17 @@ module _ (xs : List ℕ) (n i : ℕ) (s : State xs) (r : Found) (seen : Seen xs 
   pub found-at : (o : Resting) → o ≡ resting-row (cell xs C.orders i) → P.At i o (cell xs)
   found-at o q = record { inside = e .row .0; rests = e .row .2; is = q }
 
-  pub found-does : (f : D.Resting → D.Depth → D.Depth) → D.where-resting n f (depth (cell xs)) ≡ f (resting-at i (cell xs)) (depth (cell xs))
-  found-does f = ap (option (depth (cell xs)) (λ o. f o (depth (cell xs)))) (e .order)
+  pub found-view : (f : D.Resting → D.Depth → D.Depth) → D.where-resting n f (depth (cell xs)) ≡ f (resting-at i (cell xs)) (depth (cell xs))
+  found-view f = ap (option (depth (cell xs)) (λ o. f o (depth (cell xs)))) (e .order)
 
   pub found-room : (f : D.Resting → D.Depth → D.Depth) → Roomy (D.where-resting n f (depth (cell xs))) → Roomy (f (resting-at i (cell xs)) (depth (cell xs)))
-  found-room f h = rw (found-does f) at h
+  found-room f h = rw (found-view f) at h
 
   pub found-judged : (f : D.Resting → D.Depth → D.Depth) → Judged (D.where-resting n f (depth (cell xs))) → Judged (f (resting-at i (cell xs)) (depth (cell xs)))
-  found-judged f h = rw (found-does f) at h
+  found-judged f h = rw (found-view f) at h
 
   pub found-becomes : {ys : List ℕ} (f : D.Resting → D.Depth → D.Depth) → Becomes ys (with-depth (f (resting-at i (cell xs))) (gateway (cell xs))) → Becomes ys (with-depth (D.where-resting n f) (gateway (cell xs)))
-  found-becomes {ys} f b = subst (λ (d : D.Depth). Becomes ys (with-depth (λ _. d) (gateway (cell xs)))) (sym (found-does f)) b
+  found-becomes {ys} f b = subst (λ (d : D.Depth). Becomes ys (with-depth (λ _. d) (gateway (cell xs)))) (sym (found-view f)) b
 
   pub found-shows : (o : Resting) → o ≡ resting-row (cell xs C.orders i) → (q : ℕ) → D.shows n q (depth (cell xs) .resting) ≡ true → q ≤ o .visible
   found-shows o w q h =

@@ -14,25 +14,26 @@ use Rattle.orderbook.specs.declared.Side.{Side}
 use Rattle.orderbook.specs.declared.Side.the-variants.{Buy, Sell}
 use Rattle.table.specs.Live.{Each}
 use Rattle.table.proofs.Lists.{each-map}
-use Rattle.gateway.specs.Limits.{word, most-orders, most-levels, most-changed}
+use Rattle.gateway.specs.Limits.{most-orders, most-levels, most-changed}
 use Rattle.gateway.specs.Ledger.{same-side}
 use Rattle.gateway.specs.Depth.{Resting, Level, Depth, same-price, better, joined, levels, level-in, quantities-fit, levels-fit, levels-few, depth-few}
 use Rattle.gateway.proofs.Base.{split}
 use Rattle.gateway.proofs.Counted.{Best, better-trans, joins}
 use Rattle.gateway.proofs.Levels.{Peopled, reshown, same-itself, better-apart, better-differs, one, more, at-level, before-level, after-level, compared}
+use Rattle.words.specs.Words.{modulus}
 
 pub same-mine : (z : Side) → same-side z z ≡ true
 same-mine Buy = refl
 same-mine Sell = refl
 
-fits-at : (p : ℤ) (ls : List Level) → quantities-fit ls ≡ true → level-in p ls .qty < word
+fits-at : (p : ℤ) (ls : List Level) → quantities-fit ls ≡ true → level-in p ls .qty < modulus
 fits-at p [] h = omega arith
 fits-at p (l ∷ ls) h =
-    let t = and-eq-true-iff (ltb (l .qty) word) (quantities-fit ls) .0 h in
+    let t = and-eq-true-iff (ltb (l .qty) modulus) (quantities-fit ls) .0 h in
     let u = fits-at p ls (t .1) in
-    split (λ b. cond b l (level-in p ls) .qty < word) (same-price p (l .price)) (λ _. ltb-true (l .qty) word (t .0)) (λ _. u)
+    split (λ b. cond b l (level-in p ls) .qty < modulus) (same-price p (l .price)) (λ _. ltb-true (l .qty) modulus (t .0)) (λ _. u)
 
-pub level-fits : (z : Side) (p : ℤ) (os : List Resting) → levels-fit os ≡ true → level-in p (levels z os) .qty < word
+pub level-fits : (z : Side) (p : ℤ) (os : List Resting) → levels-fit os ≡ true → level-in p (levels z os) .qty < modulus
 unfolding levels-fit
 level-fits Buy p os h = fits-at p (levels Buy os) (and-eq-true-iff (quantities-fit (levels Buy os)) (quantities-fit (levels Sell os)) .0 h .0)
 level-fits Sell p os h = fits-at p (levels Sell os) (and-eq-true-iff (quantities-fit (levels Buy os)) (quantities-fit (levels Sell os)) .0 h .1)

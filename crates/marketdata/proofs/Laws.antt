@@ -2,13 +2,13 @@
 use mathlib.Core.Path.{_≡_, refl, sym, ap, ap₂, subst, _∙_}
 use mathlib.Core.Bool.{Bool, true, false, cond}
 use mathlib.Core.List.{List}
-use Prim.Native.Nat.{ℕ, _-_, _^_, _≤_, _<_}
+use Prim.Native.Nat.{ℕ, _-_, _≤_, _<_}
 use native.Mathlib.Omega.{arith}
 use borrow.Author.Tests.{eq-eqb, ne-eqb, lt-ltb, le-leb, lt-leb, leb-false}
 use lib.Dec.{leb}
 use lib.ListN.{length}
 use Rattle.orderbook.specs.declared.Side.{Side}
-use Rattle.words.specs.Words.{int, half, _⊖_}
+use Rattle.words.specs.Words.{int, half, _⊖_, modulus}
 use Rattle.table.specs.Live.{look, without, insert, replace}
 use Rattle.gateway.specs.Limits.{most-changed}
 use Rattle.gateway.specs.Depth as D
@@ -135,7 +135,7 @@ module _ (p v x n : ℕ) where
     pub same-left : p ≡ x → leb v n ≡ stays (int p) v (int x) n
     same-left e = sym (rw (lt-ltb 0 v (omega (arith, some)), e, same-itself (int x)) refl)
 
-    pub other-left : p < 2 ^ 64 → x < 2 ^ 64 → (p ≡ x → ⊥) → false ≡ stays (int p) v (int x) n
+    pub other-left : p < modulus → x < modulus → (p ≡ x → ⊥) → false ≡ stays (int p) v (int x) n
     other-left h k ne = sym (rw (lt-ltb 0 v (omega (arith, some)), ← same-price-is p x h k, ne-eqb p x ne) refl)
 
 pub lesser-first : (a b : ℕ) → a ≤ b → a ≡ D.lesser a b

@@ -19,8 +19,8 @@ use Rattle.store.specs.Layout.{cell}
 use Rattle.store.specs.View.{Row, Store, Is, Ready, word, fill, order, ledger, depth, gateway, order-room}
 use Rattle.orders.specs.Orders.{Ordered, Sorted, Sees, opened, open-row, make-room}
 use Rattle.orders.proofs.Views.{Did, Keeps, same-keeps, resting-at}
-use Rattle.orders.proofs.Room.{make-room-does, make-room-room, make-room-each, make-room-other}
-use Rattle.orders.proofs.Opened.{open-row-does, open-row-each, open-row-here}
+use Rattle.orders.proofs.Room.{make-room-view, make-room-room, make-room-each, make-room-other}
+use Rattle.orders.proofs.Opened.{open-row-view, open-row-each, open-row-here}
 use Rattle.levels.specs.Levels.{block, row, size}
 use Rattle.sound.specs.Sound.{Stored, Sound, State, Becomes}
 use Rattle.sound.proofs.Kept.{sided, becomes, clients-room}
@@ -109,12 +109,12 @@ module _ {xs : List ℕ} (s : State xs) (n : ℕ) (c : CanOpen n (cell xs)) (mis
 
   made-sound : Sound u
   made-sound =
-      orders-step (follows-itself (s .sound)) (make-room-does (cell xs) ordered) made-beyond made-rows
+      orders-step (follows-itself (s .sound)) (make-room-view (cell xs) ordered) made-beyond made-rows
       (rw (word-kept C.resting-orders (λ e. omega arith)) (s .sound .tables .resting-few))
 
   module _ {ys : List ℕ} (h : Is ys u) where
     pub made : Becomes ys (gateway (cell xs))
-    made = becomes h made-sound (make-room-does (cell xs) ordered .view)
+    made = becomes h made-sound (make-room-view (cell xs) ordered .view)
 
     same : Keeps u (cell ys)
     same = same-keeps u (cell ys) (λ b i k q. sym (h .same b i k q)) (made-sound .tables .ordered .bounds)
@@ -149,7 +149,7 @@ module _ {xs : List ℕ} (s : State xs) (n : ℕ) (c : CanOpen n (cell xs)) (mis
       high j g l = omega (arith, b .above j g l, made-missing j l)
 
       does : Did (cell ys) t (ledger (cell ys) .orders) (depth (cell ys) .resting)
-      does = open-row-does (cell ys) i n (now-sound .tables .ordered) made-room (b .top) low high
+      does = open-row-view (cell ys) i n (now-sound .tables .ordered) made-room (b .top) low high
 
       here : (t C.orders i C.order-number ≡ n) × (t C.orders i C.order-resting ≡ 0) × (t C.orders i C.order-live ≡ 0)
       here = open-row-here (cell ys) i n (now-sound .tables .ordered) made-room (b .top) low high

@@ -4,7 +4,7 @@ use mathlib.Core.Logic.{⊎-elim}
 use mathlib.Core.Bool.{false, cond}
 use mathlib.Core.List.{List}
 use mathlib.Core.Option.{Option, none, some}
-use Prim.Native.Nat.{ℕ, _-_, _^_, _≤_, _<_}
+use Prim.Native.Nat.{ℕ, _-_, _≤_, _<_}
 use native.Mathlib.Omega.{arith}
 use Rattle.orderbook.specs.declared.Side.{Side}
 use Rattle.le.proofs.Laws.{lt-or-le}
@@ -19,12 +19,13 @@ use Rattle.store.specs.View.{Row, Store, Is, word, fill, side, resting, ledger,
 use Rattle.orders.specs.declared.Resting.{Resting}
 use Rattle.orders.specs.Orders.{Ordered, strike}
 use Rattle.orders.specs.Orders as Orders
-use Rattle.orders.proofs.Views.{Did, with-lists, resting-rises, resting-at, resting-some, take-off-touched, take-off-does, show-touched, show-does}
+use Rattle.orders.proofs.Views.{Did, with-lists, resting-rises, resting-at, resting-some, take-off-touched, take-off-view, show-touched, show-view}
 use Rattle.levels.specs.declared.Row as LRow
 use Rattle.levels.specs.Levels.{entries, price, removed, shown, Table, CanRemove, CanShow}
 use Rattle.levels.specs.Levels as L
 use Rattle.levels.proofs.Best.{level-of, level-found}
-use Rattle.levels.proofs.Follows.{entries-rise, remove-follows, show-follows}
+use Rattle.levels.proofs.Depth as Levels
+use Rattle.levels.proofs.Depth.{entries-rise}
 use Rattle.levels.proofs.Views.{levels-view}
 use Rattle.sound.specs.Sound.{State, Becomes}
 use Rattle.sound.proofs.Kept.{becomes}
@@ -32,6 +33,7 @@ use Rattle.marketdata.specs.Marketdata.{with-depth, with-resting}
 use Rattle.marketdata.proofs.Fits.{same-mine, reshown-at}
 use Rattle.marketdata.proofs.Steps.{beyond-same, Follows, Beyond, Rows, side-levels, side-table, keeps, levels-step, rows-touched, orders-step}
 use Rattle.gateway.specs.Table.{Rises}
+use Rattle.words.specs.Words.{modulus}
 
 -- ---- after the levels, the row
 
@@ -122,22 +124,22 @@ module _ {xs : List ℕ} (s : State xs) (i : ℕ) (inside : i < word (cell xs) C
     -- ---- it goes
 
     module _ {ys : List ℕ} (d : L.Did z xs ys (removed k (r .visible) (entries z (cell xs)))) where
-      gone-follows : Follows (without D.resting-number (r .number) os) (cell ys)
-      gone-follows =
+      gone-next : Follows (without D.resting-number (r .number) os) (cell ys)
+      gone-next =
           let (x, q) = level-row in
-          levels-step z d s (without D.resting-number (r .number) os) (remove-follows z k r os table (side-levels (s .sound .tables) z .are) (same-mine z) e asc there x q d)
+          levels-step z d s (without D.resting-number (r .number) os) (Levels.remove-view z k r os table (side-levels (s .sound .tables) z .are) (same-mine z) e asc there x q d)
           (other-side r os (without D.resting-number (r .number) os) (λ w. parted (r .price) (r .visible)) (λ w. levels-without w r os asc there))
 
       pub gone-can : (i < order-room) × (0 < word (cell ys) C.resting-orders)
       gone-can =
-          let o = gone-follows .ordered in
+          let o = gone-next .ordered in
           (omega (arith, inside-kept s z d i inside, o .bounds .orders-fit), resting-some (cell ys) i o (inside-kept s z d i inside) (rests-kept d))
 
-      gone-does : Did (cell ys) (Orders.take-off i (cell ys)) (ledger (cell ys) .orders) (without D.resting-number (r .number) os)
-      gone-does =
+      gone-view : Did (cell ys) (Orders.take-off i (cell ys)) (ledger (cell ys) .orders) (without D.resting-number (r .number) os)
+      gone-view =
           subst (λ rs. Did (cell ys) (Orders.take-off i (cell ys)) (ledger (cell ys) .orders) rs)
           (ap₂ (λ (x : D.Resting) (l : List D.Resting). without D.resting-number (x .number) l) (resting-kept d) (list-kept s z d))
-          (take-off-does (cell ys) i (gone-follows .ordered) (inside-kept s z d i inside) (rests-kept d))
+          (take-off-view (cell ys) i (gone-next .ordered) (inside-kept s z d i inside) (rests-kept d))
 
       gone-beyond : Beyond (cell ys) (Orders.take-off i (cell ys))
       unfolding strike
@@ -149,8 +151,8 @@ module _ {xs : List ℕ} (s : State xs) (i : ℕ) (inside : i < word (cell xs) C
 
       pub gone-done : {zs : List ℕ} → Is zs (Orders.take-off i (cell ys)) → Becomes zs (with-depth (with-resting (without D.resting-number (r .number))) (gateway (cell xs)))
       gone-done h =
-          let t = take-off-touched (cell ys) i (gone-follows .ordered) (inside-kept s z d i inside) in
-          row-done s z d (Orders.take-off i (cell ys)) h gone-follows gone-does gone-beyond (rows-touched i _ t refl (gone-words .0) gone-beyond gone-follows) (omega (arith, gone-words .1, gone-follows .resting-few))
+          let t = take-off-touched (cell ys) i (gone-next .ordered) (inside-kept s z d i inside) in
+          row-done s z d (Orders.take-off i (cell ys)) h gone-next gone-view gone-beyond (rows-touched i _ t refl (gone-words .0) gone-beyond gone-next) (omega (arith, gone-words .1, gone-next .resting-few))
 
     -- ---- it shows w, and v are left of it
 
@@ -165,7 +167,7 @@ module _ {xs : List ℕ} (s : State xs) (i : ℕ) (inside : i < word (cell xs) C
       showed-levels y = levels-replace y r os asc there r′ refl refl refl
 
       -- its level stays in range
-      pub show-can : (r .visible < w → D.level-in (r .price) (D.levels z showed) .qty < 2 ^ 64) → CanShow (r .visible) w found
+      pub show-can : (r .visible < w → D.level-in (r .price) (D.levels z showed) .qty < modulus) → CanShow (r .visible) w found
       show-can h = go found level-is level-can
         where
           go : (x : Option LRow.Row) → D.level-in (r .price) (D.levels z os) ≡ level-of k x → CanRemove (r .visible) x → CanShow (r .visible) w x
@@ -182,20 +184,20 @@ module _ {xs : List ℕ} (s : State xs) (i : ℕ) (inside : i < word (cell xs) C
           )
 
       module _ {ys : List ℕ} (d : L.Did z xs ys (shown k (r .visible) w (entries z (cell xs)))) where
-        showed-follows : Follows showed (cell ys)
-        showed-follows =
+        showed-next : Follows showed (cell ys)
+        showed-next =
             let (x, q) = level-row in
-            levels-step z d s showed (show-follows z k r os table (side-levels (s .sound .tables) z .are) (same-mine z) e asc there x q r′ refl refl refl d)
+            levels-step z d s showed (Levels.show-view z k r os table (side-levels (s .sound .tables) z .are) (same-mine z) e asc there x q r′ refl refl refl d)
             (other-side r os showed (λ y. reshown (r .price) (r .visible) w) showed-levels)
 
         pub showed-can : i < order-room
-        showed-can = omega (arith, inside-kept s z d i inside, showed-follows .ordered .bounds .orders-fit)
+        showed-can = omega (arith, inside-kept s z d i inside, showed-next .ordered .bounds .orders-fit)
 
-        showed-does : Did (cell ys) (Orders.show i w v (cell ys)) (ledger (cell ys) .orders) showed
-        showed-does =
+        showed-view : Did (cell ys) (Orders.show i w v (cell ys)) (ledger (cell ys) .orders) showed
+        showed-view =
             subst (λ rs. Did (cell ys) (Orders.show i w v (cell ys)) (ledger (cell ys) .orders) rs)
             (ap₂ (λ (x : D.Resting) (l : List D.Resting). replace D.resting-number (D.showing w v x) l) (resting-kept d) (list-kept s z d))
-            (show-does (cell ys) i (showed-follows .ordered) (inside-kept s z d i inside) w v (rests-kept d))
+            (show-view (cell ys) i (showed-next .ordered) (inside-kept s z d i inside) w v (rests-kept d))
 
         showed-beyond : Beyond (cell ys) (Orders.show i w v (cell ys))
         unfolding fill
@@ -204,5 +206,5 @@ module _ {xs : List ℕ} (s : State xs) (i : ℕ) (inside : i < word (cell xs) C
         pub showed-done : {zs : List ℕ} → Is zs (Orders.show i w v (cell ys)) → Becomes zs (with-depth (with-resting (replace D.resting-number r′)) (gateway (cell xs)))
         unfolding fill
         showed-done h =
-            let t = show-touched (cell ys) i (showed-follows .ordered) (inside-kept s z d i inside) w v in
-            row-done s z d (Orders.show i w v (cell ys)) h showed-follows showed-does showed-beyond (rows-touched i _ t refl refl showed-beyond showed-follows) (showed-follows .resting-few)
+            let t = show-touched (cell ys) i (showed-next .ordered) (inside-kept s z d i inside) w v in
+            row-done s z d (Orders.show i w v (cell ys)) h showed-next showed-view showed-beyond (rows-touched i _ t refl refl showed-beyond showed-next) (showed-next .resting-few)

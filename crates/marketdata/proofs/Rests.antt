@@ -3,11 +3,11 @@ use mathlib.Core.Path.{_≡_, refl, sym, ap, ap₂, subst, _∙_}
 use mathlib.Core.Bool.{cond}
 use mathlib.Core.List.{List}
 use mathlib.Core.Option.{Option, none, some}
-use Prim.Native.Nat.{ℕ, _^_, _≤_, _<_}
+use Prim.Native.Nat.{ℕ, _≤_, _<_}
 use native.Mathlib.Omega.{arith}
 use lib.ListN.{length}
 use Rattle.orderbook.specs.declared.Side.{Side}
-use Rattle.words.specs.Words.{int}
+use Rattle.words.specs.Words.{int, modulus}
 use Rattle.table.specs.Live.{look, insert}
 use Rattle.gateway.specs.Limits.{most-orders, most-levels}
 use Rattle.gateway.specs.Depth as D
@@ -18,12 +18,12 @@ use Rattle.store.specs.Layout.{cell}
 use Rattle.store.specs.View.{Is, word, fill, ledger, depth, gateway, order-room}
 use Rattle.orders.specs.declared.Resting.{Resting}
 use Rattle.orders.specs.Orders.{rest}
-use Rattle.orders.proofs.Views.{Did, rest-touched, rest-does}
+use Rattle.orders.proofs.Views.{Did, rest-touched, rest-view}
 use Rattle.levels.specs.declared.Row as LRow
 use Rattle.levels.specs.Levels.{size, entries, price, added, CanAdd}
 use Rattle.levels.specs.Levels as L
 use Rattle.levels.proofs.Best.{level-of, best-length}
-use Rattle.levels.proofs.Follows.{entries-length, add-follows}
+use Rattle.levels.proofs.Depth.{entries-length, add-view}
 use Rattle.sound.specs.Sound.{State, Becomes}
 use Rattle.marketdata.specs.Marketdata.{with-depth, with-resting, Judged}
 use Rattle.orders.specs.Orders.{resting-of}
@@ -47,7 +47,7 @@ module _ {xs : List ℕ} (s : State xs) (n : ℕ) (o : Resting) (judged : Judged
   abbrev found : Option LRow.Row
   found = look L.key k (entries z (cell xs))
 
-  fits : D.level-in (r .price) (D.levels z more) .qty < 2 ^ 64
+  fits : D.level-in (r .price) (D.levels z more) .qty < modulus
   unfolding D.add
   fits = level-fits z (r .price) more (judged .fits)
 
@@ -96,7 +96,7 @@ module _ {xs : List ℕ} (s : State xs) (n : ℕ) (o : Resting) (judged : Judged
   module _ {ys : List ℕ} (d : L.Did z xs ys (added k (r .visible) (entries z (cell xs)))) where
     follows : Follows more (cell ys)
     follows =
-        levels-step z d s more (add-follows z k r os (side-table s z) (side-levels (s .sound .tables) z .are) (same-mine z) e d)
+        levels-step z d s more (add-view z k r os (side-table s z) (side-levels (s .sound .tables) z .are) (same-mine z) e d)
         (other-side r os more (λ w. D.joined w (r .price) (r .visible)) (λ w. levels-insert w r os))
 
     module _ (i : ℕ) (inside : i < word (cell xs) C.order-rows) (number-is : cell xs C.orders i C.order-number ≡ n) (free : cell xs C.orders i C.order-resting ≡ 0) where
@@ -107,7 +107,7 @@ module _ {xs : List ℕ} (s : State xs) (n : ℕ) (o : Resting) (judged : Judged
       does =
           subst (λ rs. Did (cell ys) (rest i o (cell ys)) (ledger (cell ys) .orders) rs)
           (ap₂ (λ (m : ℕ) (l : List D.Resting). insert D.resting-number (resting-of m o) l) (cell-kept s z d i inside C.order-number (omega arith) ∙ number-is) (list-kept s z d))
-          (rest-does (cell ys) i (follows .ordered) (inside-kept s z d i inside) o (cell-kept s z d i inside C.order-resting (omega arith) ∙ free))
+          (rest-view (cell ys) i (follows .ordered) (inside-kept s z d i inside) o (cell-kept s z d i inside C.order-resting (omega arith) ∙ free))
 
       beyond : Beyond (cell ys) (rest i o (cell ys))
       unfolding rest fill

@@ -29,7 +29,7 @@ use Rattle.levels.specs.declared.Row as LRow
 use Rattle.levels.specs.Levels.{block, count, row, size, entries, best, Table}
 use Rattle.levels.specs.Levels as L
 use Rattle.levels.proofs.Laws.{header-not-block}
-use Rattle.levels.proofs.Follows.{Holding}
+use Rattle.levels.proofs.Depth.{Holding}
 use Rattle.levels.proofs.Views.{asks-stay, bids-stay}
 use Rattle.clients.proofs.Links.{two-cells}
 use Rattle.pending.specs.Pending as Pending

@@ -8,7 +8,7 @@ use lib.Dec.{ltb, leb}
 use lib.IntN.{ℤ}
 use lib.ListN.{length}
 use Rattle.table.specs.Table.{Between}
-use Rattle.gateway.specs.Limits.{word, most-orders, most-changed}
+use Rattle.gateway.specs.Limits.{most-orders, most-changed}
 use Rattle.gateway.specs.Depth.{Depth, Key, level, key-of, same-price, find-resting, where-resting, remember, levels-fit, depth-few}
 use Rattle.gateway.specs.Depth as D
 use Rattle.gateway.specs.Rest.{pending}
@@ -20,6 +20,7 @@ use Rattle.store.specs.View as View
 use Rattle.orders.specs.declared.Resting.{Resting}
 use Rattle.orders.specs.Orders.{resting-row}
 use Rattle.sound.specs.Sound.{Becomes}
+use Rattle.words.specs.Words.{modulus}
 
 -- the row i is that of the resting order o
 pub record At (i : ℕ) (o : Resting) (s : Store) : Type 0 where
@@ -56,7 +57,7 @@ Roomy d = length (d .changed) ≤ most-changed
 
 -- code 7: where the order r shows more than v, its level is in range
 abbrev pub Fits : ℕ → D.Resting → Depth → Type 0
-Fits v r d = (v < r .visible → level (key-of r) d .qty < word)
+Fits v r d = (v < r .visible → level (key-of r) d .qty < modulus)
 
 -- an order that showed v is r now
 pub record CanShow (v : ℕ) (r : D.Resting) (d : Depth) : Type 0 where

@@ -92,9 +92,9 @@ module _ (s : Store) (i n : ℕ) (d : Ordered s) (room : word s C.order-rows < o
   unfolding open-row fill opened
   resting-open = marked-open C.order-resting resting D.resting-number (λ r. refl) (ap (λ (r : Row). r C.order-resting) (touched .here))
 
-  pub open-row-does : Did s (open-row i n s) (ledger s .orders) (depth s .resting)
+  pub open-row-view : Did s (open-row i n s) (ledger s .orders) (depth s .resting)
   unfolding open-row fill opened
-  open-row-does =
+  open-row-view =
       record {
         view = ap₂ (λ x y. with-lists x y (gateway s)) live-open resting-open;
         ordered =

@@ -153,9 +153,9 @@ module _ (s : Store) (d : Ordered s) where
   resting-packed : marked (compact s) C.order-resting resting ≡ depth s .resting
   resting-packed = marked-packed C.order-resting resting (λ r f. ap (λ x. gated x (r C.order-resting)) (f .kept-is) ∙ gated-resting (r C.order-live) (r C.order-resting))
 
-  pub compact-does : Did s (compact s) (ledger s .orders) (depth s .resting)
+  pub compact-view : Did s (compact s) (ledger s .orders) (depth s .resting)
   unfolding compact packed
-  compact-does =
+  compact-view =
       record {
         view = gateway-packed _ _ live-packed resting-packed;
         ordered =
@@ -187,11 +187,11 @@ module _ (s : Store) (d : Ordered s) where
             (λ j l. kept-one (was j) (d .sorted .flags j l)),
       )
 
-  pub make-room-does : Did s (make-room s) (ledger s .orders) (depth s .resting)
+  pub make-room-view : Did s (make-room s) (ledger s .orders) (depth s .resting)
   unfolding make-room squeeze
-  make-room-does =
+  make-room-view =
       split (λ b. Did s (cond b s (squeeze s)) (ledger s .orders) (depth s .resting)) (ltb (word s C.order-rows) order-room)
-      (λ e. record { view = refl; ordered = d }) (λ e. hints-did s (compact s) _ _ compact-does (length (places s)))
+      (λ e. record { view = refl; ordered = d }) (λ e. hints-did s (compact s) _ _ compact-view (length (places s)))
 
   pub make-room-room : word s C.live-orders + word s C.resting-orders < order-room → word (make-room s) C.order-rows < order-room
   unfolding make-room squeeze

@@ -322,23 +322,23 @@ module _ (s : Store) (i : ℕ) (d : Ordered s) (l : i < word s C.order-rows) whe
         (shown-replace D.resting-number (changed i r s t c C.order-resting resting (word s C.order-rows) l) (rising C.order-resting resting D.resting-number (λ r. refl))
         (ap (λ (q : Row). q C.order-number) (c .here) ∙ ap (λ x. x .0) h) m (rw (c .here, ap (λ x. x .2) h) m)))
 
-  pub set-leaves-does : (v h : ℕ) → 0 < was C.order-live → Did s (set-leaves i v h s) (update number-of (was C.order-number) (with-leaves v) (ledger s .orders)) (depth s .resting)
+  pub set-leaves-view : (v h : ℕ) → 0 < was C.order-live → Did s (set-leaves i v h s) (update number-of (was C.order-number) (with-leaves v) (ledger s .orders)) (depth s .resting)
   unfolding fill
-  set-leaves-does v h m =
+  set-leaves-view v h m =
       live-did _ (set-leaves i v h s) (fill-touched i C.order-leaves (v ∷ h ∷ []) was s s (untouched i s)) refl (with-leaves v) refl refl refl refl m
 
-  pub revise-does : (c p v h : ℕ) (f : Order → Order) → f (order was) ≡ revised c p v (order was) → 0 < was C.order-live →
+  pub revise-view : (c p v h : ℕ) (f : Order → Order) → f (order was) ≡ revised c p v (order was) → 0 < was C.order-live →
       Did s (revise i c p v h s) (update number-of (was C.order-number) f (ledger s .orders)) (depth s .resting)
   unfolding fill
-  revise-does c p v h f e m =
+  revise-view c p v h f e m =
       live-did _ (revise i c p v h s) (fill-touched i C.order-priced (c ∷ p ∷ v ∷ h ∷ []) was s s (untouched i s)) refl f refl refl e refl m
 
   pub show-touched : (v w : ℕ) → Touched i (put-cells C.order-visible (v ∷ w ∷ []) was) s (show i v w s)
   show-touched v w = fill-touched i C.order-visible (v ∷ w ∷ []) was s s (untouched i s)
 
-  pub show-does : (v w : ℕ) → 0 < was C.order-resting → Did s (show i v w s) (ledger s .orders) (replace D.resting-number (D.showing v w (resting was)) (depth s .resting))
+  pub show-view : (v w : ℕ) → 0 < was C.order-resting → Did s (show i v w s) (ledger s .orders) (replace D.resting-number (D.showing v w (resting was)) (depth s .resting))
   unfolding fill
-  show-does v w m =
+  show-view v w m =
       resting-did _ (show i v w s) (show-touched v w) refl refl refl refl m
 
   -- its order
@@ -368,9 +368,9 @@ module _ (s : Store) (i : ℕ) (d : Ordered s) (l : i < word s C.order-rows) whe
       count-touched i C.live-orders (word s C.live-orders - 1) _ s _ (λ j x y z. y)
       (write-touched i C.order-kept (was C.order-resting) _ s _ (write-touched i C.order-live 0 was s s (untouched i s)))
 
-  pub retire-does : 0 < was C.order-live → Did s (retire i s) (remove (was C.order-number) (ledger s .orders)) (depth s .resting)
+  pub retire-view : 0 < was C.order-live → Did s (retire i s) (remove (was C.order-number) (ledger s .orders)) (depth s .resting)
   unfolding strike
-  retire-does m =
+  retire-view m =
       let f = d .sorted .flags i l in
       let t = retire i s in
       let c = retire-touched in
@@ -386,9 +386,9 @@ module _ (s : Store) (i : ℕ) (d : Ordered s) (l : i < word s C.order-rows) whe
       count-touched i C.resting-orders (word s C.resting-orders - 1) _ s _ (λ j x y z. z)
       (write-touched i C.order-kept (was C.order-live) _ s _ (write-touched i C.order-resting 0 was s s (untouched i s)))
 
-  pub take-off-does : 0 < was C.order-resting → Did s (take-off i s) (ledger s .orders) (without D.resting-number (was C.order-number) (depth s .resting))
+  pub take-off-view : 0 < was C.order-resting → Did s (take-off i s) (ledger s .orders) (without D.resting-number (was C.order-number) (depth s .resting))
   unfolding strike
-  take-off-does m =
+  take-off-view m =
       let f = d .sorted .flags i l in
       let t = take-off i s in
       let c = take-off-touched in
@@ -404,9 +404,9 @@ module _ (s : Store) (i : ℕ) (d : Ordered s) (l : i < word s C.order-rows) whe
       count-touched i C.resting-orders (word s C.resting-orders + 1) _ s _ (λ j x y z. z)
       (fill-touched i C.order-resting (1 ∷ 1 ∷ []) _ s _ (fill-touched i C.order-rest-side (o .side ∷ o .price ∷ o .visible ∷ o .leaves ∷ []) was s s (untouched i s)))
 
-  pub rest-does : (o : Resting) → was C.order-resting ≡ 0 → Did s (rest i o s) (ledger s .orders) (insert D.resting-number (resting-of (was C.order-number) o) (depth s .resting))
+  pub rest-view : (o : Resting) → was C.order-resting ≡ 0 → Did s (rest i o s) (ledger s .orders) (insert D.resting-number (resting-of (was C.order-number) o) (depth s .resting))
   unfolding rest fill
-  rest-does o m =
+  rest-view o m =
       let f = d .sorted .flags i l in
       let t = rest i o s in
       let c = rest-touched o in
@@ -453,10 +453,10 @@ module _ (s : Store) (n : ℕ) (o : Live) where
             (same? j next);
       }
 
-  pub append-does : Ordered s → next < order-room → ((j : ℕ) → j < next → s C.orders j C.order-number < n) →
+  pub append-view : Ordered s → next < order-room → ((j : ℕ) → j < next → s C.orders j C.order-number < n) →
       Did s (append n o s) (ledger s .orders ++ (order-of n o ∷ [])) (depth s .resting)
   unfolding append fill
-  append-does d m h =
+  append-view d m h =
       let t = append n o s in
       let c = append-touched in
       let a : marked t C.order-live order ≡ marked s C.order-live order ++ (order-of n o ∷ []) =

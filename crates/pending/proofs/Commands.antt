@@ -2,7 +2,7 @@
 use mathlib.Core.Path.{_≡_, refl, sym, ap, _∙_}
 use mathlib.Core.Logic.{⊎-elim}
 use mathlib.Core.List.{List, [], _∷_}
-use Prim.Native.Nat.{ℕ, _+_, _^_, _≤_, _<_}
+use Prim.Native.Nat.{ℕ, _+_, _≤_, _<_}
 use native.Mathlib.Nat.{eq-or-lt-of-le}
 use native.Mathlib.Omega.{arith}
 use borrow.Author.Tests.{eq-eqb, ne-eqb}
@@ -18,7 +18,7 @@ use Rattle.orderbook.specs.declared.TimeInForce.the-variants.{Gtc, Ioc, Fok, Po
 use Rattle.orderbook.specs.declared.Command.{Command}
 use Rattle.orderbook.specs.declared.Command.the-variants.{Limit, Market, Cancel, Modify, Stop, CancelAll, SetPhase}
 use Rattle.protocol.specs.Codes.{sideCode, tifCode}
-use Rattle.words.specs.Words.{int, word-of}
+use Rattle.words.specs.Words.{int, word-of, modulus}
 use Rattle.words.proofs.Int.{int-of, of-int}
 use Rattle.gateway.specs.Bytes.{price-flag, price-word}
 use Rattle.gateway.specs.Entry.{queued}
@@ -30,7 +30,7 @@ use Rattle.store.specs.View.{Row, Store, fill, listed, side, tif, maybe-price, 
 use Rattle.pending.specs.Pending as P
 use Rattle.pending.proofs.Views.{listed-push, with-rest}
 
-pub word-is : (w : ℕ) (z : ℤ) → w < 2 ^ 64 → int w ≡ z → w ≡ word-of z
+pub word-is : (w : ℕ) (z : ℤ) → w < modulus → int w ≡ z → w ≡ word-of z
 word-is w z h e = sym (of-int w h) ∙ ap (ofZ w64) e
 
 -- ---- what is read back

@@ -3,13 +3,13 @@ use mathlib.Core.Path.{_≡_, refl, sym, ap, _∙_}
 use mathlib.Core.Logic.{⊎-elim}
 use mathlib.Core.Bool.{Bool, true, false, cond, not, _||_}
 use mathlib.Core.List.{List, [], _∷_, _++_}
-use Prim.Native.Nat.{ℕ, _+_, _-_, _^_, _≤_, _<_}
+use Prim.Native.Nat.{ℕ, _+_, _-_, _≤_, _<_}
 use native.Mathlib.Omega.{arith}
 use borrow.Author.Tests.{eq-eqb, ne-eqb}
 use lib.Dec.{eqb}
 use lib.ListN.{length, length-append}
 use Rattle.orderbook.specs.declared.Side.the-variants.{Buy, Sell}
-use Rattle.words.specs.Words.{int}
+use Rattle.words.specs.Words.{int, modulus}
 use Rattle.words.proofs.Int.{int-injective}
 use Rattle.table.proofs.Live.{same?}
 use Rattle.gateway.specs.Depth.{Key, same-price, same-key, is-changed, remember}
@@ -41,7 +41,7 @@ pub same-as-sell : (a b : ℕ) → (a ≡ 0 → ⊥) → not (eqb b 0) ≡ same-
 same-as-sell a b e = rw (ne-eqb a 0 e) (side-sell (eqb b 0))
 
 -- two words have the same number where they are the same
-pub same-price-is : (a b : ℕ) → a < 2 ^ 64 → b < 2 ^ 64 → eqb a b ≡ same-price (int a) (int b)
+pub same-price-is : (a b : ℕ) → a < modulus → b < modulus → eqb a b ≡ same-price (int a) (int b)
 same-price-is a b h k =
     ⊎-elim
     (λ (e : a ≡ b). rw (e, eq-eqb b b refl) (sym (same-itself (int b))))

@@ -14,6 +14,7 @@ ghost use Rattle.store.specs.Cells as C;
 ghost use Rattle.store.specs.Layout.{cell, Cells, Holds};
 ghost use Rattle.store.specs.View.{word, write, in-slot, gateway, Is, Ready};
 ghost use Rattle.pending.specs.Pending as P;
+ghost use Rattle.words.specs.Words.{modulus};
 
 // A command has the slot of its number modulo this.
 const FLIGHT_SLOTS: u64 = 256;
@@ -97,7 +98,7 @@ pub fn set_published(m: &mut [u8])
 
 // The next command is numbered and in flight.
 pub fn take_off(m: &mut [u8], sender: u64, owner: u64, places: u64)
-    requires { ⌜ Ready (now m) × (word (cell (now m)) C.last + 1 < Limits.word) × (word (cell (now m)) C.flying < most-in-flight) ⌝ }
+    requires { ⌜ Ready (now m) × (word (cell (now m)) C.last + 1 < modulus) × (word (cell (now m)) C.flying < most-in-flight) ⌝ }
     ensures { λ r. ⌜ Is (now (m .exit)) (P.take-off sender owner places (cell (now (m .entry)))) ⌝ }
 {
     let next = store::get(m, store::HEADER, 0, cells::LAST) + 1;

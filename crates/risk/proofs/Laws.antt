@@ -11,8 +11,6 @@ use borrow.Author.Tests.{leb-true}
 use Rattle.risk.specs.declared.Bucket.{Bucket}
 use Rattle.words.specs.Words.{int, _⊖_}
 use Rattle.words.proofs.Diff.{pos-is, ⊖-sub, ⊖-le, leb-same}
-use Rattle.risk.specs.declared.MaybeMark as K
-use Rattle.risk.specs.declared.MaybePercent as P
 use Rattle.risk.specs.Collar as C
 use Rattle.risk.specs.Meter as M
 use Rattle.risk.specs.Throttle as T
@@ -28,9 +26,6 @@ green-is b tc = sym ((λ i. leZ (pos-is 0 0 0 (omega arith) i) (pos-is tc tc 0 (
 pub green-le : (b tc : ℕ) (g : Bool) → g ≡ M.green b tc → g ≡ true → b ≤ tc
 green-le b tc g e t = leb-true b tc (green-is b tc ∙ sym e ∙ t)
 
-pub market : (price : ℕ) (p : P.MaybePercent) (m : K.MaybeMark) (n w : ℕ) (r : Bool) → p ≡ P.the-variants.Some n → m ≡ K.the-variants.Some w → r ≡ C.near (int price) (int w) n → r ≡ C.near-market (int price) (C.percent-of p) (C.mark-of m)
-market price p m n w r e f g = rw (e, f) g
-
 taken : (rate now : ℕ) (b u : Bucket) (g t : Bool) → u ≡ T.update rate now b → g ≡ M.green T.message (u .tokens) → g ≡ t → T.colored t u ≡ T.take-token rate now b
 taken rate now b u g t eu e f = (λ i. T.colored ((sym f ∙ e) i) u) ∙ (λ i. T.colored (M.green T.message (eu i .tokens)) (eu i))
 
@@ -40,4 +35,4 @@ passes rate now b u l g eu e f p = (λ i. record { passed = true; bucket = p i }
 pub throttled : (rate now : ℕ) (b u : Bucket) (g : Bool) → u ≡ T.update rate now b → g ≡ M.green T.message (u .tokens) → g ≡ false → record { passed = false; bucket = u } ≡ T.take-token rate now b
 throttled rate now b u g eu e f = taken rate now b u g false eu e f
 
-pub ruleset laws = (needs, nears, market, green-is, green-le, passes, throttled)
+pub ruleset laws = (needs, nears, green-is, green-le, passes, throttled)

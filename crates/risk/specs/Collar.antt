@@ -4,8 +4,6 @@ use mathlib.Core.Option.{Option, none, some}
 use Prim.Native.Nat.{ℕ}
 use lib.IntN.{ℤ, pos, natAbs, _-ℤ_, _*ℤ_}
 use lib.Signed.{leZ}
-use Rattle.words.specs.Words.{int}
-use Rattle.risk.specs.declared.MaybeMark as M
 use Rattle.risk.specs.declared.MaybePercent as P
 
 -- |price − mark| × 100 ≤ mark × percent
@@ -18,11 +16,7 @@ near-market price none mark = true
 near-market price (some percent) none = true
 near-market price (some percent) (some mark) = near price mark percent
 
--- what the code's values say
+-- what the code's value says
 abbrev pub percent-of : P.MaybePercent → Option ℕ
 percent-of P.the-variants.None = none
 percent-of (P.the-variants.Some n) = some n
-
-abbrev pub mark-of : M.MaybeMark → Option ℤ
-mark-of M.the-variants.None = none
-mark-of (M.the-variants.Some w) = some (int w)

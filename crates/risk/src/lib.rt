@@ -9,38 +9,20 @@ ghost use Rattle.risk.specs.Meter as M;
 ghost use Rattle.risk.specs.Throttle as T;
 
 // |price - mark| * 100 <= mark * percent, exact and signed.
-pub fn near(price: u64, mark: u64, percent: u32) -> bool
+pub fn near(price: u64, mark: u64, percent: u64) -> bool
     ensures { λ r. ⌜ r ≡ C.near (int price) (int mark) percent ⌝ }
 {
     let apart = Signed128 {
         neg: false,
         size: words::wide_mul(words::distance(price, mark), 100),
     };
-    words::at_most(apart, words::signed_mul(mark, percent as u64))
+    words::at_most(apart, words::signed_mul(mark, percent))
 }
 
-// The collar's width, and the market's reference price.
+// The collar's width.
 pub enum MaybePercent {
     None,
     Some(u32),
-}
-
-pub enum MaybeMark {
-    None,
-    Some(u64),
-}
-
-// Whether a limit price lies within the collar.
-pub fn near_market(price: u64, percent: MaybePercent, mark: MaybeMark) -> bool
-    ensures { λ r. ⌜ r ≡ C.near-market (int price) (C.percent-of percent) (C.mark-of mark) ⌝ }
-{
-    let MaybePercent::Some(p) = percent else {
-        return true;
-    };
-    let MaybeMark::Some(m) = mark else {
-        return true;
-    };
-    near(price, m, p)
 }
 
 // A message, in billionths of one; also a second, in nanoseconds.

@@ -3,7 +3,7 @@ use mathlib.Core.Path.{_≡_, refl}
 use mathlib.Core.Logic.{_⊎_, inl, inr, ⊎-elim}
 use mathlib.Core.Bool.{Bool, true, _&&_, and-eq-true-iff}
 use mathlib.Core.List.{List}
-use Prim.Native.Nat.{ℕ, zero, suc, _+_, _*_, _^_, _≤_, _<_}
+use Prim.Native.Nat.{ℕ, zero, suc, _+_, _*_, _≤_, _<_}
 use native.Mathlib.Nat.{not-suc-le-zero, le-of-suc-le-suc, eq-or-lt-of-le}
 use native.Mathlib.Omega.{arith}
 use borrow.Author.Tests.{eqb-true, leb-true}
@@ -15,6 +15,7 @@ use Rattle.table.proofs.Live.{same?}
 use Rattle.table.proofs.Moves.{step}
 use Rattle.store.specs.Cells as C
 use Rattle.store.specs.Layout.{blocks, cells, rows, width, start, spot, cell, store, Cell, Holds}
+use Rattle.words.specs.Words.{modulus}
 
 -- a test that passes for each number below n
 abbrev passes : (ℕ → Bool) → ℕ → Bool
@@ -101,7 +102,7 @@ module _ (xs : List ℕ) {b i k : ℕ} (v : ℕ) (c : Cell b i k) where
   store-length = length-put 8 xs (8 * spot b i k) v
 
   -- a cell that was stored is read back
-  pub cell-same : Holds xs → v < 2 ^ 64 → cell (store xs b i k v) b i k ≡ v
+  pub cell-same : Holds xs → v < modulus → cell (store xs b i k v) b i k ≡ v
   unfolding cell store
   cell-same h f = le-put 8 xs (8 * spot b i k) v (omega (arith, spot-below c)) (omega arith)
 

@@ -3,7 +3,7 @@ use mathlib.Core.Path.{_≡_, refl, sym, ap, _∙_}
 use mathlib.Core.Logic.{⊎-elim}
 use mathlib.Core.Bool.{false, cond, _&&_}
 use mathlib.Core.List.{List, [], _∷_, _++_}
-use Prim.Native.Nat.{ℕ, _+_, _^_, _≤_, _<_}
+use Prim.Native.Nat.{ℕ, _+_, _≤_, _<_}
 use borrow.Author.Tests.{eq-eqb, ne-eqb}
 use native.Mathlib.Numerals.{add-one}
 use native.Mathlib.Omega.{arith}
@@ -14,6 +14,7 @@ use Rattle.table.proofs.Live.{same?}
 use Rattle.store.specs.Layout.{cell, store, Cell, Cells, Holds, Set}
 use Rattle.store.specs.View.{Row, Store, write, fill, Same, Is}
 use Rattle.store.proofs.Places.{cell-same, cell-other}
+use Rattle.words.specs.Words.{modulus}
 
 -- what `write` leaves in its own cell, and in another
 here : (b i k v : ℕ) (s : Store) → write b i k v s b i k ≡ v
@@ -22,7 +23,7 @@ here b i k v s = simp (eq-eqb b b refl, eq-eqb i i refl, eq-eqb k k refl)
 there : (b i k v : ℕ) (s : Store) (d j l : ℕ) → (eqb d b && (eqb j i && eqb l k)) ≡ false → write b i k v s d j l ≡ s d j l
 there b i k v s d j l h = rw h refl
 
-pub stored : (xs : List ℕ) {b i k : ℕ} (v : ℕ) → Cell b i k → Holds xs → v < 2 ^ 64 → Same (cell (store xs b i k v)) (write b i k v (cell xs))
+pub stored : (xs : List ℕ) {b i k : ℕ} (v : ℕ) → Cell b i k → Holds xs → v < modulus → Same (cell (store xs b i k v)) (write b i k v (cell xs))
 stored xs {b} {i} {k} v c h f d j l q =
     ⊎-elim
     (λ (e : d ≡ b).

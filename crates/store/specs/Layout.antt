@@ -1,9 +1,10 @@
 -- The layout of the lent state: blocks of rows of 64-bit cells, one behind the other. docs/STATE.md says what each cell holds.
-use Prim.Native.Nat.{ℕ, _+_, _*_, _^_, _≤_, _<_}
+use Prim.Native.Nat.{ℕ, _+_, _*_, _≤_, _<_}
 use mathlib.Core.Path.{_≡_}
 use mathlib.Core.List.{List, [], _∷_}
 use lib.ListN.{length, getD}
 use Rattle.le.specs.Le.{le, put}
+use Rattle.words.specs.Words.{modulus}
 
 -- header, accounts, sessions, flights, batch, orders, bids, asks, trades, notices, changed levels, hints
 abbrev pub row-counts : List ℕ
@@ -51,9 +52,9 @@ spot b i k = start b + (width b * i + k)
 unfoldable pub cell : List ℕ → ℕ → ℕ → ℕ → ℕ
 cell xs b i k = le 8 xs (8 * spot b i k)
 
--- a state stands in xs
+-- a state stands in xs, and nothing else
 abbrev pub Holds : List ℕ → Type 0
-Holds xs = 8 * cells ≤ length xs
+Holds xs = length xs ≡ 8 * cells
 
 -- xs with v in that cell
 unfoldable pub store : List ℕ → ℕ → ℕ → ℕ → ℕ → List ℕ
@@ -62,5 +63,5 @@ store xs b i k v = put 8 xs (8 * spot b i k) v
 -- ys is xs with v in that cell, and holds a state
 pub record Set (xs ys : List ℕ) (b i k v : ℕ) : Type 0 where
   pub holds : Holds ys
-  pub fits : v < 2 ^ 64
+  pub fits : v < modulus
   pub exact : ys ≡ store xs b i k v

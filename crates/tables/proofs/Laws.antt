@@ -23,7 +23,7 @@ use Rattle.orders.specs.declared.Live.{Live}
 use Rattle.orders.specs.Orders.{Sorted, Ordered, Sees, live-row, append, make-room}
 use Rattle.orders.proofs.Laws.{then-append}
 use Rattle.orders.proofs.Views.{live-some}
-use Rattle.orders.proofs.Room.{make-room-does, make-room-room}
+use Rattle.orders.proofs.Room.{make-room-view, make-room-room}
 use Rattle.levels.specs.Levels as L
 use Rattle.levels.specs.declared.Row.{Row}
 use Rattle.tables.specs.Tables.{row-of, at-row, Done}
@@ -67,7 +67,7 @@ module _ (xs ys : List ℕ) (o : Ordered (cell xs)) (few : word (cell xs) C.live
 
   pub live-fits : word (cell ys) C.live-orders < order-room
   live-fits =
-      let d = make-room-does (cell xs) o in
+      let d = make-room-view (cell xs) o in
       let e = d .ordered .counted .live-count ∙ ap (λ g. length (g .core .ledger .orders)) (d .view) ∙ sym (o .counted .live-count) in
       rw (h .same C.header 0 C.live-orders (header-cell C.live-orders (omega arith)) ∙ e) (omega arith)
 

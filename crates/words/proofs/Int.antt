@@ -1,7 +1,7 @@
 -- A word's number: low words are themselves, high ones 2^64 less; and an i64's word. Assumes nothing.
 use mathlib.Core.Path.{_≡_, refl, sym, _∙_, ap, subst}
 use mathlib.Core.Bool.{true, false}
-use Prim.Native.Nat.{ℕ, suc, _+_, _-_, _≤_, _<_, _^_}
+use Prim.Native.Nat.{ℕ, suc, _+_, _-_, _≤_, _<_}
 use native.Mathlib.Omega.{arith}
 use lib.Dec.{T}
 use lib.IntN.{ℤ, pos, negsuc, _+ℤ_, _-ℤ_}
@@ -10,22 +10,22 @@ use mir.Syntax.{w64}
 use mir.Val.{ofZ, toZ, SFits}
 use mir.ValLaws.{toZ-ofZ, ofZ-toZ}
 use borrow.Author.Tests.{lt-ltb, le-ltb, ltb-true}
-use Rattle.words.specs.Words.{half, least, most, int, _⊖_}
+use Rattle.words.specs.Words.{half, least, most, int, _⊖_, modulus}
 use Rattle.words.proofs.Diff.{⊖-ind, pos-is, negsuc-is, ⊖-same}
 
 pub low : (w : ℕ) → w < half → int w ≡ pos w
 unfolding int
 low w h = rw (lt-ltb w half h)
 
-pub high : (w : ℕ) → w < 2 ^ 64 → half ≤ w → int w ≡ w ⊖ 2 ^ 64
+pub high : (w : ℕ) → w < modulus → half ≤ w → int w ≡ w ⊖ modulus
 unfolding int
-high w f h = rw (le-ltb w half h) (negsuc-is (2 ^ 64 - suc w) w (2 ^ 64) (omega arith))
+high w f h = rw (le-ltb w half h) (negsuc-is (modulus - suc w) w modulus (omega arith))
 
 pub low-is : (w p q : ℕ) → w < half → p ≡ q + w → int w ≡ p ⊖ q
 low-is w p q h e = low w h ∙ pos-is w p q e
 
-pub high-is : (w p q : ℕ) → w < 2 ^ 64 → half ≤ w → w + q ≡ p + 2 ^ 64 → int w ≡ p ⊖ q
-high-is w p q f h e = high w f h ∙ ⊖-same w (2 ^ 64) p q e
+pub high-is : (w p q : ℕ) → w < modulus → half ≤ w → w + q ≡ p + modulus → int w ≡ p ⊖ q
+high-is w p q f h e = high w f h ∙ ⊖-same w modulus p q e
 
 pub int-zero : int 0 ≡ pos 0
 unfolding int
@@ -48,11 +48,11 @@ unfolding int
 int-of x f = toZ-ofZ w64 x f
 
 -- a word is the two's complement of its number, so that two words with one number are the same
-pub of-int : (w : ℕ) → w < 2 ^ 64 → ofZ w64 (int w) ≡ w
+pub of-int : (w : ℕ) → w < modulus → ofZ w64 (int w) ≡ w
 unfolding int
 of-int w h = ofZ-toZ w64 w (record { fits = h })
 
-pub int-injective : (v w : ℕ) → v < 2 ^ 64 → w < 2 ^ 64 → int v ≡ int w → v ≡ w
+pub int-injective : (v w : ℕ) → v < modulus → w < modulus → int v ≡ int w → v ≡ w
 int-injective v w h k e = sym (of-int v h) ∙ ap (ofZ w64) e ∙ of-int w k
 
 pub ⊖-fits : (p q : ℕ) → p < q + half → q ≤ p + half → mag (p ⊖ q) < half
@@ -75,6 +75,6 @@ natural x f t = toZ-ofZ w64 x f ∙ go x (rw (toZ-ofZ w64 x f) at t)
     go (negsuc k) t = absurd (subst T t tt)
 
 -- a high word, lowered
-pub down : (w : ℕ) → w < 2 ^ 64 → half ≤ w → toZ w64 (w - half) +ℤ least ≡ w ⊖ 2 ^ 64
+pub down : (w : ℕ) → w < modulus → half ≤ w → toZ w64 (w - half) +ℤ least ≡ w ⊖ modulus
 unfolding _⊖_
-down w f h = rw (lt-ltb (w - half) half (omega arith)) (⊖-same (w - half) half w (2 ^ 64) (omega arith))
+down w f h = rw (lt-ltb (w - half) half (omega arith)) (⊖-same (w - half) half w modulus (omega arith))

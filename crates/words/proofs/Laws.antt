@@ -2,7 +2,7 @@
 use mathlib.Core.Path.{_≡_, sym, _∙_, ap}
 use mathlib.Core.Bool.{Bool, true, false}
 use mathlib.Core.Option.{Option, none, some}
-use Prim.Native.Nat.{ℕ, _+_, _-_, _*_, _≤_, _<_, _^_}
+use Prim.Native.Nat.{ℕ, _+_, _-_, _*_, _≤_, _<_}
 use native.Mathlib.Nat.{le-of-lt}
 use native.Mathlib.Omega.{arith}
 use lib.Dec.{leb}
@@ -10,13 +10,13 @@ use lib.Signed.{leZ}
 use lib.IntN.{ℤ, pos, negℤ, natAbs, _+ℤ_, _-ℤ_, +ℤ-idr}
 use borrow.Author.Needs.{needs}
 use borrow.Author.Tests.{le-leb, lt-leb, leb-true, leb-false}
-use Rattle.words.specs.Words.{half, int, _⊖_, signed, Place, place-of, fit-in, fit}
+use Rattle.words.specs.Words.{half, int, _⊖_, signed, Place, place-of, fit-in, fit, modulus}
 use Rattle.words.proofs.Diff.{⊖-ind, pos-is, ⊖-same, leb-same, neg-is, diff2, sum3, within, le-neg-neg, le-neg-pos, le-pos-neg}
 use Rattle.words.proofs.Int.{int-zero, low, low-is, high-is}
 use Rattle.words.proofs.Fit.{lies-in, lies-above, lies-below}
 use Rattle.words.proofs.Product.{high-lt, product}
 
-pub high-neg : (w n : ℕ) → w < 2 ^ 64 → half ≤ w → w + n ≡ 2 ^ 64 → int w ≡ negℤ (pos n)
+pub high-neg : (w n : ℕ) → w < modulus → half ≤ w → w + n ≡ modulus → int w ≡ negℤ (pos n)
 high-neg w n f h e = high-is w 0 n f h e ∙ sym (neg-is n)
 
 abs-is : (p q : ℕ) → natAbs (p ⊖ q) ≡ p - q + (q - p)
@@ -31,14 +31,14 @@ apart-less a b u v p q h = apart a b u v (v - u) p q (omega arith)
 pub apart-more : (a b u v : ℕ) → int a ≡ u ⊖ half → int b ≡ v ⊖ half → v ≤ u → u - v ≡ natAbs (int a -ℤ int b)
 apart-more a b u v p q h = apart a b u v (u - v) p q (omega arith)
 
-pub hi-less : (ah al bh bl : ℕ) → al < 2 ^ 64 → ah < bh → true ≡ leb (ah * 2 ^ 64 + al) (bh * 2 ^ 64 + bl)
-hi-less ah al bh bl f h = sym (le-leb (ah * 2 ^ 64 + al) (bh * 2 ^ 64 + bl) (le-of-lt (high-lt (2 ^ 64) ah al bh bl f h)))
+pub hi-less : (ah al bh bl : ℕ) → al < modulus → ah < bh → true ≡ leb (ah * modulus + al) (bh * modulus + bl)
+hi-less ah al bh bl f h = sym (le-leb (ah * modulus + al) (bh * modulus + bl) (le-of-lt (high-lt modulus ah al bh bl f h)))
 
-pub hi-more : (ah al bh bl : ℕ) → bl < 2 ^ 64 → bh < ah → false ≡ leb (ah * 2 ^ 64 + al) (bh * 2 ^ 64 + bl)
-hi-more ah al bh bl f h = sym (lt-leb (ah * 2 ^ 64 + al) (bh * 2 ^ 64 + bl) (high-lt (2 ^ 64) bh bl ah al f h))
+pub hi-more : (ah al bh bl : ℕ) → bl < modulus → bh < ah → false ≡ leb (ah * modulus + al) (bh * modulus + bl)
+hi-more ah al bh bl f h = sym (lt-leb (ah * modulus + al) (bh * modulus + bl) (high-lt modulus bh bl ah al f h))
 
-pub hi-same : (ah al bh bl : ℕ) → bh ≤ ah → ah ≤ bh → leb al bl ≡ leb (ah * 2 ^ 64 + al) (bh * 2 ^ 64 + bl)
-hi-same ah al bh bl h k = leb-same al bl (ah * 2 ^ 64 + al) (bh * 2 ^ 64 + bl) (omega arith) (omega arith)
+pub hi-same : (ah al bh bl : ℕ) → bh ≤ ah → ah ≤ bh → leb al bl ≡ leb (ah * modulus + al) (bh * modulus + bl)
+hi-same ah al bh bl h k = leb-same al bl (ah * modulus + al) (bh * modulus + bl) (omega arith) (omega arith)
 
 pub sums-le : (a b c u v w : ℕ) (l r : ℕ) (t : Bool) → int a ≡ u ⊖ half → int c ≡ w ⊖ half → l ≡ u + w → int b ≡ v ⊖ half → r ≡ v + half → t ≡ leb l r → t ≡ leZ (int a) (int b -ℤ int c)
 sums-le a b c u v w l r t ea ec el eb er e = e ∙ (λ i. leb (el i) (er i)) ∙ sym (within half v w u eb ec ea)
@@ -55,14 +55,14 @@ fits-neg w n h e = ap fit-in (lies-in w 0 n (neg-is n) (e ∙ ⊖-same (half - n
 pub not-neg : (n : ℕ) → half < n → none ≡ fit (negℤ (pos n))
 not-neg n h = ap fit-in (lies-below 0 n (neg-is n) (omega arith))
 
-pub not-wide : (s : Bool) (h l : ℕ) → (h ≡ 0 → ⊥) → none ≡ fit (signed s (h * 2 ^ 64 + l))
-not-wide true h l e = not-neg (h * 2 ^ 64 + l) (omega arith)
-not-wide false h l e = not-pos (h * 2 ^ 64 + l) (omega arith)
+pub not-wide : (s : Bool) (h l : ℕ) → (h ≡ 0 → ⊥) → none ≡ fit (signed s (h * modulus + l))
+not-wide true h l e = not-neg (h * modulus + l) (omega arith)
+not-wide false h l e = not-pos (h * modulus + l) (omega arith)
 
-pub one-word : (s t : Bool) (h l : ℕ) (r : Option ℤ) → h ≡ 0 → s ≡ t → r ≡ fit (signed t l) → r ≡ fit (signed s (h * 2 ^ 64 + l))
+pub one-word : (s t : Bool) (h l : ℕ) (r : Option ℤ) → h ≡ 0 → s ≡ t → r ≡ fit (signed t l) → r ≡ fit (signed s (h * modulus + l))
 one-word s t h l r z e p = p ∙ (λ i. fit (signed (sym e i) (low-only i)))
   where
-    low-only : l ≡ h * 2 ^ 64 + l
+    low-only : l ≡ h * modulus + l
     low-only = omega arith
 
 pub both-neg : (s t r : Bool) (m n : ℕ) → s ≡ true → t ≡ true → r ≡ leb n m → r ≡ leZ (signed s m) (signed t n)

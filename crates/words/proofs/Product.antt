@@ -1,12 +1,12 @@
 -- Products: by halves in base 2^32, by sign and size, and numbers of two words. Assumes nothing.
 use mathlib.Core.Path.{_≡_, refl, sym, _∙_, ap}
 use mathlib.Core.Bool.{Bool, true, false}
-use Prim.Native.Nat.{ℕ, zero, suc, _+_, _*_, _/_, _%_, _<_, _^_}
+use Prim.Native.Nat.{ℕ, zero, suc, _+_, _*_, _/_, _%_, _<_}
 use native.Mathlib.Nat.{zero-mul, mul-add, add-mul, mul-assoc, mul-right-comm, mul-mul-mul-comm, div-add-mod', lt-of-lt-of-le, le-add-right}
 use native.Mathlib.Omega.{arith}
 use lib.Arith.{digits-lt}
 use lib.IntN.{ℤ, pos, _*ℤ_}
-use Rattle.words.specs.Words.{base, int, signed}
+use Rattle.words.specs.Words.{base, int, signed, modulus}
 
 -- omega's numbers have at most 38 digits, so nothing here is multiplied by 2^64 twice
 columns : (x w y v : ℕ) → (x * base + w) * (y * base + v) ≡ (x * y * base + (x * v + w * y)) * base + w * v
@@ -14,7 +14,7 @@ columns x w y v =
     omega (arith, mul-add (x * base + w) (y * base) v, add-mul (x * base) w (y * base), add-mul (x * base) w v, mul-mul-mul-comm x base y base, mul-assoc w y base, mul-right-comm x base v)
 
 pub carried : (p q r l h : ℕ) → h ≡ p + (q + l / base) / base + (r + (q + l / base) % base) / base →
-    h * 2 ^ 64 + ((r + (q + l / base) % base) % base * base + l % base) ≡ (p * base + (q + r)) * base + l
+    h * modulus + ((r + (q + l / base) % base) % base * base + l % base) ≡ (p * base + (q + r)) * base + l
 carried p q r l h e =
     omega (arith, row)
   where

@@ -2,12 +2,12 @@
 use mathlib.Core.Path.{_≡_, refl, sym, ap, _∙_}
 use mathlib.Core.Bool.{Bool, true, false}
 use mathlib.Core.Option.{none, some, Option·getD}
-use Prim.Native.Nat.{ℕ, _+_, _-_, _*_, _/_, _%_, _^_, _≤_, _<_}
+use Prim.Native.Nat.{ℕ, _+_, _-_, _*_, _/_, _%_, _≤_, _<_}
 use native.Mathlib.Omega.{arith}
 use lib.Dec.{ltb}
 use borrow.Author.Tests.{ltb-true, ltb-false}
 use lib.IntN.{ℤ, pos, negsuc, _+ℤ_, _-ℤ_}
-use Rattle.words.specs.Words.{half, least, most, int, _⊖_, Place, inside, above, below, place-of, nearest-to, fit-in, fit, clamp, wrap}
+use Rattle.words.specs.Words.{half, least, most, int, _⊖_, Place, inside, above, below, place-of, nearest-to, fit-in, fit, clamp, wrap, modulus}
 use Rattle.words.proofs.Diff.{⊖-ind, pos-is, negsuc-is, ⊖-add, ⊖-sub}
 use Rattle.words.proofs.Int.{int-zero, int-most, int-least, low-is, high, high-is}
 use Rattle.words.proofs.Fit.{lies-in, lies-above, lies-below}
@@ -21,10 +21,10 @@ by-order {P} m n f g = go (ltb m n) refl
 
 -- r is p − q modulo 2^64
 pub record Wraps (r p q : ℕ) : Type 0 where
-  pub small : r < 2 ^ 64
+  pub small : r < modulus
   pub up : ℕ
   pub down : ℕ
-  pub same : r + q + 2 ^ 64 * up ≡ p + 2 ^ 64 * down
+  pub same : r + q + modulus * up ≡ p + modulus * down
 
 pub wrap-is : (r p q : ℕ) → Wraps r p q → wrap (p ⊖ q) ≡ r
 unfolding wrap
@@ -34,46 +34,46 @@ pub wraps : (p q : ℕ) → Wraps (wrap (p ⊖ q)) p q
 unfolding wrap
 wraps p q =
     ⊖-ind (λ z. Wraps (wrap z) p q) p q
-    (λ n e. record { small = omega arith; up = n / 2 ^ 64; down = 0; same = omega arith })
-    (λ n e. record { small = omega arith; up = 0; down = n / 2 ^ 64 + 1; same = omega arith })
+    (λ n e. record { small = omega arith; up = n / modulus; down = 0; same = omega arith })
+    (λ n e. record { small = omega arith; up = 0; down = n / modulus + 1; same = omega arith })
 
 -- every number is a difference; a word's is the word less a multiple of 2^64
 pub diff-of : (z : ℤ) → (p : ℕ) × (q : ℕ) × (z ≡ p ⊖ q)
 diff-of (pos n) = (n, 0, pos-is n n 0 (omega arith))
 diff-of (negsuc n) = (0, n + 1, negsuc-is n 0 (n + 1) (omega arith))
 
-pub word-diff : (w : ℕ) → w < 2 ^ 64 → (j : ℕ) × (int w ≡ w ⊖ (2 ^ 64 * j))
-word-diff w f = by-order w half (λ l. (0, low-is w w (2 ^ 64 * 0) l (omega arith))) (λ l. (1, high w f l))
+pub word-diff : (w : ℕ) → w < modulus → (j : ℕ) × (int w ≡ w ⊖ (modulus * j))
+word-diff w f = by-order w half (λ l. (0, low-is w w (modulus * 0) l (omega arith))) (λ l. (1, high w f l))
 
-pub wrap-small : (z : ℤ) → wrap z < 2 ^ 64
+pub wrap-small : (z : ℤ) → wrap z < modulus
 unfolding wrap
 wrap-small (pos n) = omega arith
 wrap-small (negsuc n) = omega arith
 
-pub wrap-int : (w : ℕ) → w < 2 ^ 64 → wrap (int w) ≡ w
-wrap-int w f = let (j, e) = word-diff w f in ap wrap e ∙ wrap-is w w (2 ^ 64 * j) (record { small = f; up = 0; down = j; same = omega arith })
+pub wrap-int : (w : ℕ) → w < modulus → wrap (int w) ≡ w
+wrap-int w f = let (j, e) = word-diff w f in ap wrap e ∙ wrap-is w w (modulus * j) (record { small = f; up = 0; down = j; same = omega arith })
 
 -- the sum of three differences
 sum-is : (x y z : ℤ) (p q u v m n : ℕ) → x ≡ p ⊖ q → y ≡ u ⊖ v → z ≡ m ⊖ n → x -ℤ y +ℤ z ≡ (p + v + m) ⊖ (q + u + n)
 sum-is x y z p q u v m n e f g = (λ i. e i -ℤ f i +ℤ g i) ∙ ap (λ (k : ℤ). k +ℤ (m ⊖ n)) (⊖-sub p q u v) ∙ ⊖-add (p + v) (q + u) m n
 
-shift-words : (t o n d r a b c j k : ℕ) → r < 2 ^ 64 → d + o ≡ t + 2 ^ 64 * j → d + n ≡ r + 2 ^ 64 * k → Wraps r (t + 2 ^ 64 * b + n) (2 ^ 64 * a + o + 2 ^ 64 * c)
+shift-words : (t o n d r a b c j k : ℕ) → r < modulus → d + o ≡ t + modulus * j → d + n ≡ r + modulus * k → Wraps r (t + modulus * b + n) (modulus * a + o + modulus * c)
 shift-words t o n d r a b c j k f p q = record { small = f; up = b + k; down = a + c + j; same = omega arith }
 
 -- a part of a total changes from the number of o to the number of n
-pub shift-is : (t o n d r : ℕ) → t < 2 ^ 64 → o < 2 ^ 64 → n < 2 ^ 64 → (d + o) % 2 ^ 64 ≡ t → r ≡ (d + n) % 2 ^ 64 → r ≡ wrap (int t -ℤ int o +ℤ int n)
+pub shift-is : (t o n d r : ℕ) → t < modulus → o < modulus → n < modulus → (d + o) % modulus ≡ t → r ≡ (d + n) % modulus → r ≡ wrap (int t -ℤ int o +ℤ int n)
 shift-is t o n d r ft fo fn p q =
     let (a, ea) = word-diff t ft in
     let (b, eb) = word-diff o fo in
     let (c, ec) = word-diff n fn in
-    let x : d + o ≡ t + 2 ^ 64 * ((d + o) / 2 ^ 64) = omega (arith, p) in
-    let y : d + n ≡ r + 2 ^ 64 * ((d + n) / 2 ^ 64) = omega (arith, q) in
+    let x : d + o ≡ t + modulus * ((d + o) / modulus) = omega (arith, p) in
+    let y : d + n ≡ r + modulus * ((d + n) / modulus) = omega (arith, q) in
     sym
-    (ap wrap (sum-is (int t) (int o) (int n) t (2 ^ 64 * a) o (2 ^ 64 * b) n (2 ^ 64 * c) ea eb ec)
-    ∙ wrap-is r (t + 2 ^ 64 * b + n) (2 ^ 64 * a + o + 2 ^ 64 * c) (shift-words t o n d r a b c _ _ (omega (arith, q)) x y))
+    (ap wrap (sum-is (int t) (int o) (int n) t (modulus * a) o (modulus * b) n (modulus * c) ea eb ec)
+    ∙ wrap-is r (t + modulus * b + n) (modulus * a + o + modulus * c) (shift-words t o n d r a b c _ _ (omega (arith, q)) x y))
 
-shift-sum : (w r p q v u m n a su sd tu td : ℕ) → w + q + 2 ^ 64 * su ≡ p + 2 ^ 64 * sd → r + (q + u + n) + 2 ^ 64 * tu ≡ p + v + m + 2 ^ 64 * td →
-    r + (2 ^ 64 * a + u + n) + 2 ^ 64 * (tu + sd) ≡ w + v + m + 2 ^ 64 * (td + su + a)
+shift-sum : (w r p q v u m n a su sd tu td : ℕ) → w + q + modulus * su ≡ p + modulus * sd → r + (q + u + n) + modulus * tu ≡ p + v + m + modulus * td →
+    r + (modulus * a + u + n) + modulus * (tu + sd) ≡ w + v + m + modulus * (td + su + a)
 shift-sum w r p q v u m n a su sd tu td s t = omega arith
 
 -- only the total's word counts
@@ -86,8 +86,8 @@ wrap-shift z x y =
     let t = wraps (p + v + m) (q + u + n) in
     let w = wrap (p ⊖ q) in
     let (a, ea) = word-diff w (s .small) in
-    ap wrap (sum-is (int (wrap z)) x y w (2 ^ 64 * a) u v m n (ap (λ k. int (wrap k)) e ∙ ea) f g)
-    ∙ wrap-is _ (w + v + m) (2 ^ 64 * a + u + n)
+    ap wrap (sum-is (int (wrap z)) x y w (modulus * a) u v m n (ap (λ k. int (wrap k)) e ∙ ea) f g)
+    ∙ wrap-is _ (w + v + m) (modulus * a + u + n)
     (record { small = t .small; up = t .up + s .down; down = t .down + s .up + a; same = shift-sum w _ p q v u m n a (s .up) (s .down) (t .up) (t .down) (s .same) (t .same) })
     ∙ sym (ap wrap (sum-is z x y p q u v m n e f g))
 
@@ -125,8 +125,8 @@ pub fit-wraps : (z d : ℤ) → int (wrap d) ≡ d → int (wrap (Option·getD (
 fit-wraps z d k = let (p, q, e) = diff-of z in rw e (by-place (λ x. int (wrap (Option·getD (fit-in x) d)) ≡ Option·getD (fit-in x) d) p q (λ f. f) k k)
 
 -- a word's number fits
-pub fit-int : (w : ℕ) → w < 2 ^ 64 → fit (int w) ≡ some (int w)
+pub fit-int : (w : ℕ) → w < modulus → fit (int w) ≡ some (int w)
 fit-int w f =
     by-order w half
     (λ l. sym (ap fit-in (lies-in w w 0 (low-is w w 0 l (omega arith)) (low-is w w 0 l (omega arith)) (omega arith) (omega arith))))
-    (λ l. sym (ap fit-in (lies-in w w (2 ^ 64) (high w f l) (high w f l) (omega arith) (omega arith))))
+    (λ l. sym (ap fit-in (lies-in w w modulus (high w f l) (high w f l) (omega arith) (omega arith))))

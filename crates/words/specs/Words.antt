@@ -1,7 +1,7 @@
 -- What the words stand for, and what their arithmetic gives, over the integers.
 use mathlib.Core.Bool.{Bool, true, false, cond}
 use mathlib.Core.Option.{Option, none, some}
-use Prim.Native.Nat.{ℕ, _+_, _-_, _*_, _%_, _^_}
+use Prim.Native.Nat.{ℕ, _+_, _-_, _*_, _%_}
 use lib.IntN.{ℤ, pos, negsuc, negℤ, subℕ}
 use lib.Signed.{leZ}
 use mir.Syntax.{w64}
@@ -17,6 +17,10 @@ base = 4294967296
 
 abbrev pub half : ℕ
 half = 9223372036854775808
+
+-- 2^64, one past the greatest word
+abbrev pub modulus : ℕ
+modulus = 18446744073709551616
 
 -- the ends of 64 bits signed
 abbrev pub least : ℤ
@@ -35,7 +39,7 @@ unfoldable pub _⊖_ : ℕ → ℕ → ℤ
 p ⊖ q = subℕ p q
 
 abbrev pub wide : Wide → ℕ
-wide w = w .hi * 2 ^ 64 + w .lo
+wide w = w .hi * modulus + w .lo
 
 -- a number by its sign and its size
 abbrev pub signed : Bool → ℕ → ℤ
@@ -76,8 +80,8 @@ abbrev pub word-of : ℤ → ℕ
 word-of z = ofZ w64 z
 
 unfoldable pub wrap : ℤ → ℕ
-wrap (pos n) = n % 2 ^ 64
-wrap (negsuc n) = 2 ^ 64 - 1 - n % 2 ^ 64
+wrap (pos n) = n % modulus
+wrap (negsuc n) = modulus - 1 - n % modulus
 
 -- what the code's answers say
 abbrev pub amount : A.Amount → Option ℤ

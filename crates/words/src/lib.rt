@@ -2,11 +2,11 @@
 // an i64 stands only in `of_i64` and `to_i64`.
 ghost use mathlib.Core.Path.{_≡_};
 ghost use mathlib.Core.Bool.{true, false};
-ghost use Prim.Native.Nat.{_+_, _-_, _*_, _%_, _^_, _<_, _≤_};
+ghost use Prim.Native.Nat.{_+_, _-_, _*_, _%_, _<_, _≤_};
 ghost use lib.Dec.{leb};
 ghost use lib.IntN.{ℤ, pos, negℤ, natAbs, _+ℤ_, _-ℤ_, _*ℤ_};
 ghost use lib.Signed.{leZ};
-ghost use Rattle.words.specs.Words.{base, half, int, _⊖_, signed, wide, value, place-of, placed, nearest-to, amount, fit, clamp, wrap};
+ghost use Rattle.words.specs.Words.{base, half, int, _⊖_, signed, wide, value, place-of, placed, nearest-to, amount, fit, clamp, wrap, modulus};
 
 // 2^32, 2^63 and 2^64 - 1.
 const BASE: u64 = 4294967296;
@@ -299,13 +299,13 @@ pub fn saturating_sub(a: u64, b: u64) -> u64
 
 // a - b and a + b, modulo 2^64.
 fn wrapping_sub(a: u64, b: u64) -> u64
-    ensures { λ r. ⌜ (r + b) % 2 ^ 64 ≡ a ⌝ }
+    ensures { λ r. ⌜ (r + b) % modulus ≡ a ⌝ }
 {
     if b <= a { a - b } else { a + (MAX - b) + 1 }
 }
 
 fn wrapping_add(a: u64, b: u64) -> u64
-    ensures { λ r. ⌜ r ≡ (a + b) % 2 ^ 64 ⌝ }
+    ensures { λ r. ⌜ r ≡ (a + b) % modulus ⌝ }
 {
     if a <= MAX - b {
         a + b

@@ -50,19 +50,19 @@ abbrev pub Holding : Side → List ℕ → List Resting → Type 0
 Holding s xs os = best s (entries s (cell xs)) ≡ levels s os
 
 module _ (s : Side) (k : ℕ) (o : Resting) (os : List Resting) {xs ys : List ℕ} (t : Table s xs) (f : Holding s xs os) (m : same-side s (o .side) ≡ true) (e : o .price ≡ price k) where
-  pub add-follows : Did s xs ys (added k (o .visible) (entries s (cell xs))) → Holding s ys (insert resting-number o os)
-  add-follows d =
+  pub add-view : Did s xs ys (added k (o .visible) (entries s (cell xs))) → Holding s ys (insert resting-number o os)
+  add-view d =
       ap (best s) (d .list) ∙ best-added s k (o .visible) 0 (entries s (cell xs)) (entries-rise s t) ∙ ap (joined s (price k) (o .visible)) f
       ∙ sym (levels-insert s o os ∙ rw (m, e) refl)
 
   module _ (asc : Rises resting-number 0 os) (there : look resting-number (o .number) os ≡ some o) (x : Row) (h : look key k (entries s (cell xs)) ≡ some x) where
-    pub remove-follows : Did s xs ys (removed k (o .visible) (entries s (cell xs))) → Holding s ys (without resting-number (o .number) os)
-    remove-follows d =
+    pub remove-view : Did s xs ys (removed k (o .visible) (entries s (cell xs))) → Holding s ys (without resting-number (o .number) os)
+    remove-view d =
         ap (best s) (d .list) ∙ best-removed k (o .visible) s x 0 (entries s (cell xs)) (entries-rise s t) h ∙ ap (parted (price k) (o .visible)) f
         ∙ sym (levels-without s o os asc there ∙ rw (m, e) refl)
 
-    pub show-follows : (r : Resting) → r .number ≡ o .number → r .side ≡ o .side → r .price ≡ o .price → Did s xs ys (shown k (o .visible) (r .visible) (entries s (cell xs))) →
+    pub show-view : (r : Resting) → r .number ≡ o .number → r .side ≡ o .side → r .price ≡ o .price → Did s xs ys (shown k (o .visible) (r .visible) (entries s (cell xs))) →
         Holding s ys (replace resting-number r os)
-    show-follows r n i p d =
+    show-view r n i p d =
         ap (best s) (d .list) ∙ best-shown k (o .visible) (r .visible) s x 0 (entries s (cell xs)) (entries-rise s t) h ∙ ap (reshown (price k) (o .visible) (r .visible)) f
         ∙ sym (levels-replace s o os asc there r n i p ∙ rw (m, e) refl)
