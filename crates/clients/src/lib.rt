@@ -25,7 +25,7 @@ pub enum MaybeAccount {
 }
 
 // How many rows of sessions there are.
-const SESSION_SLOTS: usize = 64;
+pub const SESSION_SLOTS: usize = 64;
 
 // ---- accounts
 
