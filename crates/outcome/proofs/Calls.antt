@@ -23,7 +23,8 @@ use Rattle.rows.specs.Rows.{put-rows}
 use Rattle.mailbox.specs.Mailbox.{places, mailed}
 use Rattle.sound.specs.Sound.{Becomes}
 use Rattle.outcome.specs.Between.{Between}
-use Rattle.outcome.specs.Parts.{with-rest, rest-of}
+use Rattle.outcome.specs.declared.Reply.{Reply}
+use Rattle.outcome.specs.Parts.{with-rest, rest-of, Tries, short, sent}
 use Rattle.outcome.specs.Answers.{Ends, Answers, Sent, Gives, Said, Says, answer-rows, Listed, Lists, verdict}
 
 -- ---- judging
@@ -53,9 +54,6 @@ within-fits room p l = rw (le-leb (length (mail-of p)) room l) refl
 module _ (xs : List ℕ) (x : Call) (fits : CallFits x) (b : Between xs) (kept : Type 0) (tells : Answer → List Mail → Type 0) where
   abbrev g : Gateway
   g = gateway (cell xs)
-
-  pub planned : Plan → Type 0
-  planned p = plan (g .core) (g .rest) x ≡ p
 
   again : (ys : List ℕ) (code : ℕ) → Ends (call g x) kept tells code xs ys → Between ys
   unfolding Ends
@@ -138,3 +136,11 @@ module _ (xs out : List ℕ) (x : Call) (fits : CallFits x) (b : Between xs) (w 
       Becomes ys (with-rest (λ _. r) (gateway (cell xs))) → end ≡ put-rows w 0 (answer-rows a) out → Lists w (call (gateway (cell xs)) x) (record { code = 0; count = n }) xs ys out end
   lists-done {ys} {end} a r n e h d t =
       answers xs x fits b (end ≡ out) (λ c ms. Listed w c ms n out end) a [] r e d (record { no-mail = refl; count-is = h; listed = t })
+
+-- ---- a call that is one attempt to send
+
+-- f is what the plan does to the rest
+pub gives-tried : (xs out : List ℕ) (x : Call) → CallFits x → Between xs → (ms : List Mail) (f : Rest → Rest) → plan (gateway (cell xs) .core) (rest-of xs) x ≡ within (places (length out)) (sends ms (f (rest-of xs))) →
+    {r : Reply} {ys end : List ℕ} → Tries ms f r xs ys out end → Gives (call (gateway (cell xs)) x) r xs ys out end
+gives-tried xs out x fits b ms f e (short l p q h) = rw (p, q, h) (sends-short xs out x fits b ms (f (rest-of xs)) e (length ms) (places (length out)) refl refl l)
+gives-tried xs out x fits b ms f e (sent l p d) = rw p (sends-done xs out x fits b ms (f (rest-of xs)) e (length ms) (places (length out)) refl refl l (d .becomes) (d .posted))

@@ -1,17 +1,18 @@
 -- What a part of a call does to the state and to the lent list of mail.
-use Prim.Native.Nat.{ℕ, zero, suc, _+_, _<_}
+use Prim.Native.Nat.{ℕ, zero, suc, _+_, _≤_, _<_}
 use mathlib.Core.Path.{_≡_}
 use mathlib.Core.Bool.{true}
 use mathlib.Core.Option.{Option, some}
 use mathlib.Core.List.{List, [], _++_}
 use lib.ListN.{length, set}
 use Rattle.gateway.specs.Limits.{session-slots}
-use Rattle.gateway.specs.Rest.{Session, Mail, Rest, at-time, with-sessions, session-at, account-of, is-present, update-session, set-received, stamped}
+use Rattle.gateway.specs.Rest.{Session, Mail, Rest, at-time, with-sessions, session-at, account-of, is-present, update-session, set-received, set-closing, stamped}
 use Rattle.gateway.specs.Calls.{Gateway}
 use Rattle.store.specs.Layout.{cell}
 use Rattle.store.specs.View.{gateway}
-use Rattle.mailbox.specs.Mailbox.{mailed}
+use Rattle.mailbox.specs.Mailbox.{places, mailed}
 use Rattle.sound.specs.Sound.{Becomes}
+use Rattle.outcome.specs.declared.Reply.{Reply}
 use Rattle.outcome.specs.Between.{Between}
 
 abbrev pub with-rest : (Rest → Rest) → Gateway → Gateway
@@ -24,6 +25,11 @@ rest-of xs = gateway (cell xs) .rest
 pub record Sends (i : ℕ) (ms : List Mail) (f : Rest → Rest) (xs ys out end : List ℕ) : Type 0 where
   pub becomes : Becomes ys (with-rest (λ r. stamped ms (f r)) (gateway (cell xs)))
   pub posted : end ≡ mailed i ms out
+
+-- ms after f, where there are places for all of them; else code 6 and nothing
+pub data Tries (ms : List Mail) (f : Rest → Rest) (r : Reply) (xs ys out end : List ℕ) : Type 0 where
+  short : places (length out) < length ms → r ≡ record { code = 6; count = 0 } → ys ≡ xs → end ≡ out → Tries ms f r xs ys out end
+  sent : length ms ≤ places (length out) → r ≡ record { code = 0; count = length ms } → Sends 0 ms f xs ys out end → Tries ms f r xs ys out end
 
 -- ---- a walk in which each step sends something
 
@@ -61,6 +67,10 @@ pub record Visited (f : Mails) (w : After) (i s next : ℕ) (xs ys out end : Lis
 -- it is there, and was heard at time t (`receive`)
 abbrev pub heard : ℕ → ℕ → Rest → Rest
 heard s t r = update-session s (set-received t) (at-time t r)
+
+-- and nothing more is heard of it
+abbrev pub heard-last : ℕ → ℕ → Rest → Rest
+heard-last s t r = update-session s set-closing (heard s t r)
 
 -- between calls, session s is there and its account is a: none, or the one it is logged in for
 pub record Speaks (s : ℕ) (a : Option ℕ) (xs : List ℕ) : Type 0 where
