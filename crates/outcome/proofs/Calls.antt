@@ -7,6 +7,7 @@ use native.Mathlib.Omega.{arith}
 use borrow.Author.Tests.{le-leb, lt-leb, not-true}
 use lib.ListN.{length}
 use lib.Dec.{eqb}
+use Rattle.gateway.specs.Basics.{option}
 use Rattle.gateway.specs.Limits.{too-short}
 use Rattle.gateway.specs.Ledger.{Item}
 use Rattle.gateway.specs.Core.{Tests, Origin, core-step}
@@ -25,7 +26,7 @@ use Rattle.sound.specs.Sound.{Becomes}
 use Rattle.outcome.specs.Between.{Between}
 use Rattle.outcome.specs.declared.Reply.{Reply}
 use Rattle.outcome.specs.Parts.{with-rest, rest-of, Tries, short, sent}
-use Rattle.outcome.specs.Answers.{Ends, Answers, Sent, Gives, Said, Says, answer-rows, Listed, Lists, verdict}
+use Rattle.outcome.specs.Answers.{Ends, Answers, Sent, Gives, Said, Says, answer-rows, Listed, Lists, verdict, failed}
 
 -- ---- judging
 
@@ -39,6 +40,13 @@ unfolding unless
 judged [] p e = refl
 judged ((k, true) ∷ ts) p e = judged ts p (and-eq-true-iff (not (eqb k 0)) (codes ts) .0 e .1)
 judged ((k, false) ∷ ts) p e = rw (not-true (eqb k 0) (and-eq-true-iff (not (eqb k 0)) (codes ts) .0 e .0)) refl
+
+-- tests with other answers than codes
+pub unless-failed : {A : Type 0} (ts : Tests A) (no-way : A → Plan) (p : Plan) → unless ts no-way p ≡ option p no-way (failed ts)
+unfolding unless
+unless-failed [] no-way p = refl
+unless-failed ((k, true) ∷ ts) no-way p = unless-failed ts no-way p
+unless-failed ((k, false) ∷ ts) no-way p = refl
 
 -- code 6: more messages than places
 pub within-short : (room : ℕ) (p : Plan) → room < length (mail-of p) → within room p ≡ refuse too-short

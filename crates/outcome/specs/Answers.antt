@@ -2,6 +2,7 @@
 use Prim.Native.Nat.{ℕ}
 use mathlib.Core.Path.{_≡_}
 use mathlib.Core.Bool.{cond}
+use mathlib.Core.Option.{Option, none, some}
 use mathlib.Core.List.{List, [], _∷_, map}
 use lib.ListN.{length}
 use Rattle.words.specs.Words.{word-of}
@@ -87,3 +88,8 @@ Lists w o r xs ys out end = Answers o (end ≡ out) (λ a ms. Listed w a ms (r .
 abbrev pub verdict : Tests ℕ → ℕ
 verdict [] = 0
 verdict (t ∷ ts) = cond (t .1) (verdict ts) (t .0)
+
+-- what the first test that fails says
+abbrev pub failed : {A : Type 0} → Tests A → Option A
+failed [] = none
+failed (t ∷ ts) = cond (t .1) (failed ts) (some (t .0))

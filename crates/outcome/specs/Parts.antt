@@ -31,6 +31,11 @@ pub data Tries (ms : List Mail) (f : Rest → Rest) (r : Reply) (xs ys out end :
   short : places (length out) < length ms → r ≡ record { code = 6; count = 0 } → ys ≡ xs → end ≡ out → Tries ms f r xs ys out end
   sent : length ms ≤ places (length out) → r ≡ record { code = 0; count = length ms } → Sends 0 ms f xs ys out end → Tries ms f r xs ys out end
 
+-- ms go out from place i on, and `next` is the place behind them; the state is only read
+pub record Posts (i : ℕ) (ms : List Mail) (next : ℕ) (out end : List ℕ) : Type 0 where
+  pub next-is : next ≡ i + length ms
+  pub posted : end ≡ mailed i ms out
+
 -- ---- a walk in which each step sends something
 
 -- what step j sends
