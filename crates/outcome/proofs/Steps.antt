@@ -75,7 +75,7 @@ module _ (f : Steps) (keeps : (g : Gateway) (ms : List Mail) (j : ℕ) → f (wi
 -- ---- the definitions' lists as steps
 
 module _ {A : Type 0} (h : A → List Mail) where
-  each-append : (xs ys : List A) → each h (xs ++ ys) ≡ each h xs ++ each h ys
+  pub each-append : (xs ys : List A) → each h (xs ++ ys) ≡ each h xs ++ each h ys
   each-append [] ys = refl
   each-append (x ∷ xs) ys = ap (λ ms. h x ++ ms) (each-append xs ys) ∙ sym (append-assoc (h x) (each h xs) (each h ys))
 
