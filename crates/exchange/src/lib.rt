@@ -64,7 +64,14 @@ fn greet(m: &mut [u8], s: usize, message: Inbound, time: u64, out: &mut [u8]) ->
 
 // ---- after it
 
-fn log_in_again(m: &mut [u8], s: usize, a: usize, message: Inbound, time: u64, out: &mut [u8]) -> Reply
+fn log_in_again(
+    m: &mut [u8],
+    s: usize,
+    a: usize,
+    message: Inbound,
+    time: u64,
+    out: &mut [u8],
+) -> Reply
     requires { ⌜ Speaks s (some a) (now m) × P.IsLogin message ⌝ }
     ensures { λ r. ⌜ Gives (call (gateway (cell (now (m .entry)))) (receive-from s message time (places (length (now (out .entry)))))) r (now (m .entry)) (now (m .exit)) (now (out .entry)) (now (out .exit)) ⌝ }
 {

@@ -16,7 +16,7 @@ use Rattle.orderbook.specs.declared.Side.the-variants.{Buy, Sell}
 use Rattle.words.specs.Words.{half, _⊖_}
 use Rattle.words.proofs.Diff.{⊖-le}
 use Rattle.table.specs.Live.{Each, look, insert, replace, without}
-use Rattle.table.proofs.Lists.{each-append, look-nowhere}
+use Rattle.table.proofs.Lists.{each-append, look-nowhere, replace-nowhere, without-nowhere}
 use native.Mathlib.Nat.{eq-or-lt-of-le}
 use native.Mathlib.Numerals.{add-one}
 use Rattle.gateway.proofs.Base.{split, if-map}
@@ -49,11 +49,6 @@ others : (k n : ℕ) → k < n → (l : List Row) → Rises key n l → Each (λ
 others k n h [] t = tt
 others k n h (r ∷ l) t = (λ e. omega (arith, t .0), others k (suc (r .key)) (omega (arith, t .0)) l (t .1))
 
-replace-none : (r : Row) (l : List Row) → Each (λ x. key x ≡ key r → ⊥) l → replace key r l ≡ l
-unfolding replace
-replace-none r [] t = refl
-replace-none r (x ∷ l) t = rw (ne-eqb (x .key) (r .key) (t .0)) (ap (λ m. x ∷ m) (replace-none r l (t .1)))
-
 look-key : (k : ℕ) (x : Row) (l : List Row) → look key k l ≡ some x → x .key ≡ k
 unfolding look
 look-key k x [] e = let z : _≡_ {A = ℕ} 0 1 = cc in absurd (omega (arith, z))
@@ -69,7 +64,7 @@ module _ (k v : ℕ) (r : Row) (l : List Row) (asc : Rises key (suc (r .key)) l)
   unfolding look replace
   added-at e =
       rw (eq-eqb (r .key) k (sym e), eq-eqb (r .key) (r .key) refl)
-      (ap (λ m. one-more v r ∷ m) (replace-none (one-more v r) l (others (r .key) (suc (r .key)) (omega arith) l asc)))
+      (ap (λ m. one-more v r ∷ m) (replace-nowhere key (one-more v r) l (others (r .key) (suc (r .key)) (omega arith) l asc)))
 
   added-before : k < r .key → added k v (r ∷ l) ≡ opened k v ∷ r ∷ l
   unfolding look insert
@@ -186,7 +181,7 @@ module _ (k v w : ℕ) where
   unfolding look replace
   shown-at r l t e =
       rw (eq-eqb (r .key) k (sym e), eq-eqb (r .key) (r .key) refl)
-      (ap (λ m. changed v w r ∷ m) (replace-none (changed v w r) l (others (r .key) (suc (r .key)) (omega arith) l t)))
+      (ap (λ m. changed v w r ∷ m) (replace-nowhere key (changed v w r) l (others (r .key) (suc (r .key)) (omega arith) l t)))
 
   shown-after : (r : Row) (l : List Row) → r .key < k → shown k v w (r ∷ l) ≡ r ∷ shown k v w l
   unfolding look replace
@@ -201,18 +196,13 @@ module _ (k v w : ℕ) where
       touched k (reshown (price k) v w) (λ m ls. record { price = m .price; qty = m .qty - v + w; orders = m .orders } ∷ ls) (λ m ls. refl) refl (λ m ls ms. refl) (shown k v w)
       (λ r l t e. ap (best Sell) (shown-at r l t e)) (λ r l t e. ap (best Buy) (shown-at r l t e)) shown-after
 
-without-none : (k : ℕ) (l : List Row) → Each (λ x. key x ≡ k → ⊥) l → without key k l ≡ l
-unfolding without
-without-none k [] t = refl
-without-none k (x ∷ l) t = rw (ne-eqb (x .key) k (t .0)) (ap (λ m. x ∷ m) (without-none k l (t .1)))
-
 module _ (k v : ℕ) where
   removed-at : (r : Row) (l : List Row) → Rises key (suc (r .key)) l → k ≡ r .key → removed k v (r ∷ l) ≡ cond (eqb (r .orders) 1) l (one-less v r ∷ l)
   unfolding look replace without
   removed-at r l t e =
       rw (eq-eqb (r .key) k (sym e), eq-eqb (r .key) (r .key) refl)
       (ap₂ (λ a b. cond (eqb (r .orders) 1) a (one-less v r ∷ b))
-      (without-none k l (others k (suc (r .key)) (omega arith) l t)) (replace-none (one-less v r) l (others (r .key) (suc (r .key)) (omega arith) l t)))
+      (without-nowhere key k l (others k (suc (r .key)) (omega arith) l t)) (replace-nowhere key (one-less v r) l (others (r .key) (suc (r .key)) (omega arith) l t)))
 
   removed-after : (r : Row) (l : List Row) → r .key < k → removed k v (r ∷ l) ≡ r ∷ removed k v l
   unfolding look replace without

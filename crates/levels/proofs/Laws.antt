@@ -7,7 +7,7 @@ use mathlib.Core.Option.{Option, none, some}
 use Prim.Native.Nat.{ℕ, suc, _+_, _*_, _-_, _≤_, _<_}
 use native.Mathlib.Omega.{arith}
 use borrow.Author.Tests.{eq-eqb, ne-eqb}
-use lib.ListN.{length}
+use lib.ListN.{length, getD}
 use Rattle.orderbook.specs.declared.Side.{Side}
 use Rattle.orderbook.specs.declared.Side.the-variants.{Buy, Sell}
 use Rattle.le.specs.Le.{le, put, Outside, Local}
@@ -21,7 +21,7 @@ use Rattle.table.proofs.Search.{between-above, finds-none}
 use Rattle.table.proofs.Readers.{row-changed, opened-gap, closed-gap}
 use Rattle.gateway.specs.Limits.{most-levels}
 use Rattle.store.specs.Cells as C
-use Rattle.store.specs.Layout.{blocks, start, spot, cell, Cell, Set}
+use Rattle.store.specs.Layout.{blocks, start, spot, cell, Cell, Set, starts, cells}
 use Rattle.store.specs.View.{word}
 use Rattle.store.proofs.Places.{header-cell, bid-cell, ask-cell, cell-block, cell-same, cell-other}
 use Rattle.levels.specs.declared.Row.{Row}
@@ -54,7 +54,7 @@ block-cell Buy i k h l = bid-cell i k h l
 block-cell Sell i k h l = ask-cell i k h l
 
 -- rows of a state are in its slice
-pub base-fits : (s : Side) → base s + 16384 ≤ 442624
+pub base-fits : (s : Side) → base s + 16384 ≤ 8 * cells
 base-fits Buy = omega arith
 base-fits Sell = omega arith
 
@@ -64,8 +64,8 @@ header-not-block Sell e = omega arith
 
 cell-at : (s : Side) (xs : List ℕ) (i k : ℕ) → le 8 xs (base s + 32 * i + 8 * k) ≡ cell xs (block s) i k
 unfolding cell spot start
-cell-at Buy xs i k = let e : 332032 + 32 * i + 8 * k ≡ 8 * (41504 + (4 * i + k)) = omega arith in ap (le 8 xs) e
-cell-at Sell xs i k = let e : 348416 + 32 * i + 8 * k ≡ 8 * (43552 + (4 * i + k)) = omega arith in ap (le 8 xs) e
+cell-at Buy xs i k = let e : base Buy + 32 * i + 8 * k ≡ 8 * (getD starts C.bids 0 + (4 * i + k)) = omega arith in ap (le 8 xs) e
+cell-at Sell xs i k = let e : base Sell + 32 * i + 8 * k ≡ 8 * (getD starts C.asks 0 + (4 * i + k)) = omega arith in ap (le 8 xs) e
 
 module _ (s : Side) (xs : List ℕ) where
   pub row-at : (i : ℕ) → rows read (base s) 32 xs i ≡ row s (cell xs) i
@@ -181,7 +181,7 @@ insert-did s {xs} {ys} {zs} n b i k v p kf vf e h d w u =
     let t = p .table in
     let at : ℕ = base s + 32 * i in
     let f : Outside at (at + 32) ys zs = rw w (outside-puts at (at + 32) widths ys at (values (opened k v)) (omega arith) (omega arith)) in
-    let long : 442624 ≤ length ys = omega (arith, o .frame .len, t .holds) in
+    let long : 8 * cells ≤ length ys = omega (arith, o .frame .len, t .holds) in
     let here : row s (cell zs) i ≡ opened k v =
     sym (row-at s zs i) ∙ ap (λ vs. read vs at) w
     ∙ ap made (gets-puts widths ys at (values (opened k v)) (omega arith) (omega (arith, o .inside, p .room, base-fits s))) in

@@ -17,7 +17,7 @@ use Rattle.gateway.specs.Basics.{option}
 use Rattle.gateway.specs.Limits.{most-levels}
 use Rattle.gateway.specs.Depth.{Level}
 use Rattle.store.specs.Cells as C
-use Rattle.store.specs.Layout.{cell, Cell, Holds}
+use Rattle.store.specs.Layout.{first-byte, cell, Cell, Holds}
 use Rattle.store.specs.View.{Store, word}
 use Rattle.levels.specs.declared.Row.{Row}
 
@@ -34,8 +34,8 @@ count Sell = C.ask-levels
 
 -- the block's first byte
 abbrev pub base : Side → ℕ
-base Buy = 332032
-base Sell = 348416
+base Buy = first-byte C.bids
+base Sell = first-byte C.asks
 
 abbrev pub key : Row → ℕ
 key r = r .key

@@ -10,7 +10,7 @@ ghost use Rattle.le.specs.Row.{puts};
 ghost use Rattle.gateway.specs.Limits.{most-levels};
 ghost use Rattle.table.specs.Live.{look, insert, replace, without};
 ghost use Rattle.store.specs.Cells as C;
-ghost use Rattle.store.specs.Layout.{cell, Holds, Set};
+ghost use Rattle.store.specs.Layout.{first-byte, cell, Holds, Set};
 ghost use Rattle.levels.specs.Levels as L;
 ghost use Rattle.levels.specs.Rows.{widths, values};
 
@@ -22,11 +22,11 @@ pub struct Row {
 }
 
 fn base_of(side: Side) -> usize
-    ensures { λ r. ⌜ (r ≡ L.base side) × (r ≤ 348416) ⌝ }
+    ensures { λ r. ⌜ (r ≡ L.base side) × (r ≤ first-byte C.asks) ⌝ }
 {
     match side {
-        Side::Buy => 332032,
-        Side::Sell => 348416,
+        Side::Buy => store::BIDS_AT,
+        Side::Sell => store::ASKS_AT,
     }
 }
 

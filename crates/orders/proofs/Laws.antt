@@ -20,7 +20,7 @@ use Rattle.table.proofs.Search.{finds-look}
 use Rattle.gateway.specs.Depth.{resting-number}
 use Rattle.gateway.specs.Ledger.{number-of}
 use Rattle.store.specs.Cells as C
-use Rattle.store.specs.Layout.{cell, start, spot, Cell, Holds, Set}
+use Rattle.store.specs.Layout.{cell, start, spot, Cell, Holds, Set, starts, first-byte}
 use Rattle.store.specs.View.{Row, Store, Same, word, fill, order, resting, order-room, Is, Ready}
 use Rattle.store.proofs.Places.{header-cell, order-cell, hint-cell, cell-block}
 use Rattle.store.proofs.Rows.{then-set, then-fill, is-itself, same-write, same-fill, same-trans}
@@ -28,6 +28,10 @@ use Rattle.orders.specs.declared.Live.{Live}
 use Rattle.orders.specs.declared.Resting.{Resting}
 use Rattle.orders.proofs.Shown.{look-map}
 use Rattle.orders.specs.Orders.{hint-slots, either, Sorted, Marks, FindsRow, Sees, strike, rest, append, places, packed, compact, hint, hint-rows, squeeze, make-room, opened, open-row}
+
+-- where the rows start
+abbrev base : ℕ
+base = first-byte C.orders
 
 -- ---- what is written
 
@@ -95,23 +99,23 @@ then-append {ys} {zs} {s} n o p q =
 -- ---- what is found
 
 -- the key and the mark that `table` reads are cells; a cell below 256 is its low byte
-key-cell : (xs : List ℕ) (j : ℕ) → keyAt 69888 128 xs j ≡ cell xs C.orders j C.order-number
+key-cell : (xs : List ℕ) (j : ℕ) → keyAt base 128 xs j ≡ cell xs C.orders j C.order-number
 unfolding cell spot start
-key-cell xs j = let e : 69888 + 128 * j ≡ 8 * (8736 + (16 * j + 0)) = omega arith in ap (le 8 xs) e
+key-cell xs j = let e : base + 128 * j ≡ 8 * (getD starts C.orders 0 + (16 * j + 0)) = omega arith in ap (le 8 xs) e
 
 low-byte : (xs : List ℕ) (o : ℕ) → le 8 xs o < 256 → le 1 xs o ≡ le 8 xs o
 low-byte xs o h = omega (arith, le-split 1 7 xs o)
 
-mark-cell : (xs : List ℕ) (k j : ℕ) → cell xs C.orders j k < 256 → markAt 69888 128 (8 * k) xs j ≡ cell xs C.orders j k
+mark-cell : (xs : List ℕ) (k j : ℕ) → cell xs C.orders j k < 256 → markAt base 128 (8 * k) xs j ≡ cell xs C.orders j k
 unfolding cell spot start
 mark-cell xs k j h =
-    let e : 69888 + 128 * j + 8 * k ≡ 8 * (8736 + (16 * j + k)) = omega arith in ap (le 1 xs) e ∙ low-byte xs (8 * (8736 + (16 * j + k))) h
+    let e : base + 128 * j + 8 * k ≡ 8 * (getD starts C.orders 0 + (16 * j + k)) = omega arith in ap (le 1 xs) e ∙ low-byte xs (8 * (getD starts C.orders 0 + (16 * j + k))) h
 
 finds-ext : {ks ms ks′ ms′ : ℕ → ℕ} (n k : ℕ) → ((j : ℕ) → j < n → ks j ≡ ks′ j) → ((j : ℕ) → j < n → ms j ≡ ms′ j) → (r : Found) → Finds ks ms n k r → Finds ks′ ms′ n k r
 finds-ext n k ke me (At i) h = (h .0, sym (ke i (h .0)) ∙ h .1, rw (← me i (h .0)) (h .2))
 finds-ext n k ke me Nothing h = λ j l e. sym (me j l) ∙ h j l (ke j l ∙ e)
 
-pub sorted-bytes : {xs : List ℕ} (n : ℕ) → Ready xs → Sorted (cell xs) → n ≡ cell xs C.header 0 C.order-rows → T.Sorted 69888 128 n xs
+pub sorted-bytes : {xs : List ℕ} (n : ℕ) → Ready xs → Sorted (cell xs) → n ≡ cell xs C.header 0 C.order-rows → T.Sorted base 128 n xs
 sorted-bytes {xs} n r s e =
     record {
       room = record { fits = omega (arith, r .holds, r .bounds .orders-fit); wide = omega arith; words = refl };
@@ -119,7 +123,7 @@ sorted-bytes {xs} n r s e =
     }
 
 pub find-is : (xs : List ℕ) (k n number : ℕ) (r : Found) → Marks k (cell xs) → n ≡ cell xs C.header 0 C.order-rows →
-    Finds (keyAt 69888 128 xs) (markAt 69888 128 (8 * k) xs) n number r → FindsRow k (cell xs) number r
+    Finds (keyAt base 128 xs) (markAt base 128 (8 * k) xs) n number r → FindsRow k (cell xs) number r
 find-is xs k n number r m e h =
     rw (← e)
     (finds-ext n number (λ j l. key-cell xs j) (λ j l. mark-cell xs k j (omega (arith, m .small j (rw e at l)))) r h)
@@ -153,17 +157,17 @@ hints-more s ys zs i l p q =
 
 -- ---- the tombstones squeezed out
 
-pub room-bytes : {xs : List ℕ} (n : ℕ) → Ready xs → n ≡ cell xs C.header 0 C.order-rows → Room 69888 128 n xs
+pub room-bytes : {xs : List ℕ} (n : ℕ) → Ready xs → n ≡ cell xs C.header 0 C.order-rows → Room base 128 n xs
 room-bytes n r e = record { fits = omega (arith, r .holds, r .bounds .orders-fit); wide = omega arith; words = refl }
 
 -- what changes in the rows is not seen in another block
-elsewhere : {lo hi : ℕ} {xs ys : List ℕ} (b i k : ℕ) → 69888 ≤ lo → hi ≤ 332032 → Outside lo hi xs ys → Cell b i k → (b ≡ C.orders → ⊥) → cell ys b i k ≡ cell xs b i k
+elsewhere : {lo hi : ℕ} {xs ys : List ℕ} (b i k : ℕ) → base ≤ lo → hi ≤ first-byte C.bids → Outside lo hi xs ys → Cell b i k → (b ≡ C.orders → ⊥) → cell ys b i k ≡ cell xs b i k
 unfolding start
-elsewhere b i k l h p c ne = cell-block C.orders (omega arith) (outside-wider 69888 332032 l h p) c ne
+elsewhere b i k l h p c ne = cell-block C.orders (omega arith) (outside-wider base (first-byte C.bids) l h p) c ne
 
-order-cell-at : (xs : List ℕ) (i k : ℕ) → cell xs C.orders i k ≡ le 8 xs (69888 + 128 * i + 8 * k)
+order-cell-at : (xs : List ℕ) (i k : ℕ) → cell xs C.orders i k ≡ le 8 xs (base + 128 * i + 8 * k)
 unfolding cell spot start
-order-cell-at xs i k = let e : 8 * (8736 + (16 * i + k)) ≡ 69888 + 128 * i + 8 * k = omega arith in ap (le 8 xs) e
+order-cell-at xs i k = let e : 8 * (getD starts C.orders 0 + (16 * i + k)) ≡ base + 128 * i + 8 * k = omega arith in ap (le 8 xs) e
 
 either-small : (a b : ℕ) → a ≤ 1 → b ≤ 1 → either a b ≤ 1
 either-small zero b h l = l
@@ -174,10 +178,10 @@ unfolding live
 kept-ext ms ms′ zero h = refl
 kept-ext ms ms′ (suc n) h = ap₂ (λ l m. l ++ pick m n) (kept-ext ms ms′ n (λ j l. h j (omega arith))) (h n (omega arith))
 
-module _ (xs ys : List ℕ) (n w : ℕ) (r : Ready xs) (o : Sorted (cell xs)) (e : n ≡ cell xs C.header 0 C.order-rows) (c : Compacted 69888 128 24 n w xs ys) where
-  places-are : kept (markAt 69888 128 24 xs) n ≡ places (cell xs)
+module _ (xs ys : List ℕ) (n w : ℕ) (r : Ready xs) (o : Sorted (cell xs)) (e : n ≡ cell xs C.header 0 C.order-rows) (c : Compacted base 128 24 n w xs ys) where
+  places-are : kept (markAt base 128 24 xs) n ≡ places (cell xs)
   places-are =
-      kept-ext (markAt 69888 128 24 xs) (λ j. cell xs C.orders j C.order-kept) n (λ j l. mark-cell xs C.order-kept j (kept-small j (rw e at l)))
+      kept-ext (markAt base 128 24 xs) (λ j. cell xs C.orders j C.order-kept) n (λ j l. mark-cell xs C.order-kept j (kept-small j (rw e at l)))
       ∙ ap (kept (λ j. cell xs C.orders j C.order-kept)) e
     where
       kept-small : (j : ℕ) → j < word (cell xs) C.order-rows → cell xs C.orders j C.order-kept < 256
@@ -195,7 +199,7 @@ module _ (xs ys : List ℕ) (n w : ℕ) (r : Ready xs) (o : Sorted (cell xs)) (e
 
   cell-behind : (i k : ℕ) → w ≤ i → cell ys C.orders i k ≡ cell xs C.orders i k
   cell-behind i k h =
-      order-cell-at ys i k ∙ le-outside 8 (69888 + 128 * i + 8 * k) (c .frame) (inr (omega arith)) ∙ sym (order-cell-at xs i k)
+      order-cell-at ys i k ∙ le-outside 8 (base + 128 * i + 8 * k) (c .frame) (inr (omega arith)) ∙ sym (order-cell-at xs i k)
 
   packed-same : Same (cell ys) (packed (cell xs))
   unfolding packed
@@ -238,7 +242,7 @@ room-made xs ys n e l h = rw (← e, le-ltb n order-room l) h
 
 -- ---- a row between others
 
-pub place-is : (xs : List ℕ) (n number i : ℕ) → n ≡ cell xs C.header 0 C.order-rows → Between (keyAt 69888 128 xs) n number i i →
+pub place-is : (xs : List ℕ) (n number i : ℕ) → n ≡ cell xs C.header 0 C.order-rows → Between (keyAt base 128 xs) n number i i →
     Between (λ j. cell xs C.orders j C.order-number) (word (cell xs) C.order-rows) number i i
 place-is xs n number i e b =
     rw (← e)
@@ -249,7 +253,7 @@ place-is xs n number i e b =
       above = λ j h l. rw (← key-cell xs j) (b .above j h l);
     })
 
-module _ (xs ys : List ℕ) (n i : ℕ) (r : Ready xs) (e : n ≡ cell xs C.header 0 C.order-rows) (f : n < order-room) (o : Opened 69888 128 n i xs ys) where
+module _ (xs ys : List ℕ) (n i : ℕ) (r : Ready xs) (e : n ≡ cell xs C.header 0 C.order-rows) (f : n < order-room) (o : Opened base 128 n i xs ys) where
   cell-up : (j k : ℕ) → i < j → j ≤ n → k < 16 → cell ys C.orders j k ≡ cell xs C.orders (j - 1) k
   cell-up j k h m l =
       let u : j - 1 + 1 ≡ j = omega arith in
@@ -260,7 +264,7 @@ module _ (xs ys : List ℕ) (n i : ℕ) (r : Ready xs) (e : n ≡ cell xs C.head
   cell-stays : (j k : ℕ) → k < 16 → (j ≤ i) ⊎ (n < j) → cell ys C.orders j k ≡ cell xs C.orders j k
   cell-stays j k l w =
       order-cell-at ys j k
-      ∙ le-outside 8 (69888 + 128 * j + 8 * k) (o .frame) (⊎-elim (λ h. inl (omega arith)) (λ h. inr (omega arith)) w)
+      ∙ le-outside 8 (base + 128 * j + 8 * k) (o .frame) (⊎-elim (λ h. inl (omega arith)) (λ h. inr (omega arith)) w)
       ∙ sym (order-cell-at xs j k)
 
   opened-is : Is ys (opened i (cell xs))

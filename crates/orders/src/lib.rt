@@ -49,9 +49,7 @@ pub struct Resting {
     pub leaves: u64,
 }
 
-// Where the rows start, and the bytes of a row.
-const BASE: usize = 69_888;
-
+// The bytes of a row.
 const STRIDE: usize = 128;
 
 // How many rows there are, and how many hints.
@@ -66,7 +64,15 @@ fn find(m: &[u8], k: usize, number: u64) -> Found
 {
     let n = store::get(m, store::HEADER, 0, ORDER_ROWS);
     let hint = store::get(m, store::HINTS, (number % HINT_SLOTS) as usize, HINT_ROW);
-    table::find_hinted(m, BASE, STRIDE, 8 * k, n as usize, number, hint as usize)
+    table::find_hinted(
+        m,
+        store::ORDERS_AT,
+        STRIDE,
+        8 * k,
+        n as usize,
+        number,
+        hint as usize,
+    )
 }
 
 pub fn find_live(m: &[u8], number: u64) -> Found
@@ -252,7 +258,7 @@ fn squeeze(m: &mut [u8])
     ensures { λ r. ⌜ Is (now (m .exit)) (squeeze (cell (now (m .entry)))) ⌝ }
 {
     let n = store::get(m, store::HEADER, 0, ORDER_ROWS);
-    let w = table::compact(m, BASE, STRIDE, 8 * ORDER_KEPT, n as usize);
+    let w = table::compact(m, store::ORDERS_AT, STRIDE, 8 * ORDER_KEPT, n as usize);
     store::set(m, store::HEADER, 0, ORDER_ROWS, w as u64);
     hint_rows(m, w);
 }
@@ -274,7 +280,7 @@ pub fn place_of(m: &[u8], number: u64) -> usize
     ensures { λ r. ⌜ Between (λ j. cell (now (m .entry)) C.orders j C.order-number) (word (cell (now (m .entry))) C.order-rows) number r r ⌝ }
 {
     let n = store::get(m, store::HEADER, 0, ORDER_ROWS);
-    table::lower_bound(m, BASE, STRIDE, n as usize, number)
+    table::lower_bound(m, store::ORDERS_AT, STRIDE, n as usize, number)
 }
 
 // A tombstone at i, so that an order that the table does not have can rest there: the rows from i on move one place up.
@@ -283,7 +289,7 @@ pub fn open_row(m: &mut [u8], i: usize, number: u64)
     ensures { λ r. ⌜ Is (now (m .exit)) (open-row i number (cell (now (m .entry)))) ⌝ }
 {
     let n = store::get(m, store::HEADER, 0, ORDER_ROWS);
-    table::open_at(m, BASE, STRIDE, n as usize, i);
+    table::open_at(m, store::ORDERS_AT, STRIDE, n as usize, i);
     set_four(m, i, ORDER_NUMBER, number, 0, 0, 0);
     store::set(m, store::HEADER, 0, ORDER_ROWS, n + 1);
     store::set(

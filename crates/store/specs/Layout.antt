@@ -33,6 +33,10 @@ width b = getD row-widths b 0
 unfoldable pub start : ℕ → ℕ
 start b = getD starts b 0
 
+-- and its first byte
+abbrev pub first-byte : ℕ → ℕ
+first-byte b = 8 * getD starts b 0
+
 -- the cell k of the row i of the block b
 pub record Cell (b i k : ℕ) : Type 0 where
   pub block-is : b < blocks

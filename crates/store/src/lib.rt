@@ -35,6 +35,13 @@ pub const HINTS: usize = 11;
 // The bytes of a state.
 pub const SIZE: usize = 442_624;
 
+// The first bytes of the blocks whose rows move.
+pub const ORDERS_AT: usize = 69_888;
+
+pub const BIDS_AT: usize = 332_032;
+
+pub const ASKS_AT: usize = 348_416;
+
 fn start_of(b: usize) -> usize
     requires { ⌜ b < blocks ⌝ }
     ensures { λ r. ⌜ r ≡ start b ⌝ }

@@ -82,9 +82,9 @@ module _ {A : Type 0} (key : A → ℕ) where
   others-high : {k : ℕ} {x y p q : List A} (s : Swap k x y p q) → Each (λ r. key r ≡ k → ⊥) (s .high)
   others-high s = each-map (λ r h e. omega arith) (s .high) (s .more)
 
-  without-high : (k : ℕ) (m : List A) → Each (λ r. key r ≡ k → ⊥) m → without key k m ≡ m
+  pub without-nowhere : (k : ℕ) (m : List A) → Each (λ r. key r ≡ k → ⊥) m → without key k m ≡ m
   unfolding without
-  without-high k m e = rw (← append-nil m) (without-other k m [] e)
+  without-nowhere k m e = rw (← append-nil m) (without-other k m [] e)
 
   without-same : (k : ℕ) (x m : List A) → Each (λ r. key r ≡ k) x → without key k (x ++ m) ≡ without key k m
   unfolding without
@@ -97,7 +97,7 @@ module _ {A : Type 0} (key : A → ℕ) where
       ∙ sym
       (ap (without key k) (s .from)
       ∙ without-other k (s .low) (x ++ s .high) (others-low s)
-      ∙ ap (λ (y : List A). s .low ++ y) (without-same k x (s .high) e ∙ without-high k (s .high) (others-high s)))
+      ∙ ap (λ (y : List A). s .low ++ y) (without-same k x (s .high) e ∙ without-nowhere k (s .high) (others-high s)))
 
   pub swap-insert : {p q : List A} (r : A) → Swap (key r) [] (r ∷ []) p q → q ≡ insert key r p
   swap-insert {p} {q} r s =
@@ -107,9 +107,9 @@ module _ {A : Type 0} (key : A → ℕ) where
       ∙ insert-low r (s .low) (s .high) (s .less)
       ∙ ap (λ (y : List A). s .low ++ y) (insert-high r (s .high) (s .more)))
 
-  replace-high : (r : A) (m : List A) → Each (λ x. key x ≡ key r → ⊥) m → replace key r m ≡ m
+  pub replace-nowhere : (r : A) (m : List A) → Each (λ x. key x ≡ key r → ⊥) m → replace key r m ≡ m
   unfolding replace
-  replace-high r m e = rw (← append-nil m) (replace-other r m [] e)
+  replace-nowhere r m e = rw (← append-nil m) (replace-other r m [] e)
 
   pub swap-replace : {p q : List A} (o r : A) → key o ≡ key r → Swap (key r) (o ∷ []) (r ∷ []) p q → q ≡ replace key r p
   unfolding replace
@@ -118,4 +118,4 @@ module _ {A : Type 0} (key : A → ℕ) where
       ∙ sym
       (ap (replace key r) (s .from)
       ∙ replace-other r (s .low) (o ∷ s .high) (others-low s)
-      ∙ ap (λ (y : List A). s .low ++ y) (rw (eq-eqb (key o) (key r) h) (ap (λ (y : List A). r ∷ y) (replace-high r (s .high) (others-high s)))))
+      ∙ ap (λ (y : List A). s .low ++ y) (rw (eq-eqb (key o) (key r) h) (ap (λ (y : List A). r ∷ y) (replace-nowhere r (s .high) (others-high s)))))
