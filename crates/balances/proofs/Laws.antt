@@ -1,0 +1,90 @@
+-- A stored balance is that of the definitions. Assumes nothing.
+use mathlib.Core.Path.{_≡_, refl, sym, ap, _∙_}
+use mathlib.Core.Bool.{Bool, true, false, cond, _&&_, and-eq-true-iff, false≢true}
+use mathlib.Core.Option.{Option, none, some, Option·map}
+use mathlib.Core.List.{List, [], _∷_}
+use Prim.Native.Nat.{ℕ, zero, suc, _+_, _<_}
+use native.Mathlib.Omega.{arith}
+use lib.ListN.{getD}
+use Rattle.orderbook.specs.declared.Side.the-variants.{Buy, Sell}
+use Rattle.protocol.specs.declared.Balance.{Balance}
+use Rattle.accounts.specs.declared.Funds.{Funds}
+use Rattle.words.specs.Words.{int}
+use Rattle.wallet.specs.declared.Wallet.{Wallet}
+use Rattle.wallet.specs.Wallet as W
+use Rattle.gateway.specs.Basics.{is-some}
+use Rattle.gateway.specs.Limits.{owner-slots}
+use Rattle.gateway.specs.Ledger.{Order, held, fits, wallet-fits, wallets-fit, holds-fit}
+use Rattle.gateway.specs.Rest.{Rest}
+use Rattle.gateway.specs.Entry.{wallet-at, balance-with, balance}
+use Rattle.gateway.specs.Calls.{Gateway}
+use Rattle.store.specs.Cells as C
+use Rattle.store.specs.Layout.{cell}
+use Rattle.store.specs.View.{Row, maybe, flag, wallet, ledger, gateway}
+use Rattle.clients.specs.Clients.{wallet-words}
+use Rattle.clients.proofs.Views.{wallet-at-row}
+use Rattle.sound.specs.Sound.{State, Becomes}
+use Rattle.sound.proofs.Totals.{total-exact}
+use Rattle.outcome.specs.Between.{Between}
+use Rattle.outcome.specs.Parts.{with-rest}
+use Rattle.balances.specs.Balances.{Exact, maybe-balance}
+use Rattle.balances.specs.declared.MaybeBalance as B
+
+-- ---- when the totals are exact
+
+pub exact-between : {xs : List ℕ} → Between xs → Exact xs
+exact-between b = record { state = b .state; fit = b .ok .core-is .holds }
+
+-- what changes the rest alone leaves them
+pub exact-becomes : {xs ys : List ℕ} (f : Rest → Rest) → Exact xs → Becomes ys (with-rest f (gateway (cell xs))) → Exact ys
+exact-becomes f e b = record { state = b .state; fit = ap (λ (g : Gateway). holds-fit (g .core .ledger)) (b .gateway-is) ∙ e .fit }
+
+-- ---- the totals of one wallet
+
+one-fits : (n : ℕ) (ws : List (Option Funds)) (os : List Order) → wallets-fit n ws os ≡ true → (a : ℕ) → wallet-fits (n + a) (getD ws a none) os ≡ true
+one-fits n [] os e a = refl
+one-fits n (w ∷ ws) os e zero = let h : n + 0 ≡ n = omega arith in rw h (and-eq-true-iff (wallet-fits n w os) (wallets-fit (suc n) ws os) .0 e .0)
+one-fits n (w ∷ ws) os e (suc a) =
+    let h : n + suc a ≡ suc n + a = omega arith in
+    rw h (one-fits (suc n) ws os (and-eq-true-iff (wallet-fits n w os) (wallets-fit (suc n) ws os) .0 e .1) a)
+
+module _ (xs : List ℕ) (a : ℕ) (x : Exact xs) (l : a < owner-slots) where
+  abbrev row : Row
+  row = cell xs C.accounts a
+
+  abbrev os : List Order
+  os = ledger (cell xs) .orders
+
+  funded : (o : Option Funds) → is-some o ≡ true → wallet-fits a o os ≡ true → (fits (held a Buy os) ≡ true) × (fits (held a Sell os) ≡ true)
+  funded none t e = absurd (false≢true t)
+  funded (some w) t e = and-eq-true-iff (fits (held a Buy os)) (fits (held a Sell os)) .0 e
+
+  both-fit : is-some (wallet row) ≡ true → (fits (held a Buy os) ≡ true) × (fits (held a Sell os) ≡ true)
+  unfolding holds-fit
+  both-fit t =
+      let z : 0 + a ≡ a = omega arith in
+      let f = rw z at (one-fits 0 (ledger (cell xs) .wallets) os (x .fit) a) in
+      funded (wallet-at a (gateway (cell xs) .core)) (ap is-some (wallet-at-row a (cell xs) l) ∙ t) f
+
+  -- of a row with a wallet
+  with-wallet : (b : Bool) (f : Funds) → is-some (cond b (some f) none) ≡ true → cond b (some f) none ≡ some f
+  with-wallet true f t = refl
+  with-wallet false f t = absurd (false≢true t)
+
+  pub balance-is : (w : Wallet) (r : Balance) → is-some (wallet row) ≡ true → w ≡ wallet-words row → r ≡ W.balance-of w → some r ≡ balance a (gateway (cell xs) .core)
+  balance-is w r t e g =
+      let h = both-fit t in
+      let p = total-exact (cell xs) a Buy (x .state .sound .held) l (h .0) in
+      let q = total-exact (cell xs) a Sell (x .state .sound .held) l (h .1) in
+      ap some (g ∙ ap W.balance-of e)
+      ∙ (λ i. some (record { cash = int (row C.account-cash); position = int (row C.account-position); «cash_held» = p i; «position_held» = q i }))
+      ∙ sym (ap (Option·map (balance-with a os)) (wallet-at-row a (cell xs) l ∙ with-wallet (flag (row C.account-funded)) _ t))
+
+  without : (o : Option Funds) → is-some o ≡ false → none ≡ Option·map (balance-with a os) o
+  without none t = refl
+  without (some w) t = absurd (false≢true (sym t))
+
+  pub balance-none : (b : Bool) → b ≡ is-some (wallet row) → b ≡ false → none ≡ balance a (gateway (cell xs) .core)
+  balance-none b e t = without (wallet-at a (gateway (cell xs) .core)) (ap is-some (wallet-at-row a (cell xs) l) ∙ sym e ∙ t)
+
+pub ruleset laws = (balance-is, balance-none, arith)
