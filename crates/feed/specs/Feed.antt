@@ -41,9 +41,6 @@ pub record Receives (a to : ℕ) (g : Gateway) : Type 0 where
 
 -- ---- the market's changes
 
-abbrev pub is-told : Option Session → Type 0
-is-told x = is-open x && is-subscribed x ≡ true
-
 abbrev pub changes-step : Steps
 changes-step g s = cond (is-open (session-at s (g .rest)) && is-subscribed (session-at s (g .rest))) (changes-to s (g .rest)) []
 
