@@ -39,6 +39,13 @@ module _ (u : Session → Session) where
   each-from-changed f e n zero (x ∷ xs) = ap (λ ms. ms ++ each-from (suc n) f xs) (e n x)
   each-from-changed f e n (suc i) (x ∷ xs) = ap (λ ms. f n x ++ ms) (each-from-changed f e (suc n) i xs)
 
+  pub changed-keeps : {B : Type 0} (p : Option Session → B) → ((x : Option Session) → p (Option·map u x) ≡ p x) → (i s : ℕ) (xs : List (Option Session)) → p (getD (changed-at i xs) s none) ≡ p (getD xs s none)
+  changed-keeps p e i s [] = refl
+  changed-keeps p e zero zero (x ∷ xs) = e x
+  changed-keeps p e zero (suc s) (x ∷ xs) = refl
+  changed-keeps p e (suc i) zero (x ∷ xs) = refl
+  changed-keeps p e (suc i) (suc s) (x ∷ xs) = changed-keeps p e i s xs
+
 -- ---- stamps
 
 sent-account : (t : ℕ) (x : Option Session) → account-of (Option·map (Rest.set-sent t) x) ≡ account-of x

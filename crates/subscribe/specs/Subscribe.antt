@@ -1,26 +1,15 @@
 -- A subscription in steps: what waits, the snapshot's first message, and the levels of each side.
 use Prim.Native.Nat.{ℕ, _+_}
 use mathlib.Core.List.{List, [], _∷_, _++_, map}
-use lib.ListN.{length, getD}
-use lib.IntN.{pos}
+use lib.ListN.{length}
 use Rattle.orderbook.specs.declared.Side.{Side}
 use Rattle.orderbook.specs.declared.Side.the-variants.{Buy, Sell}
 use Rattle.protocol.specs.declared.Outbound.the-variants as Out
-use Rattle.gateway.specs.Depth as D
 use Rattle.gateway.specs.Rest.{Mail, send, Rest, update-session, set-subscribed}
 use Rattle.gateway.specs.Entry.{level-to, publish-mail, published, snapshot}
 use Rattle.gateway.specs.Calls.{Gateway}
 use Rattle.outcome.specs.Parts.{Steps}
-
-abbrev pub side-levels : Side → Rest → List D.Level
-side-levels z r = D.levels z (r .depth .resting)
-
-abbrev pub nothing : D.Level
-nothing = record { price = pos 0; qty = 0; orders = 0 }
-
--- counted from the best
-abbrev pub level-at : Side → Rest → ℕ → D.Level
-level-at z r j = getD (side-levels z r) j nothing
+use Rattle.depth.specs.Levels.{side-levels, level-at}
 
 abbrev pub level-step : ℕ → Side → Steps
 level-step s z g j = level-to s (g .rest .delivered) z (level-at z (g .rest) j) ∷ []

@@ -8,7 +8,6 @@ ghost use mathlib.Core.Path.{_≡_};
 ghost use mathlib.Core.Option.{some};
 ghost use Prim.Native.Nat.{_+_, _≤_, _<_};
 ghost use lib.ListN.{length};
-ghost use Rattle.orderbook.specs.declared.Side.the-variants as Side;
 ghost use Rattle.protocol.specs.declared.Inbound.the-variants as In;
 ghost use Rattle.gateway.specs.Limits.{session-slots};
 ghost use Rattle.gateway.specs.Rest as Rest;
@@ -23,6 +22,7 @@ ghost use Rattle.mailbox.specs.Mailbox.{places};
 ghost use Rattle.outcome.specs.Parts.{with-rest, rest-of, Sends, Stepped, Speaks};
 ghost use Rattle.outcome.specs.Answers.{Gives};
 ghost use Rattle.balances.specs.Balances.{Exact};
+ghost use Rattle.depth.specs.Levels.{side-levels, level-at};
 ghost use Rattle.feed.specs.Feed.{Told};
 ghost use Rattle.subscribe.specs.Subscribe as P;
 
@@ -31,7 +31,7 @@ ghost use Rattle.subscribe.specs.Subscribe as P;
 // The level j of n, counted from the best.
 fn update_at(m: &[u8], side: Side, n: usize, j: usize) -> LevelUpdate
     requires { ⌜ State (now m) × (n ≡ L.size side (cell (now m))) × (j < n) ⌝ }
-    ensures { λ r. ⌜ r ≡ update-of (rest-of (now (m .entry)) .delivered) side (P.level-at side (rest-of (now (m .entry))) j) ⌝ }
+    ensures { λ r. ⌜ r ≡ update-of (rest-of (now (m .entry)) .delivered) side (level-at side (rest-of (now (m .entry))) j) ⌝ }
 {
     let l = levels::read_row(m, side, levels::listed::nth(side, n, j));
     let seq = pending::header::word_at(m, cells::DELIVERED);
@@ -45,7 +45,7 @@ fn update_at(m: &[u8], side: Side, n: usize, j: usize) -> LevelUpdate
 }
 
 fn send_level(m: &mut [u8], out: &mut [u8], i: usize, s: usize, side: Side, j: usize) -> usize
-    requires { ⌜ State (now m) × (s < session-slots) × (j < length (P.side-levels side (rest-of (now m)))) × (i < places (length (now out))) ⌝ }
+    requires { ⌜ State (now m) × (s < session-slots) × (j < length (side-levels side (rest-of (now m)))) × (i < places (length (now out))) ⌝ }
     ensures { λ r. ⌜ Stepped (P.level-step s side) i j r (now (m .entry)) (now (m .exit)) (now (out .entry)) (now (out .exit)) ⌝ }
 {
     let n = levels::size(m, side);
@@ -55,7 +55,7 @@ fn send_level(m: &mut [u8], out: &mut [u8], i: usize, s: usize, side: Side, j: u
 }
 
 fn send_side(m: &mut [u8], out: &mut [u8], i: usize, s: usize, side: Side) -> usize
-    requires { ⌜ State (now m) × (s < session-slots) × (i + length (P.side-levels side (rest-of (now m))) ≤ places (length (now out))) ⌝ }
+    requires { ⌜ State (now m) × (s < session-slots) × (i + length (side-levels side (rest-of (now m))) ≤ places (length (now out))) ⌝ }
     ensures { λ r. ⌜ Told (P.levels-to s side) i r (now (m .entry)) (now (m .exit)) (now (out .entry)) (now (out .exit)) ⌝ }
 {
     let rows = levels::size(m, side);
