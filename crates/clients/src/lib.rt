@@ -24,7 +24,9 @@ pub enum MaybeAccount {
     Some(Account),
 }
 
-// How many rows of sessions there are.
+// How many rows of accounts and of sessions there are.
+pub const OWNER_SLOTS: usize = 256;
+
 pub const SESSION_SLOTS: usize = 64;
 
 // ---- accounts

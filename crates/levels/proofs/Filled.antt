@@ -39,7 +39,7 @@ last-bid : (l : List Row) (r : Row) → best Buy (l ++ (r ∷ [])) ≡ level r �
 last-bid [] r = refl
 last-bid (x ∷ l) r = ap (λ m. m ++ (level x ∷ [])) (last-bid l r)
 
-best-nth : (z : Side) (f : ℕ → Row) (n : ℕ) → best z (live (λ r. 1) f n) ≡ listed (λ j. level (f (nth z n j))) n
+pub best-nth : (z : Side) (f : ℕ → Row) (n : ℕ) → best z (live (λ r. 1) f n) ≡ listed (λ j. level (f (nth z n j))) n
 unfolding live listed
 best-nth Sell f zero = refl
 best-nth Sell f (suc n) = last-ask (live (λ r. 1) f n) (f n) ∙ ap (λ l. l ++ (level (f n) ∷ [])) (best-nth Sell f n)

@@ -27,7 +27,7 @@ fn index_of(side: Side) -> usize
 }
 
 // The row of the block with the level i of n, counted from the best.
-fn nth(side: Side, n: usize, i: usize) -> usize
+pub fn nth(side: Side, n: usize, i: usize) -> usize
     requires { ⌜ i < n ⌝ }
     ensures { λ r. ⌜ (r ≡ D.nth side n i) × (r < n) ⌝ }
 {

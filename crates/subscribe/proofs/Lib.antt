@@ -1,0 +1,4 @@
+pub mod Few
+pub mod Snapshot
+pub mod Kept
+pub mod Calls
