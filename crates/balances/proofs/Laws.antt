@@ -1,6 +1,6 @@
 -- A stored balance is that of the definitions. Assumes nothing.
 use mathlib.Core.Path.{_≡_, refl, sym, ap, _∙_}
-use mathlib.Core.Bool.{Bool, true, false, cond, _&&_, and-eq-true-iff, false≢true}
+use mathlib.Core.Bool.{Bool, true, false, cond, and-eq-true-iff, false≢true}
 use mathlib.Core.Option.{Option, none, some, Option·map}
 use mathlib.Core.List.{List, [], _∷_}
 use Prim.Native.Nat.{ℕ, zero, suc, _+_, _<_}
@@ -20,15 +20,14 @@ use Rattle.gateway.specs.Entry.{wallet-at, balance-with, balance}
 use Rattle.gateway.specs.Calls.{Gateway}
 use Rattle.store.specs.Cells as C
 use Rattle.store.specs.Layout.{cell}
-use Rattle.store.specs.View.{Row, maybe, flag, wallet, ledger, gateway}
+use Rattle.store.specs.View.{Row, flag, wallet, ledger, gateway}
 use Rattle.clients.specs.Clients.{wallet-words}
 use Rattle.clients.proofs.Views.{wallet-at-row}
-use Rattle.sound.specs.Sound.{State, Becomes}
+use Rattle.sound.specs.Sound.{Becomes}
 use Rattle.sound.proofs.Totals.{total-exact}
 use Rattle.outcome.specs.Between.{Between}
 use Rattle.outcome.specs.Parts.{with-rest}
-use Rattle.balances.specs.Balances.{Exact, maybe-balance}
-use Rattle.balances.specs.declared.MaybeBalance as B
+use Rattle.balances.specs.Balances.{Exact}
 
 -- ---- when the totals are exact
 

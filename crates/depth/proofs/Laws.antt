@@ -1,7 +1,7 @@
 -- The stored levels of a side are those of the definitions, one by one; and the call. Assumes nothing.
 use mathlib.Core.Path.{_≡_, refl, sym, ap, _∙_}
 use mathlib.Core.List.{List, [], _∷_, _++_, map, map-append}
-use Prim.Native.Nat.{ℕ, suc, _+_, _*_, _/_, _≤_, _<_}
+use Prim.Native.Nat.{ℕ, _+_, _*_, _/_, _≤_, _<_}
 use native.Mathlib.Numerals.{add-one}
 use native.Mathlib.Omega.{arith}
 use borrow.Author.Tests.{le-leb, lt-leb}
@@ -9,12 +9,12 @@ use lib.ListN.{length, getD, take, length-map}
 use lib.Seq.{take-suc, take-all, length-take-le}
 use Rattle.orderbook.specs.declared.Side.{Side}
 use Rattle.words.specs.Words.{int, half, _⊖_, modulus}
-use Rattle.gateway.specs.Limits.{most-levels, too-short}
+use Rattle.gateway.specs.Limits.{most-levels}
 use Rattle.gateway.specs.Depth as D
-use Rattle.gateway.specs.Entry.{Plan, refuse, quiet, unless, levels-are}
+use Rattle.gateway.specs.Entry.{unless, levels-are}
 use Rattle.gateway.specs.Calls.{call, plan, depth-levels}
 use Rattle.store.specs.Layout.{cell}
-use Rattle.store.specs.View.{listed, depth, gateway}
+use Rattle.store.specs.View.{listed, gateway}
 use Rattle.store.proofs.Listed.{listed-at}
 use Rattle.levels.specs.declared.Row.{Row}
 use Rattle.levels.specs.Levels as L

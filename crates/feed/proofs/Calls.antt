@@ -1,10 +1,10 @@
 -- The whole call. Assumes nothing.
 use mathlib.Core.Path.{_≡_, refl, sym, ap, _∙_}
-use mathlib.Core.List.{List, _++_}
+use mathlib.Core.List.{List}
 use Prim.Native.Nat.{ℕ, _+_, _≤_, _<_}
 use native.Mathlib.Omega.{arith}
 use lib.ListN.{length, length-append}
-use Rattle.gateway.specs.Limits.{session-slots}
+use Rattle.gateway.specs.Limits.{session-slots, most-notices}
 use Rattle.gateway.specs.Rest.{Mail, Rest}
 use Rattle.gateway.specs.Entry.{publish-mail, published}
 use Rattle.gateway.specs.Calls.{Gateway, call, plan, publish}
@@ -22,7 +22,7 @@ use Rattle.outcome.specs.Answers.{Gives}
 use Rattle.outcome.proofs.Laws.{then-becomes}
 use Rattle.outcome.proofs.Calls.{sends-short, sends-done}
 use Rattle.outcome.proofs.Walk.{sends-more}
-use Rattle.feed.specs.Feed.{Told, balances, market, changes-step}
+use Rattle.feed.specs.Feed.{Told, balances, market, changes-step, most-market, most-mail}
 use Rattle.feed.proofs.Stamps.{changes-keeps, steps-kept, stamped-published, sends-room}
 use Rattle.feed.proofs.Changes.{sessions-each}
 
@@ -32,7 +32,7 @@ mail xs = publish-mail (gateway (cell xs) .core) (rest-of xs)
 pub mail-long : (xs : List ℕ) → length (mail xs) ≡ length (balances (gateway (cell xs))) + length (market (gateway (cell xs)))
 mail-long xs = length-append (balances (gateway (cell xs))) (market (gateway (cell xs)))
 
-pub count-is : (xs : List ℕ) (n k : ℕ) → (n ≡ length (balances (gateway (cell xs)))) × (n ≤ 2048) → (k ≡ length (market (gateway (cell xs)))) × (k ≤ 81920) → (n + k ≡ length (mail xs)) × (n + k ≤ 83968)
+pub count-is : (xs : List ℕ) (n k : ℕ) → (n ≡ length (balances (gateway (cell xs)))) × (n ≤ most-notices) → (k ≡ length (market (gateway (cell xs)))) × (k ≤ most-market) → (n + k ≡ length (mail xs)) × (n + k ≤ most-mail)
 count-is xs n k p q = (omega (arith, mail-long xs, p .0, q .0), omega (arith, p .1, q .1))
 
 pub settled : {xs ys : List ℕ} → State xs → Is ys (Pending.published (cell xs)) → Becomes ys (with-rest published (gateway (cell xs)))

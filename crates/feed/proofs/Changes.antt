@@ -1,8 +1,7 @@
 -- The market's changes: trades and changed levels, to one session and to all. Assumes nothing.
 use mathlib.Core.Path.{_≡_, refl, sym, ap, ap₂, subst, _∙_}
 use mathlib.Core.Bool.{Bool, true, false, cond, _&&_}
-use mathlib.Core.Option.{Option, none, some}
-use mathlib.Core.List.{List, [], _∷_, _++_, map}
+use mathlib.Core.List.{List, [], _∷_, map}
 use Prim.Native.Nat.{ℕ, _+_, _≤_, _<_}
 use native.Mathlib.Omega.{arith}
 use lib.ListN.{length, getD, length-append, length-map}
@@ -41,7 +40,7 @@ use Rattle.mailbox.specs.Mailbox.{places}
 use Rattle.outcome.specs.Parts.{rest-of, Sends, steps, Stepped}
 use Rattle.outcome.proofs.Walk.{slots, sends-none, sends-more}
 use Rattle.outcome.proofs.Steps.{steps-each, each-one, steps-sessions}
-use Rattle.feed.specs.Feed.{Told, trade-step, trades-to, no-trade, level-step, levels-to, changes-step, market, IsLevel}
+use Rattle.feed.specs.Feed.{Told, trade-step, trades-to, no-trade, level-step, levels-to, changes-step, market, IsLevel, most-changes}
 use Rattle.feed.proofs.Stamps.{sends-kept, sends-room}
 
 -- ---- trades
@@ -159,7 +158,7 @@ module _ (xs : List ℕ) (s : ℕ) where
       let ll = length-map (rest-of xs .depth .changed) (λ k. level-to s (rest-of xs .delivered) (k .0) (D.level k (rest-of xs .depth))) in
       omega (arith, ap length k, changes-long xs s, tl, ll, trades-many xs, changed-many xs)
 
-  pub rows-few : State xs → (t c : ℕ) → t ≡ word (cell xs) C.trade-rows → c ≡ word (cell xs) C.changed-rows → t + c ≤ 1280
+  pub rows-few : State xs → (t c : ℕ) → t ≡ word (cell xs) C.trade-rows → c ≡ word (cell xs) C.changed-rows → t + c ≤ most-changes
   rows-few st t c p q = omega (arith, st .sound .tables .ordered .bounds .trades-fit, st .sound .tables .ordered .bounds .changed-fit)
 
   pub rows-quiet : (b : Bool) → b ≡ picked → b ≡ false → 0 ≡ length (changes-step g s)

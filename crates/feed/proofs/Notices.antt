@@ -6,14 +6,13 @@ use mathlib.Core.List.{List, [], _∷_}
 use Prim.Native.Nat.{ℕ, _+_, _-_, _≤_, _<_}
 use native.Mathlib.Omega.{arith}
 use borrow.Author.Tests.{eq-eqb, ne-eqb}
-use lib.ListN.{length, getD}
+use lib.ListN.{length}
 use Rattle.protocol.specs.declared.Balance.{Balance}
 use Rattle.protocol.specs.declared.Outbound.the-variants as Out
 use Rattle.accounts.specs.declared.Funds.{Funds}
 use Rattle.gateway.specs.Basics.{option, is-some}
 use Rattle.gateway.specs.Limits.{owner-slots, session-slots, most-notices}
-use Rattle.gateway.specs.Core.{Core}
-use Rattle.gateway.specs.Rest.{Mail, Rest, send, session-at, session-of, is-open}
+use Rattle.gateway.specs.Rest.{Mail, send, session-at, session-of, is-open}
 use Rattle.gateway.specs.Entry.{wallet-at, balance-with, balance, balance-to, notice-mail}
 use Rattle.gateway.specs.Calls.{Gateway}
 use Rattle.store.specs.Cells as C

@@ -1,6 +1,6 @@
 -- Who is told what does not look at the stamps, and publishing leaves them. Assumes nothing.
 use mathlib.Core.Path.{_≡_, refl, sym, ap, ap₂, _∙_}
-use mathlib.Core.Bool.{Bool, false, cond, _&&_}
+use mathlib.Core.Bool.{false, cond, _&&_}
 use mathlib.Core.Option.{Option, none, some, Option·map}
 use mathlib.Core.List.{List, [], _∷_, _++_}
 use Prim.Native.Nat.{ℕ, zero, suc, _+_, _≤_, _<_}
@@ -14,7 +14,7 @@ use Rattle.gateway.specs.Entry.{balance, balance-to, notice-mail, changes-to, p
 use Rattle.gateway.specs.Calls.{Gateway}
 use Rattle.store.specs.Layout.{cell}
 use Rattle.store.specs.View.{gateway}
-use Rattle.outcome.specs.Parts.{with-rest, rest-of, Sends, Steps, steps, Stepped}
+use Rattle.outcome.specs.Parts.{with-rest, rest-of, Sends, Steps, steps}
 use Rattle.outcome.proofs.Walk.{stamped-rest, stamped-keeps}
 use Rattle.outcome.proofs.Steps.{Sent, sent-room}
 use Rattle.mailbox.proofs.Rows.{length-mailed}
@@ -66,11 +66,20 @@ session-of-stamped a (Rest.send s m ∷ ms) r =
     session-of-stamped a ms (Rest.stamp (Rest.send s m) r) ∙ session-from-changed (Rest.set-sent (r .clock)) (sent-account (r .clock)) 0 a s (r .sessions)
 session-of-stamped a (Rest.close s ∷ ms) r = session-of-stamped a ms r
 
--- publishing and stamps change different parts
+-- stamps, and a change that leaves the sessions and the clock alone
+module _ (p : Rest → Rest) (sessions-kept : (r : Rest) → p r .sessions ≡ r .sessions) (clock-kept : (r : Rest) → p r .clock ≡ r .clock)
+    (beside : (xs : List (Option Session)) (r : Rest) → p (with-sessions xs r) ≡ with-sessions xs (p r)) where
+  pub stamped-beside : (ms : List Mail) (r : Rest) → stamped ms (p r) ≡ p (stamped ms r)
+  stamped-beside [] r = refl
+  stamped-beside (Rest.send s m ∷ ms) r =
+      ap (stamped ms)
+      (ap₂ (λ (xs : List (Option Session)) (t : ℕ). with-sessions (changed-at (Rest.set-sent t) s xs) (p r)) (sessions-kept r) (clock-kept r)
+      ∙ sym (beside (changed-at (Rest.set-sent (r .clock)) s (r .sessions)) r))
+      ∙ stamped-beside ms (Rest.stamp (Rest.send s m) r)
+  stamped-beside (Rest.close s ∷ ms) r = stamped-beside ms r
+
 pub stamped-published : (ms : List Mail) (r : Rest) → stamped ms (published r) ≡ published (stamped ms r)
-stamped-published [] r = refl
-stamped-published (Rest.send s m ∷ ms) r = stamped-published ms (Rest.stamp (Rest.send s m) r)
-stamped-published (Rest.close s ∷ ms) r = stamped-published ms r
+stamped-published = stamped-beside published (λ r. refl) (λ r. refl) (λ xs r. refl)
 
 module _ (g : Gateway) (ms : List Mail) where
   abbrev r : Rest

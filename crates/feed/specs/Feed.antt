@@ -1,8 +1,7 @@
 -- Publishing in steps: what each notice, each session, each trade and each changed level sends.
-use Prim.Native.Nat.{ℕ, _-_, _≤_, _<_}
+use Prim.Native.Nat.{ℕ, _+_, _-_, _*_, _≤_, _<_}
 use mathlib.Core.Path.{_≡_}
 use mathlib.Core.Bool.{true, cond, _&&_}
-use mathlib.Core.Option.{Option}
 use mathlib.Core.List.{List, [], _∷_, map}
 use lib.ListN.{getD}
 use lib.IntN.{ℤ, pos}
@@ -11,10 +10,10 @@ use Rattle.orderbook.specs.declared.Side.the-variants.{Buy}
 use Rattle.protocol.specs.declared.Outbound.the-variants as Out
 use Rattle.protocol.specs.declared.TradeTick.{TradeTick}
 use Rattle.gateway.specs.Basics.{each, is-some}
-use Rattle.gateway.specs.Limits.{owner-slots, session-slots, most-orders}
+use Rattle.gateway.specs.Limits.{owner-slots, session-slots, most-orders, most-trades, most-notices, most-changed}
 use Rattle.gateway.specs.Depth as D
-use Rattle.gateway.specs.Rest.{Session, Mail, send, Rest, session-at, is-open, is-subscribed, each-session}
-use Rattle.gateway.specs.Entry.{balance, balance-to, level-to, changes-to, notice-mail, publish-mail}
+use Rattle.gateway.specs.Rest.{Mail, send, session-at, is-open, is-subscribed, each-session}
+use Rattle.gateway.specs.Entry.{balance, balance-to, level-to, changes-to, notice-mail}
 use Rattle.gateway.specs.Calls.{Gateway}
 use Rattle.levels.specs.declared.Row.{Row}
 use Rattle.outcome.specs.Parts.{Steps, Stepped}
@@ -73,3 +72,13 @@ pub record IsLevel (z : Side) (p : ℤ) (d : D.Depth) (l : Row) : Type 0 where
   pub qty-is : l .qty ≡ D.level (z, p) d .qty
   pub orders-is : l .orders ≡ D.level (z, p) d .orders
   pub few : l .orders ≤ most-orders
+
+-- ---- how much there can be: rows to one session, to all, and with the balances
+abbrev pub most-changes : ℕ
+most-changes = most-trades + most-changed
+
+abbrev pub most-market : ℕ
+most-market = session-slots * most-changes
+
+abbrev pub most-mail : ℕ
+most-mail = most-notices + most-market

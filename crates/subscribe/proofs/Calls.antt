@@ -1,19 +1,19 @@
 -- The whole call. Assumes nothing.
 use mathlib.Core.Path.{_≡_, refl, sym, ap, _∙_}
 use mathlib.Core.Option.{some}
-use mathlib.Core.List.{List, _++_}
+use mathlib.Core.List.{List}
 use Prim.Native.Nat.{ℕ, _+_, _≤_, _<_}
 use native.Mathlib.Omega.{arith}
-use lib.ListN.{length, length-append, length-map}
+use lib.ListN.{length, length-append}
 use Rattle.orderbook.specs.declared.Side.the-variants.{Buy, Sell}
 use Rattle.protocol.specs.declared.Inbound.the-variants as In
 use Rattle.gateway.specs.Rest as Rest
 use Rattle.gateway.specs.Rest.{Mail, Rest, update-session, stamped}
 use Rattle.gateway.specs.Entry.{publish-mail, published, snapshot, hear}
-use Rattle.gateway.specs.Calls.{Gateway, call, plan, within, receive-from}
+use Rattle.gateway.specs.Calls.{Gateway, call, receive-from}
 use Rattle.store.specs.Layout.{cell}
 use Rattle.store.specs.View.{gateway}
-use Rattle.sound.specs.Sound.{State, Becomes}
+use Rattle.sound.specs.Sound.{Becomes}
 use Rattle.mailbox.specs.Mailbox.{places, mailed}
 use Rattle.outcome.specs.Parts.{with-rest, rest-of, heard, Sends, Speaks}
 use Rattle.outcome.specs.Answers.{Gives}

@@ -4,7 +4,6 @@ use mathlib.Core.Bool.{Bool, cond, _&&_}
 use mathlib.Core.Option.{Option, none, some, Option·map}
 use mathlib.Core.List.{List, [], _∷_, _++_}
 use Prim.Native.Nat.{ℕ, zero, suc}
-use lib.ListN.{getD, set}
 use Rattle.gateway.specs.Basics.{option, each}
 use Rattle.gateway.specs.Core.{Core}
 use Rattle.gateway.specs.Rest as Rest

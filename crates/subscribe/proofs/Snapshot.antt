@@ -10,7 +10,7 @@ use Rattle.orderbook.specs.declared.Side.the-variants.{Buy, Sell}
 use Rattle.protocol.specs.declared.Outbound.the-variants as Out
 use Rattle.protocol.specs.declared.LevelUpdate.{LevelUpdate}
 use Rattle.words.specs.Words.{int, half, _⊖_}
-use Rattle.gateway.specs.Limits.{session-slots, most-orders, most-levels}
+use Rattle.gateway.specs.Limits.{session-slots, most-orders}
 use Rattle.gateway.specs.Depth as D
 use Rattle.gateway.specs.Rest as Rest
 use Rattle.gateway.specs.Rest.{Mail, Rest, send, update-session, stamped}

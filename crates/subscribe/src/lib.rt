@@ -12,7 +12,7 @@ ghost use Rattle.protocol.specs.declared.Inbound.the-variants as In;
 ghost use Rattle.gateway.specs.Limits.{session-slots};
 ghost use Rattle.gateway.specs.Rest as Rest;
 ghost use Rattle.gateway.specs.Rest.{update-session};
-ghost use Rattle.gateway.specs.Entry.{update-of, publish-mail, published, snapshot};
+ghost use Rattle.gateway.specs.Entry.{update-of, snapshot};
 ghost use Rattle.gateway.specs.Calls.{call, receive-from};
 ghost use Rattle.store.specs.Layout.{cell};
 ghost use Rattle.store.specs.View.{gateway};

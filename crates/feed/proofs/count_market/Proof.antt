@@ -7,14 +7,14 @@ use Rattle.store.specs.Layout.{cell}
 use Rattle.store.specs.View.{gateway}
 use Rattle.outcome.specs.Parts.{steps}
 use Rattle.outcome.proofs.Steps.{steps-first, steps-count}
-use Rattle.feed.specs.Feed.{changes-step}
+use Rattle.feed.specs.Feed.{changes-step, most-changes}
 use Rattle.feed.proofs.Changes.{sessions-each}
 use borrow.Author.Needs.{needs}
 use Rattle.feed.proofs.count_market.Statement.{statement}
 use Rattle.feed.proofs.count_market.Tie as tie
 
 abbrev Inv-loop : tie.InvT-loop
-Inv-loop m n₀ s₀ n s = (n ≡ length (steps changes-step (gateway (cell m)) s)) × (s ≤ session-slots) × (n ≤ 1280 * s)
+Inv-loop m n₀ s₀ n s = (n ≡ length (steps changes-step (gateway (cell m)) s)) × (s ≤ session-slots) × (n ≤ most-changes * s)
 
 abbrev μ-loop : tie.MeasureT-loop
 μ-loop m n₀ s₀ n s = session-slots - s

@@ -1,5 +1,3 @@
-use native.Mathlib.Omega.{arith}
-use Rattle.balances.proofs.Laws.{exact-between}
 use Rattle.feed.proofs.Calls.{calls}
 use borrow.Author.Needs.{needs}
 use Rattle.feed.proofs.publish.Statement.{statement}

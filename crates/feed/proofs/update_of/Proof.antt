@@ -1,6 +1,6 @@
 use mathlib.Core.Path.{_∙_}
 use Rattle.words.proofs.Int.{read}
-use Rattle.feed.proofs.Changes.{changes, update-is}
+use Rattle.feed.proofs.Changes.{update-is}
 use borrow.Author.Needs.{needs}
 use Rattle.feed.proofs.update_of.Statement.{statement}
 use Rattle.feed.proofs.update_of.Tie as tie

@@ -1,5 +1,4 @@
 use native.Mathlib.Omega.{arith}
-use mathlib.Core.Path.{sym, _∙_}
 use Rattle.sound.proofs.Listed.{size-levels}
 use Rattle.subscribe.proofs.Snapshot.{snapshots}
 use borrow.Author.Needs.{needs}
