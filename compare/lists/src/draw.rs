@@ -21,9 +21,19 @@ pub enum Theme {
     Ends,
 }
 
+impl Theme {
+    /// The theme with that number; without one, the one whose turn it is.
+    pub fn of(at: usize, number: Option<&u64>) -> Theme {
+        let themes = [Theme::Money, Theme::Market, Theme::Sessions, Theme::Restart, Theme::Ends];
+        themes[number.map_or(at % 5, |&number| number as usize)]
+    }
+}
+
 pub struct Draw {
     state: u64,
     pub theme: Theme,
+    /// For the player: the calls to draw, by their names. Lists then start without orders.
+    pub only: Option<Vec<String>>,
     clock: u64,
     /// Calls that come next.
     pub planned: VecDeque<Call>,
@@ -31,7 +41,7 @@ pub struct Draw {
 
 impl Draw {
     pub fn new(seed: u64) -> Draw {
-        Draw { state: seed, theme: Theme::Money, clock: 0, planned: VecDeque::new() }
+        Draw { state: seed, theme: Theme::Money, only: None, clock: 0, planned: VecDeque::new() }
     }
 
     /// SplitMix64.
@@ -173,6 +183,7 @@ impl Draw {
         self.clock = 0;
         self.plan_opening();
         let restores = match self.theme {
+            _ if self.only.is_some() => false,
             Theme::Restart => true,
             Theme::Ends => self.chance(25),
             _ => false,
@@ -183,7 +194,8 @@ impl Draw {
         let ids: Vec<OrderId> = (1..=last.min(6)).filter(|_| self.chance(70)).collect();
         if !restores {
             let mut listing: Vec<Listed> = Vec::new();
-            if self.chance(if matches!(self.theme, Theme::Market | Theme::Ends) { 85 } else { 45 }) {
+            let listed = if matches!(self.theme, Theme::Market | Theme::Ends) { 85 } else { 45 };
+            if self.only.is_none() && self.chance(listed) {
                 for id in ids {
                     let id = if self.chance(3) { id + 1 } else { id };
                     let live = self.live();
@@ -455,7 +467,17 @@ impl Draw {
         self.planned.extend([Call::TakeBatch, last, Call::Checkpoint]);
     }
 
+    /// The next call, of those that are drawn.
     pub fn call(&mut self, rule: &Rule, exchange: &Exchange) -> Call {
+        loop {
+            let call = self.any_call(rule, exchange);
+            if self.only.as_ref().is_none_or(|only| only.iter().any(|name| name == call.name())) {
+                return call;
+            }
+        }
+    }
+
+    fn any_call(&mut self, rule: &Rule, exchange: &Exchange) -> Call {
         if let Some(call) = self.planned.pop_front() {
             return call;
         }
