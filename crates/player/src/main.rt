@@ -1,4 +1,4 @@
-// Plays the stored lists of calls on the proved calls, and compares each answer and each row lent with the Rust's. compare/README.md has the file's rows.
+// Plays the stored lists of calls on the proved calls, and compares each answer and each row with the Rust's. compare/README.md has the file's rows.
 use accounts::Account;
 use accounts::Funds;
 use accounts::MaybeFunds;
@@ -8,18 +8,23 @@ use outcome::Reply;
 use protocol::LogoutReason;
 use protocol::codes;
 use protocol::codes::MaybeLogoutReason;
-
-// The bytes of a row of mail or commands, of a level, and of the lent list: 256 places.
-const ROW: usize = 96;
-
-const LEVEL: usize = 24;
-
-const LENT: usize = 24576;
+ghost use Prim.Native.Nat.{_≤_};
+ghost use Rattle.gateway.specs.Limits.{owner-slots};
+ghost use Rattle.store.specs.Layout.{Holds};
+ghost use Rattle.outcome.specs.Between.{Between};
+ghost use Rattle.player.specs.Fresh.{Fresh};
 
 // ---- the words of a row
 
 fn word(row: &[u8], i: usize) -> u64 {
-    match le::load(row, 8 * i, 8) {
+    if i < 65536 {
+        return load(row, 8 * i);
+    }
+    0
+}
+
+fn load(row: &[u8], at: usize) -> u64 {
+    match le::load(row, at, 8) {
         le::Loaded::Value(w) => w,
         le::Loaded::Refused => 0,
     }
@@ -56,24 +61,44 @@ fn account(row: &[u8]) -> Account {
     }
 }
 
-fn enter(fd: i32, m: &mut [u8], limit: u64) {
+fn read_account(fd: i32) -> Account {
     let mut row = [0u8; 128];
     io::read_full(fd, &mut row);
-    let a = account(&row);
+    account(&row)
+}
+
+fn enter(m: &mut [u8], limit: u64, a: Account)
+    requires { ⌜ Fresh limit (now m) ⌝ }
+    ensures { λ r. ⌜ Fresh limit (now (m .exit)) ⌝ }
+{
     if (a.id as u64) < limit {
         start::enter(m, a);
     }
 }
 
-fn enter_all(fd: i32, m: &mut [u8], limit: u64, n: u64) {
+fn enter_all(fd: i32, m: &mut [u8], limit: u64, n: u64)
+    requires { ⌜ Fresh limit (now m) ⌝ }
+    ensures { λ r. ⌜ Fresh limit (now (m .exit)) ⌝ }
+{
     let mut i: u64 = 0;
     while i < n {
-        enter(fd, m, limit);
+        let a = read_account(fd);
+        enter(m, limit, a);
         i += 1;
     }
 }
 
-fn set_up(fd: i32, m: &mut [u8], row: &[u8]) {
+fn begin(m: &mut [u8], limit: u64, last: u64, timing: Timing)
+    requires { ⌜ Holds (now m) × (limit ≤ owner-slots) ⌝ }
+    ensures { λ r. ⌜ Fresh limit (now (m .exit)) ⌝ }
+{
+    start::start(m, limit, last, timing);
+}
+
+fn set_up(fd: i32, m: &mut [u8], row: &[u8])
+    requires { ⌜ Between (now m) ⌝ }
+    ensures { λ r. ⌜ Between (now (m .exit)) ⌝ }
+{
     let limit = word(row, 2);
     if 256 < limit {
         return;
@@ -82,27 +107,33 @@ fn set_up(fd: i32, m: &mut [u8], row: &[u8]) {
         heartbeat: word(row, 4),
         idle_timeout: word(row, 5),
     };
-    start::start(m, limit, word(row, 3), timing);
+    begin(m, limit, word(row, 3), timing);
     enter_all(fd, m, limit, word(row, 1));
 }
 
-// ---- a call: `row` has its arguments, `got` gets its answer
+// ---- calls: `row` has the arguments, `got` is given the answer
 
-fn put(got: &mut [u8], i: usize, w: u64) {
-    le::store(got, 8 * i, 8, w);
+fn put(got: &mut [u8], at: usize, w: u64) {
+    le::store(got, at, 8, w);
 }
 
 fn reply(got: &mut [u8], r: Reply) {
-    put(got, 2, r.code);
-    put(got, 3, r.count as u64);
+    put(got, 16, r.code);
+    put(got, 24, r.count as u64);
 }
 
-fn connect(m: &mut [u8], row: &[u8], got: &mut [u8]) {
+fn connect(m: &mut [u8], row: &[u8], got: &mut [u8])
+    requires { ⌜ Between (now m) ⌝ }
+    ensures { λ r. ⌜ Between (now (m .exit)) ⌝ }
+{
     let code = sessions::connect(m, word(row, 4) as usize, word(row, 5));
-    put(got, 2, code);
+    put(got, 16, code);
 }
 
-fn tick(m: &mut [u8], row: &[u8], got: &mut [u8], out: &mut [u8]) {
+fn tick(m: &mut [u8], row: &[u8], got: &mut [u8], out: &mut [u8])
+    requires { ⌜ Between (now m) ⌝ }
+    ensures { λ r. ⌜ Between (now (m .exit)) ⌝ }
+{
     let r = ticks::tick(m, word(row, 4), out);
     reply(got, r);
 }
@@ -114,29 +145,34 @@ fn reason(row: &[u8]) -> LogoutReason {
     }
 }
 
-fn end(m: &mut [u8], row: &[u8], got: &mut [u8], out: &mut [u8]) {
+fn end(m: &mut [u8], row: &[u8], got: &mut [u8], out: &mut [u8])
+    requires { ⌜ Between (now m) ⌝ }
+    ensures { λ r. ⌜ Between (now (m .exit)) ⌝ }
+{
     let why = reason(row);
     let r = sessions::end(m, word(row, 4) as usize, why, out);
     reply(got, r);
 }
 
-fn shut_down(m: &mut [u8], got: &mut [u8], out: &mut [u8]) {
+fn shut_down(m: &mut [u8], got: &mut [u8], out: &mut [u8])
+    requires { ⌜ Between (now m) ⌝ }
+    ensures { λ r. ⌜ Between (now (m .exit)) ⌝ }
+{
     let r = sessions::shut_down(m, out);
     reply(got, r);
 }
 
-// A call that is not here differs in its number.
-fn unknown(got: &mut [u8]) {
-    put(got, 0, u64::MAX);
-}
-
-fn call(m: &mut [u8], row: &[u8], got: &mut [u8], out: &mut [u8]) {
+fn call(m: &mut [u8], row: &[u8], got: &mut [u8], out: &mut [u8])
+    requires { ⌜ Between (now m) ⌝ }
+    ensures { λ r. ⌜ Between (now (m .exit)) ⌝ }
+{
     match word(row, 0) {
         2 => connect(m, row, got),
         8 => tick(m, row, got, out),
         10 => end(m, row, got, out),
         11 => shut_down(m, got, out),
-        _ => unknown(got),
+        // A call that is not here differs in its number.
+        _ => put(got, 0, u64::MAX),
     }
 }
 
@@ -145,11 +181,6 @@ fn call(m: &mut [u8], row: &[u8], got: &mut [u8], out: &mut [u8]) {
 fn say(text: &[u8], n: u64) {
     io::write_all(STDOUT_FILENO, text);
     io::print_decimal(STDOUT_FILENO, n);
-}
-
-fn say_where(list: u64, call: u64) {
-    say(b"list ", list);
-    say(b", call ", call);
 }
 
 fn say_word(i: usize, want: u64, got: u64) {
@@ -174,9 +205,19 @@ fn say_difference(want: &[u8], got: &[u8]) {
     }
 }
 
+// Whether the bytes are the same; if not, says where.
+fn agrees(text: &[u8], want: &[u8], got: &[u8]) -> bool {
+    if check::same(want, got) {
+        return true;
+    }
+    io::write_all(STDOUT_FILENO, text);
+    say_difference(want, got);
+    false
+}
+
 // ---- the file
 
-// How many lists and calls there were, and how many calls in this list; whether to go on.
+// The lists and the calls so far, the calls of this list, and whether to go on.
 struct Tally {
     lists: u64,
     calls: u64,
@@ -184,85 +225,113 @@ struct Tally {
     more: bool,
 }
 
-fn width(row: &[u8]) -> usize {
-    if word(row, 0) == 6 { LEVEL } else { ROW }
+fn count(n: u64) -> u64 {
+    std::num::wrapping_add_u64(n, 1)
 }
 
-// How many bytes so many places have, at most those there are.
-fn places(row: &[u8], n: u64) -> usize {
+// The bytes of n places: 256 are lent at most. A level has 3 words, all else 12.
+fn bytes_of(row: &[u8], n: u64) -> usize
+    ensures { λ r. ⌜ r ≤ 24576 ⌝ }
+{
     if 256 < n {
-        return LENT;
+        return 24576;
     }
-    n as usize * width(row)
+    if word(row, 0) == 6 {
+        return 24 * n as usize;
+    }
+    96 * n as usize
 }
 
-// Makes a call with places that hold 0xA5, and answers whether all is as it is in the file.
-fn play(fd: i32, m: &mut [u8], row: &[u8; 128], t: Tally) -> bool {
+// The rows that the file wants.
+fn wanted(fd: i32, row: &[u8]) -> [u8; 24576] {
     let mut want = [0xa5u8; 24576];
-    let mut out = [0xa5u8; 24576];
-    let mut got = *row;
-    let k = places(row, word(row, 3));
-    io::read_full(fd, &mut want[..k]);
-    let n = places(row, word(row, 1));
-    call(m, row, &mut got, &mut out[..n]);
-    if check::same(row, &got) {
-        if check::same(&want, &out) {
-            return true;
-        }
-        say_where(t.lists, t.calls);
-        io::write_all(STDOUT_FILENO, b", rows");
-        say_difference(&want, &out);
-        return false;
-    }
-    say_where(t.lists, t.calls);
-    say_difference(row, &got);
-    false
+    let n = bytes_of(row, word(row, 3));
+    io::read_full(fd, &mut want[..n]);
+    want
 }
 
-fn next(fd: i32, m: &mut [u8], t: Tally) -> Tally {
+fn agree(row: &[u8; 128], got: &[u8; 128], want: &[u8; 24576], out: &[u8; 24576]) -> bool {
+    agrees(b"answer", row, got) && agrees(b"rows", want, out)
+}
+
+// Makes the call with places that hold 0xA5; whether all is as the file has it.
+fn play(fd: i32, m: &mut [u8], row: [u8; 128]) -> bool
+    requires { ⌜ Between (now m) ⌝ }
+    ensures { λ r. ⌜ Between (now (m .exit)) ⌝ }
+{
+    let want = wanted(fd, &row);
+    let mut out = [0xa5u8; 24576];
+    let mut got = row;
+    let n = bytes_of(&row, word(&row, 1));
+    call(m, &row, &mut got, &mut out[..n]);
+    agree(&row, &got, &want, &out)
+}
+
+fn say_where(t: Tally) {
+    say(b" in list ", t.lists);
+    say(b", call ", t.calls);
+    io::write_all(STDOUT_FILENO, b"\n");
+}
+
+fn next_call(fd: i32, m: &mut [u8], row: [u8; 128], t: Tally) -> Tally
+    requires { ⌜ Between (now m) ⌝ }
+    ensures { λ r. ⌜ Between (now (m .exit)) ⌝ }
+{
+    let more = play(fd, m, row);
+    let after = Tally {
+        lists: t.lists,
+        calls: count(t.calls),
+        all: count(t.all),
+        more,
+    };
+    if !more {
+        say_where(after);
+    }
+    after
+}
+
+fn next_list(fd: i32, m: &mut [u8], row: &[u8], t: Tally) -> Tally
+    requires { ⌜ Between (now m) ⌝ }
+    ensures { λ r. ⌜ Between (now (m .exit)) ⌝ }
+{
+    set_up(fd, m, row);
+    Tally {
+        lists: count(t.lists),
+        calls: 0,
+        all: t.all,
+        more: true,
+    }
+}
+
+fn finish(t: Tally) -> Tally {
+    io::print_decimal(STDOUT_FILENO, t.all);
+    io::write_all(STDOUT_FILENO, b" calls agreed\n");
+    Tally {
+        lists: t.lists,
+        calls: t.calls,
+        all: t.all,
+        more: false,
+    }
+}
+
+fn next(fd: i32, m: &mut [u8], t: Tally) -> Tally
+    requires { ⌜ Between (now m) ⌝ }
+    ensures { λ r. ⌜ Between (now (m .exit)) ⌝ }
+{
     let mut row = [0u8; 128];
     let got = io::read_full(fd, &mut row);
     if got != 128 {
-        say(b"", t.all);
-        io::write_all(STDOUT_FILENO, b" calls agreed\n");
-        return Tally {
-            lists: t.lists,
-            calls: t.calls,
-            all: t.all,
-            more: false,
-        };
+        return finish(t);
     }
     if word(&row, 0) == 0 {
-        set_up(fd, m, &row);
-        return Tally {
-            lists: std::num::wrapping_add_u64(t.lists, 1),
-            calls: 0,
-            all: t.all,
-            more: true,
-        };
+        return next_list(fd, m, &row, t);
     }
-    let calls = std::num::wrapping_add_u64(t.calls, 1);
-    let all = std::num::wrapping_add_u64(t.all, 1);
-    let more = play(
-        fd,
-        m,
-        &row,
-        Tally {
-            lists: t.lists,
-            calls,
-            all,
-            more: true,
-        },
-    );
-    Tally {
-        lists: t.lists,
-        calls,
-        all,
-        more,
-    }
+    next_call(fd, m, row, t)
 }
 
-fn play_all(fd: i32, m: &mut [u8]) {
+fn play_all(fd: i32, m: &mut [u8])
+    requires { ⌜ Between (now m) ⌝ }
+{
     let mut t = Tally {
         lists: 0,
         calls: 0,
@@ -276,6 +345,20 @@ fn play_all(fd: i32, m: &mut [u8]) {
     }
 }
 
+// An empty start comes first, so that there is a state whatever the file has.
+fn run(fd: i32, m: &mut [u8; 442624]) {
+    begin(
+        m,
+        0,
+        0,
+        Timing {
+            heartbeat: 0,
+            idle_timeout: 0,
+        },
+    );
+    play_all(fd, m);
+}
+
 fn main() {
     let path = b"calls";
     let fd = os::open_read(path);
@@ -284,15 +367,6 @@ fn main() {
         return;
     }
     let mut m = [0u8; 442624];
-    start::start(
-        &mut m,
-        0,
-        0,
-        Timing {
-            heartbeat: 0,
-            idle_timeout: 0,
-        },
-    );
-    play_all(fd, &mut m);
+    run(fd, &mut m);
     libc::close(fd);
 }
