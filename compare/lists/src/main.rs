@@ -41,13 +41,9 @@ fn list(draw: &mut Draw, saved: &mut Option<(Vec<Account>, Checkpoint)>) -> List
         eprintln!("the Rust panics at the start");
         return list;
     };
-    let most = match draw.theme {
-        _ if draw.only.is_some() => 60,
-        Theme::Restart => 14,
-        _ => 24,
-    };
+    let most = draw.theme.calls(draw.only.is_some());
     for at in 0.. {
-        if at == most && draw.chance(30) {
+        if at == most && !matches!(draw.theme, Theme::Full(_)) && draw.chance(30) {
             draw.plan_checkpoint(&rule);
         }
         if at >= most && draw.planned.is_empty() {
@@ -55,13 +51,14 @@ fn list(draw: &mut Draw, saved: &mut Option<(Vec<Account>, Checkpoint)>) -> List
         }
         let call = draw.call(&rule, &exchange);
         let code = rule.code(&call, &exchange);
-        let made = code.is_ok().then(|| call.on(&mut exchange, rule.limit));
+        let full = rule.unavailable(&call, &exchange);
+        let made = (code.is_ok() && !full).then(|| call.on(&mut exchange, rule.limit));
         let panics = matches!(made, Some(None));
         let seen = match (code, made, &call) {
             (Err(code), ..) => Seen::Code(code),
             (_, Some(Some(seen)), _) => seen,
-            // The Rust finds no number for the command.
-            (_, _, Call::Receive(session, message, _)) if rule.last == u64::MAX => Seen::unavailable(*session, message),
+            // The Rust finds no number for the command, or has no such limit.
+            (_, _, Call::Receive(session, message, _)) if full || rule.last == u64::MAX => Seen::unavailable(*session, message),
             _ => {
                 eprintln!("the Rust panics in {}", call.antt(99));
                 break;
@@ -78,7 +75,7 @@ fn list(draw: &mut Draw, saved: &mut Option<(Vec<Account>, Checkpoint)>) -> List
         if panics {
             break;
         }
-        if !refused {
+        if !refused && !full {
             rule.follow(&call, &exchange);
             draw.plan_after(&call, &rule, &exchange);
         }
