@@ -113,13 +113,15 @@ fn set_up(fd: i32, m: &mut [u8], row: &[u8])
 
 // ---- calls: `row` has the arguments, `got` is given the answer
 
-fn put(got: &mut [u8], at: usize, w: u64) {
-    le::store(got, at, 8, w);
+fn put(got: &mut [u8], i: usize, w: u64) {
+    if i < 16 {
+        le::store(got, 8 * i, 8, w);
+    }
 }
 
 fn reply(got: &mut [u8], r: Reply) {
-    put(got, 16, r.code);
-    put(got, 24, r.count as u64);
+    put(got, 2, r.code);
+    put(got, 3, r.count as u64);
 }
 
 fn connect(m: &mut [u8], row: &[u8], got: &mut [u8])
@@ -127,7 +129,7 @@ fn connect(m: &mut [u8], row: &[u8], got: &mut [u8])
     ensures { λ r. ⌜ Between (now (m .exit)) ⌝ }
 {
     let code = sessions::connect(m, word(row, 4) as usize, word(row, 5));
-    put(got, 16, code);
+    put(got, 2, code);
 }
 
 fn tick(m: &mut [u8], row: &[u8], got: &mut [u8], out: &mut [u8])
