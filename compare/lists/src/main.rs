@@ -1,5 +1,5 @@
 //! Prints random lists of calls with what the Rust's `Exchange` made of them, as a file for the checker:
-//! `lists SEED COUNT [THEME]`, with a theme of 0 to 4; without one the themes take turns.
+//! `lists SEED COUNT [THEME]`, with a theme of 0 to 4, or 5 to 7 for lists that come to a limit; without one the first five take turns.
 //! `lists --play CALLS SEED COUNT [THEME]` prints a file for the program `player`, with the named calls only (`connect,tick,..`).
 
 mod antt;
@@ -14,7 +14,7 @@ use gateway::accounts::Account;
 use gateway::exchange::Checkpoint;
 
 use antt::Antt;
-use draw::{Draw, Theme};
+use draw::{Draw, Limit, Theme};
 use exchange::{Call, Seen, Start};
 use play::File;
 use rule::Rule;
@@ -125,11 +125,16 @@ fn print(args: &[u64], draw: &mut Draw) {
     print!("{}", foot.replace("PROOF", &proof).replace("LEMMAS", lemmas.strip_prefix('\n').unwrap_or_default()));
 }
 
-/// The file for the player, and what it meets. A start that is refused is left out.
+/// The file for the player, and what it meets. A start that is refused is left out. Where themes take turns, the last list comes to a limit.
 fn play(args: &[u64], draw: &mut Draw) {
     let mut file = File::default();
-    for at in 0..args[1] as usize {
-        draw.theme = Theme::of(at, args.get(2));
+    let count = args[1] as usize;
+    let entry = draw.only.as_ref().is_some_and(|only| only.iter().any(|name| name == "receive-from"));
+    for at in 0..count {
+        draw.theme = match args.get(2) {
+            None if entry && at + 1 == count => Theme::Full(Limit::Commands),
+            theme => Theme::of(at, theme),
+        };
         let list = list(draw, &mut None);
         if list.calls.len() < list.seen.len() {
             continue;
