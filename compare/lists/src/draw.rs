@@ -58,13 +58,15 @@ pub struct Draw {
     /// For the player: the calls to draw, by their names. Lists then start without orders.
     pub only: Option<Vec<String>>,
     clock: u64,
+    /// The last call was an event.
+    delivers: bool,
     /// Calls that come next.
     pub planned: VecDeque<Call>,
 }
 
 impl Draw {
     pub fn new(seed: u64) -> Draw {
-        Draw { state: seed, theme: Theme::Money, only: None, clock: 0, planned: VecDeque::new() }
+        Draw { state: seed, theme: Theme::Money, only: None, clock: 0, delivers: false, planned: VecDeque::new() }
     }
 
     /// SplitMix64.
@@ -491,6 +493,7 @@ impl Draw {
 
     /// What may follow an accepted call.
     pub fn plan_after(&mut self, call: &Call, rule: &Rule, exchange: &Exchange) {
+        self.delivers = matches!(call, Call::Deliver(..));
         match call {
             Call::Finish(_) if self.chance(70) => {
                 self.plan_logins();
@@ -548,7 +551,7 @@ impl Draw {
             Limit::Orders if rule.flights.len() > 200 => accepted(last),
             Limit::Orders => self.entry_of(rule, 0, false),
             Limit::Notices => match oldest {
-                Some(id) if rule.flights.len() > 200 || rule.draining && rule.flights.len() > 1 => {
+                Some(id) if rule.flights.len() > 200 || self.delivers && rule.flights.len() > 1 => {
                     Call::Deliver(id, Event::Cancelled { id, qty: 1, reason: CancelReason::Requested })
                 }
                 _ => self.entry_of(rule, 1, false),

@@ -150,7 +150,7 @@ fn mail(mail: &Mail) -> [u64; ROW] {
     }
 }
 
-/// kind, number, owner, side, price, quantity, time in force, displayed, display, trigger, limited, limit
+/// Kind, number, owner, side, price, quantity, time in force, option of a display, trigger, option of a limit.
 fn command(command: &Command) -> [u64; ROW] {
     match *command {
         Command::Limit { id, owner, side, price, qty, tif, display } => row(&[0], &[&id, &owner, &side, &price, &qty, &tif, &display]),
@@ -166,7 +166,7 @@ fn command(command: &Command) -> [u64; ROW] {
     }
 }
 
-/// An order, or a stop: its kind, number, owner, side, price and flag of a stop, leaves, visible.
+/// 0 for an order and 1 for a stop; number, owner, side, option of a price, leaves, and what an order shows.
 fn listed(entry: &Listed) -> [u64; ROW] {
     match entry {
         Listed::Order(order) => {
@@ -259,9 +259,8 @@ impl File {
             _ => Vec::new(),
         };
         let count = if given.is_empty() { places } else { given.len() / ROW };
-        self.words.extend(row::<CALL>(&[number, room as u64, code, count as u64], &[]).iter().take(4));
         words.resize(CALL - 4, 0);
-        self.words.extend(words.iter().chain(&given).chain(&rows));
+        self.words.extend([number, room as u64, code, count as u64].iter().chain(&words).chain(&given).chain(&rows));
         self.count(call, name, code, seen);
     }
 

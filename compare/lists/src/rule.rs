@@ -27,9 +27,8 @@ pub struct Rule {
     pub flights: Vec<(u64, bool)>,
     /// How many commands are in the batch.
     pub batch: usize,
-    /// How many notices wait, as long as orders are only placed and cancelled; whether they are being cancelled.
+    /// How many notices wait, as long as orders are only placed and cancelled.
     pub notices: usize,
-    pub draining: bool,
     pub accounts: BTreeMap<u32, Account>,
     pub live: BTreeMap<OrderId, Live>,
     pub sessions: BTreeSet<usize>,
@@ -289,10 +288,7 @@ impl Rule {
             Call::Deliver(_, Event::Cancelled { id, .. }) => self.live.get(id).map(|live| live.account),
             _ => None,
         };
-        if let Some(owner) = owner {
-            self.notices += usize::from(self.has_wallet(owner));
-            self.draining = matches!(call, Call::Deliver(..));
-        }
+        self.notices += usize::from(owner.is_some_and(|owner| self.has_wallet(owner)));
         match call {
             Call::AddAccount(account) => drop(self.accounts.insert(account.id, *account)),
             Call::Connect(session, _) => drop(self.sessions.insert(*session)),
