@@ -1,16 +1,13 @@
--- A start is between calls, with no account and with each one more; and so is the state after a call. Assumes nothing.
-use Prim.Native.Nat.{ℕ, _≤_, _<_}
+-- A start is between calls, and is a start with an account more. Assumes nothing.
+use Prim.Native.Nat.{ℕ, _<_}
 use mathlib.Core.Path.{_≡_, refl, sym, ap, subst, _∙_}
-use mathlib.Core.Bool.{true, _&&_, and-eq-true-iff}
+use mathlib.Core.Bool.{true, and-eq-true-iff}
 use mathlib.Core.List.{List, [], _∷_, _++_}
-use native.Mathlib.Omega.{arith}
 use borrow.Author.Tests.{lt-ltb}
 use lib.ListN.{length}
 use lib.Dec.{ltb}
 use Rattle.accounts.specs.declared.Account.{Account}
-use Rattle.accounts.specs.declared.Timing.{Timing}
-use Rattle.gateway.specs.Limits.{owner-slots}
-use Rattle.gateway.specs.Fits.{Unsigned, AccountFits, AccountsFit}
+use Rattle.gateway.specs.Fits.{AccountFits, AccountsFit}
 use Rattle.gateway.specs.Calls.{Gateway}
 use Rattle.gateway.specs.Start.{all-below}
 use Rattle.gateway.specs.Invariant.{Ok}
@@ -20,10 +17,9 @@ use Rattle.store.specs.Layout.{cell}
 use Rattle.store.specs.View.{word, account, gateway}
 use Rattle.store.proofs.Listed.{listed-length}
 use Rattle.sound.specs.Sound.{State, Becomes}
-use Rattle.start.specs.Start.{begun, entering}
+use Rattle.start.specs.Start.{entering}
 use Rattle.start.proofs.Begun.{begun-more, begun-started}
 use Rattle.outcome.specs.Between.{Between}
-use Rattle.outcome.proofs.Laws.{then-becomes}
 use Rattle.player.specs.Fresh.{Fresh}
 
 pub fresh-between : {limit : ℕ} {xs : List ℕ} → Fresh limit xs → Between xs
@@ -32,9 +28,6 @@ fresh-between {limit} {xs} f =
       state = f .becomes .state;
       ok = subst Ok (sym (f .becomes .gateway-is)) (subst (Begins limit (f .accounts)) (begun-started limit (f .last) (f .timing) (f .few) (f .accounts) (f .below)) (set-up-begins limit (f .last) (f .accounts) [] (f .timing) (f .last-fits) (f .fit) tt) .0);
     }
-
-pub fresh-begun : {ys : List ℕ} (limit last : ℕ) (t : Timing) → limit ≤ owner-slots → Unsigned last → Becomes ys (begun limit last t []) → Fresh limit ys
-fresh-begun limit last t few f h = record { last = last; timing = t; accounts = []; few = few; last-fits = f; fit = tt; below = refl; becomes = h }
 
 -- the owner limit in the bytes is the start's
 fresh-limit : {limit : ℕ} {xs : List ℕ} → Fresh limit xs → word (cell xs) C.owner-limit ≡ limit
