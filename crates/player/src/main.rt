@@ -256,6 +256,14 @@ fn agree(row: &[u8; 128], got: &[u8; 128], want: &[u8; 24576], out: &[u8; 24576]
     agrees(b"answer", row, got) && agrees(b"rows", want, out)
 }
 
+// The row without its code and count.
+fn unanswered(row: [u8; 128]) -> [u8; 128] {
+    let mut got = row;
+    put(&mut got, 2, u64::MAX);
+    put(&mut got, 3, 0);
+    got
+}
+
 // Makes the call with places that hold 0xA5; whether all is as the file has it.
 fn play(fd: i32, m: &mut [u8], row: [u8; 128]) -> bool
     requires { ⌜ Between (now m) ⌝ }
@@ -263,7 +271,7 @@ fn play(fd: i32, m: &mut [u8], row: [u8; 128]) -> bool
 {
     let want = wanted(fd, &row);
     let mut out = [0xa5u8; 24576];
-    let mut got = row;
+    let mut got = unanswered(row);
     let n = bytes_of(&row, word(&row, 1));
     call(m, &row, &mut got, &mut out[..n]);
     agree(&row, &got, &want, &out)
@@ -305,9 +313,14 @@ fn next_list(fd: i32, m: &mut [u8], row: &[u8], t: Tally) -> Tally
     }
 }
 
-fn finish(t: Tally) -> Tally {
+// Nothing is left of the file, or no whole row.
+fn finish(left: usize, t: Tally) -> Tally {
     io::print_decimal(STDOUT_FILENO, t.all);
-    io::write_all(STDOUT_FILENO, b" calls agreed\n");
+    io::write_all(STDOUT_FILENO, b" calls agreed");
+    if left != 0 {
+        io::write_all(STDOUT_FILENO, b", and the file breaks off");
+    }
+    io::write_all(STDOUT_FILENO, b"\n");
     Tally {
         lists: t.lists,
         calls: t.calls,
@@ -323,7 +336,7 @@ fn next(fd: i32, m: &mut [u8], t: Tally) -> Tally
     let mut row = [0u8; 128];
     let got = io::read_full(fd, &mut row);
     if got != 128 {
-        return finish(t);
+        return finish(got, t);
     }
     if word(&row, 0) == 0 {
         return next_list(fd, m, &row, t);

@@ -10,6 +10,9 @@ slice-aggregate-wanted c = search needs
 wanted-requires : tie.Need-wanted-requires
 wanted-requires c κs = search needs
 
+unanswered-requires : tie.Need-unanswered-requires
+unanswered-requires c κs = search needs
+
 slice-aggregate-bytes-of : tie.Need-slice-aggregate-bytes-of
 slice-aggregate-bytes-of c = search needs
 
@@ -52,6 +55,7 @@ play-spec =
     (tie.spec
     slice-aggregate-wanted
     wanted-requires
+    unanswered-requires
     slice-aggregate-bytes-of
     slice-aggregate-word
     word-requires
