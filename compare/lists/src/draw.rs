@@ -19,19 +19,54 @@ pub enum Theme {
     Restart,
     /// Numbers near the ends of their types.
     Ends,
+    /// Document 01's limits, which the Rust does not have: commands in flight and in the batch, live orders, notices.
+    Full(Limit),
+}
+
+/// A list that comes to a limit.
+#[derive(Clone, Copy)]
+pub enum Limit {
+    Commands,
+    Orders,
+    Notices,
+}
+
+impl Theme {
+    /// The theme with that number; without one, the one whose turn it is.
+    pub fn of(at: usize, number: Option<&u64>) -> Theme {
+        let limits = [Limit::Commands, Limit::Orders, Limit::Notices].map(Theme::Full);
+        let themes = [Theme::Money, Theme::Market, Theme::Sessions, Theme::Restart, Theme::Ends];
+        [themes.as_slice(), &limits].concat()[number.map_or(at % 5, |&number| number as usize)]
+    }
+
+    /// How many calls a list has, planned ones aside.
+    pub fn calls(self, plays: bool) -> usize {
+        match self {
+            Theme::Full(Limit::Commands) => 320,
+            Theme::Full(Limit::Orders) => 1200,
+            Theme::Full(Limit::Notices) => 2100,
+            _ if plays => 60,
+            Theme::Restart => 14,
+            _ => 24,
+        }
+    }
 }
 
 pub struct Draw {
     state: u64,
     pub theme: Theme,
+    /// For the player: the calls to draw, by their names. Lists then start without orders.
+    pub only: Option<Vec<String>>,
     clock: u64,
+    /// The last call was an event.
+    delivers: bool,
     /// Calls that come next.
     pub planned: VecDeque<Call>,
 }
 
 impl Draw {
     pub fn new(seed: u64) -> Draw {
-        Draw { state: seed, theme: Theme::Money, clock: 0, planned: VecDeque::new() }
+        Draw { state: seed, theme: Theme::Money, only: None, clock: 0, delivers: false, planned: VecDeque::new() }
     }
 
     /// SplitMix64.
@@ -135,7 +170,20 @@ impl Draw {
         }
     }
 
+    /// Two accounts that nothing but document 01's limits refuses, the second with a wallet.
+    fn free_accounts(&mut self) -> Vec<Account> {
+        let account = |id: u32| {
+            let funds = (id == 1).then_some(Funds { cash: 1 << 50, position: 1 << 50 });
+            let (max_open_orders, messages_per_second) = (u32::MAX, u32::MAX);
+            Account { id, token: u64::from(id) + 7, max_open_orders, messages_per_second, funds }
+        };
+        vec![account(0), account(1)]
+    }
+
     fn accounts(&mut self) -> Vec<Account> {
+        if matches!(self.theme, Theme::Full(_)) {
+            return self.free_accounts();
+        }
         let mut accounts: Vec<Account> = (0..3).map(|id| self.account(id)).collect();
         if self.chance(8) {
             let id = self.below(5) as u32;
@@ -173,17 +221,20 @@ impl Draw {
         self.clock = 0;
         self.plan_opening();
         let restores = match self.theme {
+            _ if self.only.is_some() => false,
             Theme::Restart => true,
             Theme::Ends => self.chance(25),
             _ => false,
         };
-        let limit = if self.chance(2) { self.pick(&[0, 1, 257]) } else { 4 };
+        let full = matches!(self.theme, Theme::Full(_));
+        let limit = if !full && self.chance(2) { self.pick(&[0, 1, 257]) } else { 4 };
         let (accounts, timing) = (self.accounts(), self.timing());
-        let last = if self.chance(3) { u64::MAX } else { self.below(8) };
+        let last = if !full && self.chance(3) { u64::MAX } else { self.below(8) };
         let ids: Vec<OrderId> = (1..=last.min(6)).filter(|_| self.chance(70)).collect();
         if !restores {
             let mut listing: Vec<Listed> = Vec::new();
-            if self.chance(if matches!(self.theme, Theme::Market | Theme::Ends) { 85 } else { 45 }) {
+            let listed = if matches!(self.theme, Theme::Market | Theme::Ends) { 85 } else { 45 };
+            if self.only.is_none() && self.chance(listed) {
                 for id in ids {
                     let id = if self.chance(3) { id + 1 } else { id };
                     let live = self.live();
@@ -404,6 +455,10 @@ impl Draw {
         self.planned.extend(calls);
     }
 
+    fn plan_member(&mut self, account: u32) {
+        self.plan_login(account as usize + 1, Inbound::Login { version: VERSION, account, token: u64::from(account) + 7 });
+    }
+
     /// Members log in, some subscribe.
     fn plan_logins(&mut self) {
         for account in 0..=self.below(3) as u32 {
@@ -419,6 +474,9 @@ impl Draw {
     /// What opens a list.
     fn plan_opening(&mut self) {
         self.planned.clear();
+        if matches!(self.theme, Theme::Full(_)) {
+            return (0..2).for_each(|account| self.plan_member(account));
+        }
         if self.chance(60) {
             let percent = self.pick(&[0, 1, 2]);
             self.planned.push_back(Call::Collar(Some(percent)));
@@ -435,11 +493,13 @@ impl Draw {
 
     /// What may follow an accepted call.
     pub fn plan_after(&mut self, call: &Call, rule: &Rule, exchange: &Exchange) {
+        self.delivers = matches!(call, Call::Deliver(..));
         match call {
             Call::Finish(_) if self.chance(70) => {
                 self.plan_logins();
                 self.planned.push_back(Call::Publish);
             }
+            Call::Disconnect(session) if matches!(self.theme, Theme::Full(_)) => self.plan_member(*session as u32 - 1),
             Call::Detach(session) | Call::Disconnect(session) if *session < 9 && self.chance(40) => {
                 let login = self.login(rule, exchange);
                 self.plan_login(*session, login);
@@ -455,9 +515,66 @@ impl Draw {
         self.planned.extend([Call::TakeBatch, last, Call::Checkpoint]);
     }
 
+    /// An order or another command of an account, which a limit alone refuses.
+    fn entry_of(&mut self, rule: &Rule, account: u32, others: bool) -> Call {
+        let kind = match self.weigh(if account == 0 && others { &[40, 5, 5] } else { &[1, 0, 0] }) {
+            0 => OrderKind::Limit { price: 1 + self.below(9) as i64, tif: TimeInForce::Gtc, display: None },
+            1 => OrderKind::Market,
+            _ => OrderKind::Stop { trigger: self.price(), limit: self.limit() },
+        };
+        let new = Inbound::NewOrder(NewOrder { client_ref: self.below(90), side: self.side(), qty: 1 + self.below(6), kind });
+        let order_id = self.order(rule);
+        let message = match self.weigh(if others { &[80, 8, 8, 4] } else { &[1, 0, 0, 0] }) {
+            1 => Inbound::Cancel { order_id },
+            2 if account == 0 => Inbound::Modify { order_id, price: self.price(), qty: self.qty() },
+            3 => Inbound::MassCancel,
+            _ => new,
+        };
+        Call::Receive(account as usize + 1, message, self.time())
+    }
+
+    /// A call on the way to a limit, or at it.
+    fn full_call(&mut self, limit: Limit, rule: &Rule) -> Call {
+        let (first, last) = (rule.flights.first().map_or(0, |flight| flight.0), rule.last);
+        let account = self.below(2) as u32;
+        let accepted = |number: u64| Call::Deliver(number, Event::Accepted { id: number });
+        let oldest = rule.live.range(first..).next().map(|(&id, _)| id);
+        match limit {
+            Limit::Commands if rule.is_full() || self.chance(2) => match self.below(9) {
+                0 => Call::TakeBatch,
+                1 if first > 0 => accepted(first + self.below(last - first + 1)),
+                2 => Call::Disconnect(account as usize + 1),
+                _ => self.entry_of(rule, account, true),
+            },
+            Limit::Commands => self.entry_of(rule, account, true),
+            _ if rule.batch > 200 => Call::TakeBatch,
+            Limit::Orders if rule.flights.len() > 200 => accepted(last),
+            Limit::Orders => self.entry_of(rule, 0, false),
+            Limit::Notices => match oldest {
+                Some(id) if rule.flights.len() > 200 || self.delivers && rule.flights.len() > 1 => {
+                    Call::Deliver(id, Event::Cancelled { id, qty: 1, reason: CancelReason::Requested })
+                }
+                _ => self.entry_of(rule, 1, false),
+            },
+        }
+    }
+
+    /// The next call, of those that are drawn.
     pub fn call(&mut self, rule: &Rule, exchange: &Exchange) -> Call {
+        loop {
+            let call = self.any_call(rule, exchange);
+            if self.only.as_ref().is_none_or(|only| only.iter().any(|name| name == call.name())) {
+                return call;
+            }
+        }
+    }
+
+    fn any_call(&mut self, rule: &Rule, exchange: &Exchange) -> Call {
         if let Some(call) = self.planned.pop_front() {
             return call;
+        }
+        if let Theme::Full(limit) = self.theme {
+            return self.full_call(limit, rule);
         }
         let events = if rule.flights.is_empty() { 2 } else { 60 };
         let (joins, replays) = if rule.sessions.is_empty() { (40, 60) } else { (3, 1) };
@@ -470,7 +587,7 @@ impl Draw {
             Theme::Market => [joins, 30, 2 * events, 24, 1, 1, 0, 1, 1, 3, 8, 2, 1, 0, 0, 1, 3, 0, 0],
             Theme::Sessions => [joins + 7, 50, events / 2, 8, 26, 4, 1, 6, 6, 3, 1, 1, 1, 1, 3, 1, 0, 1, 1],
             Theme::Ends => [joins, 30, 2 * events, 8, 1, 1, 0, 1, 4, 3, 2, 6, 1, 1, 1, 1, 2, replays, 1],
-            Theme::Restart => [joins, 40, events, 12, 1, 1, 1, 3, 6, 6, 3, 6, 1, 1, 2, 6, 3, replays, 1],
+            Theme::Restart | Theme::Full(_) => [joins, 40, events, 12, 1, 1, 1, 3, 6, 6, 3, 6, 1, 1, 2, 6, 3, replays, 1],
         };
         match self.weigh(&weights) {
             0 => Call::Connect(if self.chance(3) { self.pick(&[63, 64, 1000]) } else { self.below(4) as usize }, self.time()),

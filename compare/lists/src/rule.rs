@@ -25,6 +25,10 @@ pub struct Rule {
     pub last: u64,
     /// The numbers in flight, and whether each places an order.
     pub flights: Vec<(u64, bool)>,
+    /// How many commands are in the batch.
+    pub batch: usize,
+    /// How many notices wait, as long as orders are only placed and cancelled.
+    pub notices: usize,
     pub accounts: BTreeMap<u32, Account>,
     pub live: BTreeMap<OrderId, Live>,
     pub sessions: BTreeSet<usize>,
@@ -189,7 +193,10 @@ impl Rule {
     /// The code that refuses the call.
     pub fn code(&self, call: &Call, exchange: &Exchange) -> Result<(), u8> {
         match call {
-            Call::Disconnect(session) => first(&[(5, self.last == u64::MAX && exchange.account_of(*session).is_some())]),
+            Call::Disconnect(session) => {
+                let full = self.last == u64::MAX || self.is_full();
+                first(&[(5, full && exchange.account_of(*session).is_some())])
+            }
             Call::AddAccount(account) => first(&[
                 (1, account.id >= self.limit),
                 (3, self.accounts.contains_key(&account.id)),
@@ -210,6 +217,24 @@ impl Rule {
                 first(&[(8, !same || !listing.iter().all(agrees)), (7, !levels_fit(listing))])
             }
             _ => Ok(()),
+        }
+    }
+
+    /// No command can be numbered.
+    pub fn is_full(&self) -> bool {
+        self.flights.len() >= 256 || self.batch >= 256
+    }
+
+    /// Whether a limit of document 01, which the Rust does not have, refuses a message that nothing else refuses.
+    pub fn unavailable(&self, call: &Call, exchange: &Exchange) -> bool {
+        let Call::Receive(session, message, _) = call else { return false };
+        let Some(account) = exchange.account_of(*session) else { return false };
+        match message {
+            Inbound::NewOrder(_) => {
+                self.is_full() || self.live.len() >= 1024 || self.has_wallet(account) && self.notices >= 2048
+            }
+            Inbound::Cancel { .. } | Inbound::Modify { .. } | Inbound::MassCancel => self.is_full(),
+            _ => false,
         }
     }
 
@@ -258,6 +283,12 @@ impl Rule {
 
     /// What a call did that the Rust went through with.
     pub fn follow(&mut self, call: &Call, exchange: &Exchange) {
+        let owner = match call {
+            Call::Receive(session, Inbound::NewOrder(_), _) => exchange.account_of(*session),
+            Call::Deliver(_, Event::Cancelled { id, .. }) => self.live.get(id).map(|live| live.account),
+            _ => None,
+        };
+        self.notices += usize::from(owner.is_some_and(|owner| self.has_wallet(owner)));
         match call {
             Call::AddAccount(account) => drop(self.accounts.insert(account.id, *account)),
             Call::Connect(session, _) => drop(self.sessions.insert(*session)),
@@ -271,7 +302,13 @@ impl Rule {
             Call::Finish(_) => self.replaying = false,
             _ => {}
         }
+        match call {
+            Call::TakeBatch => self.batch = 0,
+            Call::Publish | Call::Receive(_, Inbound::Subscribe, _) => self.notices = 0,
+            _ => {}
+        }
         if exchange.last_seq() > self.last {
+            self.batch += 1;
             self.number(&match call {
                 Call::Receive(session, Inbound::NewOrder(new), _) => {
                     let owner = exchange.account_of(*session).expect("an account");

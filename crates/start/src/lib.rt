@@ -4,6 +4,7 @@ use accounts::Timing;
 use store::cells;
 ghost use mathlib.Core.List.{[]};
 ghost use Prim.Native.Nat.{_≤_, _<_};
+ghost use Rattle.gateway.specs.Fits.{AccountFits};
 ghost use Rattle.gateway.specs.Limits.{owner-slots};
 ghost use Rattle.store.specs.Cells as C;
 ghost use Rattle.store.specs.Layout.{cell, Holds};
@@ -26,10 +27,10 @@ pub fn start(m: &mut [u8], limit: u64, last: u64, timing: Timing)
     );
 }
 
-// An account is added; one that was there before is replaced.
+// An account is added; one that was there before is replaced. That its funds fit comes of their type.
 pub fn enter(m: &mut [u8], a: Account)
     requires { ⌜ State (now m) × (a .id < word (cell (now m)) C.owner-limit) ⌝ }
-    ensures { λ r. ⌜ Becomes (now (m .exit)) (P.entering a (gateway (cell (now (m .entry))))) ⌝ }
+    ensures { λ r. ⌜ Becomes (now (m .exit)) (P.entering a (gateway (cell (now (m .entry))))) × AccountFits a ⌝ }
 {
     clients::add_account(m, a);
 }

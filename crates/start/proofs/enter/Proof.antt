@@ -13,7 +13,10 @@ same-length c = search needs
 returns : tie.Need-returns
 returns c =
     let s = c .before .before .before .before .before in
-    enter-becomes (s .pre .0) _ (s .pre .1) (omega (arith, s .good)) (omega (arith, s .good)) (c .before .before .add-account .ensures .1) (c .before .before .add-account .ensures .0)
+    let added = c .before .before .add-account .ensures in (
+      enter-becomes (s .pre .0) _ (s .pre .1) (omega (arith, s .good)) (omega (arith, s .good)) (added .1) (added .0),
+      added .1,
+    )
 
 pub enter-spec : {M : Type 1} → statement M
 enter-spec = tie.close (tie.spec add-account-requires same-length returns)

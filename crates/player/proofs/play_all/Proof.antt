@@ -1,0 +1,54 @@
+use Prim.Native.Nat.{_-_}
+use borrow.Author.Needs.{needs}
+use Rattle.outcome.specs.Between.{Between}
+use Rattle.player.proofs.play_all.Statement.{statement}
+use Rattle.player.proofs.play_all.Tie as tie
+
+abbrev Inv-loop : tie.InvT-loop
+Inv-loop fd m₀ t₀ n₀ m t n = Between m
+
+abbrev μ-loop : tie.MeasureT-loop
+μ-loop fd m₀ t₀ n₀ m t n = 18446744073709551615 - n
+
+loop-holds : tie.Need-loop-holds Inv-loop μ-loop
+loop-holds c = search needs
+
+next-requires : tie.Need-next-requires Inv-loop μ-loop
+next-requires c κs = search needs
+
+add-n : tie.Need-add-n Inv-loop μ-loop
+add-n c = search needs
+
+loop-less : tie.Need-loop-less Inv-loop μ-loop
+loop-less c = search needs
+
+loop-again : tie.Need-loop-again Inv-loop μ-loop
+loop-again c = search needs
+
+same-length : tie.Need-same-length Inv-loop μ-loop
+same-length c = search needs
+
+returns : tie.Need-returns Inv-loop μ-loop
+returns c = search needs
+
+same-length-2 : tie.Need-same-length-2 Inv-loop μ-loop
+same-length-2 c = search needs
+
+returns-2 : tie.Need-returns-2 Inv-loop μ-loop
+returns-2 c = search needs
+
+pub play-all-spec : {M : Type 1} → statement M
+play-all-spec =
+    tie.close
+    (tie.spec
+    Inv-loop
+    μ-loop
+    loop-holds
+    next-requires
+    add-n
+    loop-less
+    loop-again
+    same-length
+    returns
+    same-length-2
+    returns-2)

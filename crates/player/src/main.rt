@@ -1,0 +1,387 @@
+// Plays the stored lists of calls on the proved calls, and compares each answer and each row with the Rust's. compare/README.md has the file's rows.
+use accounts::Account;
+use accounts::Funds;
+use accounts::MaybeFunds;
+use accounts::Timing;
+use libc::STDOUT_FILENO;
+use outcome::Reply;
+use protocol::LogoutReason;
+use protocol::codes;
+use protocol::codes::MaybeLogoutReason;
+ghost use Prim.Native.Nat.{_≤_};
+ghost use Rattle.gateway.specs.Limits.{owner-slots};
+ghost use Rattle.store.specs.Layout.{Holds};
+ghost use Rattle.outcome.specs.Between.{Between};
+ghost use Rattle.player.specs.Fresh.{Fresh};
+
+// ---- the words of a row
+
+fn word(row: &[u8], i: usize) -> u64 {
+    if i < 65536 {
+        return load(row, 8 * i);
+    }
+    0
+}
+
+fn load(row: &[u8], at: usize) -> u64 {
+    match le::load(row, at, 8) {
+        le::Loaded::Value(w) => w,
+        le::Loaded::Refused => 0,
+    }
+}
+
+fn small(row: &[u8], i: usize) -> u32 {
+    (word(row, i) % 4294967296) as u32
+}
+
+fn code(row: &[u8], i: usize) -> u8 {
+    (word(row, i) % 256) as u8
+}
+
+// ---- a start
+
+fn funds(row: &[u8]) -> MaybeFunds {
+    if word(row, 4) == 0 {
+        return MaybeFunds::None;
+    }
+    MaybeFunds::Some(Funds {
+        cash: words::to_i64(word(row, 5)),
+        position: words::to_i64(word(row, 6)),
+    })
+}
+
+fn account(row: &[u8]) -> Account {
+    let funds = funds(row);
+    Account {
+        id: small(row, 0),
+        token: word(row, 1),
+        max_open_orders: small(row, 2),
+        messages_per_second: small(row, 3),
+        funds,
+    }
+}
+
+fn read_account(fd: i32) -> Account {
+    let mut row = [0u8; 128];
+    io::read_full(fd, &mut row);
+    account(&row)
+}
+
+fn enter(m: &mut [u8], limit: u64, a: Account)
+    requires { ⌜ Fresh limit (now m) ⌝ }
+    ensures { λ r. ⌜ Fresh limit (now (m .exit)) ⌝ }
+{
+    if (a.id as u64) < limit {
+        start::enter(m, a);
+    }
+}
+
+fn enter_all(fd: i32, m: &mut [u8], limit: u64, n: u64)
+    requires { ⌜ Fresh limit (now m) ⌝ }
+    ensures { λ r. ⌜ Fresh limit (now (m .exit)) ⌝ }
+{
+    let mut i: u64 = 0;
+    while i < n {
+        let a = read_account(fd);
+        enter(m, limit, a);
+        i += 1;
+    }
+}
+
+fn begin(m: &mut [u8], limit: u64, last: u64, timing: Timing)
+    requires { ⌜ Holds (now m) × (limit ≤ owner-slots) ⌝ }
+    ensures { λ r. ⌜ Fresh limit (now (m .exit)) ⌝ }
+{
+    start::start(m, limit, last, timing);
+}
+
+fn set_up(fd: i32, m: &mut [u8], row: &[u8])
+    requires { ⌜ Between (now m) ⌝ }
+    ensures { λ r. ⌜ Between (now (m .exit)) ⌝ }
+{
+    let limit = word(row, 2);
+    if 256 < limit {
+        return;
+    }
+    let timing = Timing {
+        heartbeat: word(row, 4),
+        idle_timeout: word(row, 5),
+    };
+    begin(m, limit, word(row, 3), timing);
+    enter_all(fd, m, limit, word(row, 1));
+}
+
+// ---- calls: `row` has the arguments, `got` is given the answer
+
+fn put(got: &mut [u8], i: usize, w: u64) {
+    if i < 16 {
+        le::store(got, 8 * i, 8, w);
+    }
+}
+
+fn reply(got: &mut [u8], r: Reply) {
+    put(got, 2, r.code);
+    put(got, 3, r.count as u64);
+}
+
+fn connect(m: &mut [u8], row: &[u8], got: &mut [u8])
+    requires { ⌜ Between (now m) ⌝ }
+    ensures { λ r. ⌜ Between (now (m .exit)) ⌝ }
+{
+    let code = sessions::connect(m, word(row, 4) as usize, word(row, 5));
+    put(got, 2, code);
+}
+
+fn tick(m: &mut [u8], row: &[u8], got: &mut [u8], out: &mut [u8])
+    requires { ⌜ Between (now m) ⌝ }
+    ensures { λ r. ⌜ Between (now (m .exit)) ⌝ }
+{
+    let r = ticks::tick(m, word(row, 4), out);
+    reply(got, r);
+}
+
+fn reason(row: &[u8]) -> LogoutReason {
+    match codes::logout_of(code(row, 5)) {
+        MaybeLogoutReason::Some(why) => why,
+        MaybeLogoutReason::None => LogoutReason::Requested,
+    }
+}
+
+fn end(m: &mut [u8], row: &[u8], got: &mut [u8], out: &mut [u8])
+    requires { ⌜ Between (now m) ⌝ }
+    ensures { λ r. ⌜ Between (now (m .exit)) ⌝ }
+{
+    let why = reason(row);
+    let r = sessions::end(m, word(row, 4) as usize, why, out);
+    reply(got, r);
+}
+
+fn shut_down(m: &mut [u8], got: &mut [u8], out: &mut [u8])
+    requires { ⌜ Between (now m) ⌝ }
+    ensures { λ r. ⌜ Between (now (m .exit)) ⌝ }
+{
+    let r = sessions::shut_down(m, out);
+    reply(got, r);
+}
+
+fn call(m: &mut [u8], row: &[u8], got: &mut [u8], out: &mut [u8])
+    requires { ⌜ Between (now m) ⌝ }
+    ensures { λ r. ⌜ Between (now (m .exit)) ⌝ }
+{
+    match word(row, 0) {
+        2 => connect(m, row, got),
+        8 => tick(m, row, got, out),
+        10 => end(m, row, got, out),
+        11 => shut_down(m, got, out),
+        // A call that is not here differs in its number.
+        _ => put(got, 0, u64::MAX),
+    }
+}
+
+// ---- what differs
+
+fn say(text: &[u8], n: u64) {
+    io::write_all(STDOUT_FILENO, text);
+    io::print_decimal(STDOUT_FILENO, n);
+}
+
+fn say_word(i: usize, want: u64, got: u64) {
+    say(b", word ", i as u64);
+    say(b": ", want);
+    say(b" wanted, got ", got);
+    io::write_all(STDOUT_FILENO, b"\n");
+}
+
+// The first words that differ.
+fn say_difference(want: &[u8], got: &[u8]) {
+    let n = want.len() / 8;
+    let mut i: usize = 0;
+    while i < n {
+        let a = word(want, i);
+        let b = word(got, i);
+        if a != b {
+            say_word(i, a, b);
+            return;
+        }
+        i += 1;
+    }
+}
+
+// Whether the bytes are the same; if not, says where.
+fn agrees(text: &[u8], want: &[u8], got: &[u8]) -> bool {
+    if check::same(want, got) {
+        return true;
+    }
+    io::write_all(STDOUT_FILENO, text);
+    say_difference(want, got);
+    false
+}
+
+// ---- the file
+
+// The lists and the calls so far, the calls of this list, and whether to go on.
+struct Tally {
+    lists: u64,
+    calls: u64,
+    all: u64,
+    more: bool,
+}
+
+fn count(n: u64) -> u64 {
+    std::num::wrapping_add_u64(n, 1)
+}
+
+// The bytes of n places: 256 are lent at most. A level has 3 words, all else 12.
+fn bytes_of(row: &[u8], n: u64) -> usize
+    ensures { λ r. ⌜ r ≤ 24576 ⌝ }
+{
+    if 256 < n {
+        return 24576;
+    }
+    if word(row, 0) == 6 {
+        return 24 * n as usize;
+    }
+    96 * n as usize
+}
+
+// The rows that the file wants.
+fn wanted(fd: i32, row: &[u8]) -> [u8; 24576] {
+    let mut want = [0xa5u8; 24576];
+    let n = bytes_of(row, word(row, 3));
+    io::read_full(fd, &mut want[..n]);
+    want
+}
+
+fn agree(row: &[u8; 128], got: &[u8; 128], want: &[u8; 24576], out: &[u8; 24576]) -> bool {
+    agrees(b"answer", row, got) && agrees(b"rows", want, out)
+}
+
+// The row without its code and count.
+fn unanswered(row: [u8; 128]) -> [u8; 128] {
+    let mut got = row;
+    put(&mut got, 2, u64::MAX);
+    put(&mut got, 3, 0);
+    got
+}
+
+// Makes the call with places that hold 0xA5; whether all is as the file has it.
+fn play(fd: i32, m: &mut [u8], row: [u8; 128]) -> bool
+    requires { ⌜ Between (now m) ⌝ }
+    ensures { λ r. ⌜ Between (now (m .exit)) ⌝ }
+{
+    let want = wanted(fd, &row);
+    let mut out = [0xa5u8; 24576];
+    let mut got = unanswered(row);
+    let n = bytes_of(&row, word(&row, 1));
+    call(m, &row, &mut got, &mut out[..n]);
+    agree(&row, &got, &want, &out)
+}
+
+fn say_where(t: Tally) {
+    say(b" in list ", t.lists);
+    say(b", call ", t.calls);
+    io::write_all(STDOUT_FILENO, b"\n");
+}
+
+fn next_call(fd: i32, m: &mut [u8], row: [u8; 128], t: Tally) -> Tally
+    requires { ⌜ Between (now m) ⌝ }
+    ensures { λ r. ⌜ Between (now (m .exit)) ⌝ }
+{
+    let more = play(fd, m, row);
+    let after = Tally {
+        lists: t.lists,
+        calls: count(t.calls),
+        all: count(t.all),
+        more,
+    };
+    if !more {
+        say_where(after);
+    }
+    after
+}
+
+fn next_list(fd: i32, m: &mut [u8], row: &[u8], t: Tally) -> Tally
+    requires { ⌜ Between (now m) ⌝ }
+    ensures { λ r. ⌜ Between (now (m .exit)) ⌝ }
+{
+    set_up(fd, m, row);
+    Tally {
+        lists: count(t.lists),
+        calls: 0,
+        all: t.all,
+        more: true,
+    }
+}
+
+// Nothing is left of the file, or no whole row.
+fn finish(left: usize, t: Tally) -> Tally {
+    io::print_decimal(STDOUT_FILENO, t.all);
+    io::write_all(STDOUT_FILENO, b" calls agreed");
+    if left != 0 {
+        io::write_all(STDOUT_FILENO, b", and the file breaks off");
+    }
+    io::write_all(STDOUT_FILENO, b"\n");
+    Tally {
+        lists: t.lists,
+        calls: t.calls,
+        all: t.all,
+        more: false,
+    }
+}
+
+fn next(fd: i32, m: &mut [u8], t: Tally) -> Tally
+    requires { ⌜ Between (now m) ⌝ }
+    ensures { λ r. ⌜ Between (now (m .exit)) ⌝ }
+{
+    let mut row = [0u8; 128];
+    let got = io::read_full(fd, &mut row);
+    if got != 128 {
+        return finish(got, t);
+    }
+    if word(&row, 0) == 0 {
+        return next_list(fd, m, &row, t);
+    }
+    next_call(fd, m, row, t)
+}
+
+fn play_all(fd: i32, m: &mut [u8])
+    requires { ⌜ Between (now m) ⌝ }
+{
+    let mut t = Tally {
+        lists: 0,
+        calls: 0,
+        all: 0,
+        more: true,
+    };
+    let mut n: u64 = 0;
+    while n < u64::MAX && t.more {
+        t = next(fd, m, t);
+        n += 1;
+    }
+}
+
+// An empty start comes first, so that there is a state whatever the file has.
+fn run(fd: i32, m: &mut [u8; 442624]) {
+    begin(
+        m,
+        0,
+        0,
+        Timing {
+            heartbeat: 0,
+            idle_timeout: 0,
+        },
+    );
+    play_all(fd, m);
+}
+
+fn main() {
+    let path = b"calls";
+    let fd = os::open_read(path);
+    if fd < 0 {
+        os::fail(path);
+        return;
+    }
+    let mut m = [0u8; 442624];
+    run(fd, &mut m);
+    libc::close(fd);
+}
