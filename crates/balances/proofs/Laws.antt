@@ -3,9 +3,9 @@ use mathlib.Core.Path.{_≡_, refl, sym, ap, _∙_}
 use mathlib.Core.Bool.{Bool, true, false, cond, and-eq-true-iff, false≢true}
 use mathlib.Core.Option.{Option, none, some, Option·map}
 use mathlib.Core.List.{List, [], _∷_}
-use Prim.Native.Nat.{ℕ, zero, suc, _+_, _<_}
+use Prim.Native.Nat.{ℕ, zero, suc, _+_, _≤_, _<_}
 use native.Mathlib.Omega.{arith}
-use lib.ListN.{getD}
+use lib.ListN.{getD, List·getD-eq-default}
 use Rattle.orderbook.specs.declared.Side.the-variants.{Buy, Sell}
 use Rattle.protocol.specs.declared.Balance.{Balance}
 use Rattle.accounts.specs.declared.Funds.{Funds}
@@ -16,8 +16,9 @@ use Rattle.gateway.specs.Basics.{is-some}
 use Rattle.gateway.specs.Limits.{owner-slots}
 use Rattle.gateway.specs.Ledger.{Order, held, fits, wallet-fits, wallets-fit, holds-fit}
 use Rattle.gateway.specs.Rest.{Rest}
-use Rattle.gateway.specs.Entry.{wallet-at, balance-with, balance}
-use Rattle.gateway.specs.Calls.{Gateway}
+use Rattle.gateway.specs.Entry.{wallet-is, quiet, wallet-at, balance-with, balance}
+use Rattle.gateway.specs.Calls as Calls
+use Rattle.gateway.specs.Calls.{Gateway, call, plan}
 use Rattle.store.specs.Cells as C
 use Rattle.store.specs.Layout.{cell}
 use Rattle.store.specs.View.{Row, flag, wallet, ledger, gateway}
@@ -27,7 +28,11 @@ use Rattle.sound.specs.Sound.{Becomes}
 use Rattle.sound.proofs.Totals.{total-exact}
 use Rattle.outcome.specs.Between.{Between}
 use Rattle.outcome.specs.Parts.{with-rest}
-use Rattle.balances.specs.Balances.{Exact}
+use Rattle.outcome.specs.Answers.{Says}
+use Rattle.outcome.proofs.Calls.{says-done}
+use Rattle.store.proofs.Listed.{listed-length}
+use Rattle.balances.specs.declared.MaybeBalance as B
+use Rattle.balances.specs.Balances.{Exact, maybe-balance}
 
 -- ---- when the totals are exact
 
@@ -86,4 +91,18 @@ module _ (xs : List ℕ) (a : ℕ) (x : Exact xs) (l : a < owner-slots) where
   pub balance-none : (b : Bool) → b ≡ is-some (wallet row) → b ≡ false → none ≡ balance a (gateway (cell xs) .core)
   balance-none b e t = without (wallet-at a (gateway (cell xs) .core)) (ap is-some (wallet-at-row a (cell xs) l) ∙ sym e ∙ t)
 
-pub ruleset laws = (balance-is, balance-none, arith)
+-- ---- the call `wallet`
+
+module _ (xs : List ℕ) (a : ℕ) (b : Between xs) where
+  pub wallet-found : (r : B.MaybeBalance) → maybe-balance r ≡ balance a (gateway (cell xs) .core) → Says (wallet-is (maybe-balance r)) (call (gateway (cell xs)) (Calls.wallet a)) 0 xs xs
+  unfolding plan
+  wallet-found r e =
+      says-done xs (Calls.wallet a) tt b (wallet-is (maybe-balance r)) (gateway (cell xs) .rest) (ap (λ o. quiet (wallet-is o) [] (gateway (cell xs) .rest)) (sym e)) (record { state = b .state; gateway-is = refl })
+
+  -- past the slots there is nobody
+  pub wallet-past : owner-slots ≤ a → Says (wallet-is (maybe-balance B.the-variants.None)) (call (gateway (cell xs)) (Calls.wallet a)) 0 xs xs
+  wallet-past l =
+      wallet-found B.the-variants.None
+      (sym (ap (Option·map (balance-with a (gateway (cell xs) .core .ledger .orders))) (List·getD-eq-default (gateway (cell xs) .core .ledger .wallets) none {n = a} (rw (listed-length (λ i. wallet (cell xs C.accounts i)) owner-slots) l))))
+
+pub ruleset laws = (wallet-found, wallet-past, exact-between, balance-is, balance-none, arith)

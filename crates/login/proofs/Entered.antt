@@ -17,7 +17,6 @@ use Rattle.protocol.specs.declared.LoginError.the-variants.{UnsupportedVersion,
 use Rattle.table.specs.Live.{Each}
 use Rattle.gateway.specs.Basics.{option, is-some}
 use Rattle.gateway.specs.Limits.{owner-slots, session-slots, protocol-version}
-use Rattle.gateway.specs.Ledger.{holds-fit}
 use Rattle.gateway.specs.Core.{Core, account-at}
 use Rattle.gateway.specs.Rest.{Session, send, close, Rest, at-time, with-sessions, session-at, session-of, account-of, is-present, update-session, set-account, set-received, set-sent, stamped}
 use Rattle.gateway.specs.Entry.{token-is, wallet-at, balance-with, balance, balance-to, login-tests, greet, ended, logged-in}
@@ -35,9 +34,9 @@ use Rattle.sound.proofs.Clients.{log-in-sound}
 use Rattle.mailbox.specs.Mailbox.{places, put-mail, mailed}
 use Rattle.mailbox.proofs.Rows.{mailed-one}
 use Rattle.balances.specs.declared.MaybeBalance as B
-use Rattle.balances.specs.Balances.{Exact, maybe-balance}
+use Rattle.balances.specs.Balances.{maybe-balance}
+use Rattle.balances.proofs.Laws.{exact-between}
 use Rattle.outcome.specs.declared.Reply.{Reply}
-use Rattle.outcome.specs.Between.{Between}
 use Rattle.outcome.specs.Parts.{with-rest, rest-of, heard, heard-last, Sends, Posts, Tries, short, sent, Speaks}
 use Rattle.outcome.specs.Answers.{Gives, failed}
 use Rattle.outcome.proofs.Laws.{then-becomes}
@@ -144,9 +143,6 @@ module _ (xs out : List ℕ) (s a t : ℕ) where
 
   module _ {zs : List ℕ} (b : Becomes zs (with-rest (logged s a t) g)) where
     -- neither the wallets nor the orders nor the delivered number have changed
-    pub linked-exact : Exact xs → Exact zs
-    linked-exact x = record { state = b .state; fit = ap (λ (h : Gateway). holds-fit (h .core .ledger)) (b .gateway-is) ∙ x .fit }
-
     pub linked-rows : (n : ℕ) → login-rows a g ≤ n → login-rows a (gateway (cell zs)) ≤ n
     linked-rows n l = omega (arith, ap (λ (h : Gateway). login-rows a h) (b .gateway-is))
 
@@ -242,10 +238,6 @@ module _ (xs out : List ℕ) (s version a token t : ℕ) (h : Speaks s none xs) 
         Gives (call (gateway (cell xs)) (receive-from s (In.Login version a token) t (places (length out)))) r xs ys out end
     login-accepted d = gives-tried xs out (receive-from s (In.Login version a token) t (places (length out))) tt (h .between) (login-mail s a (gateway (cell xs))) (logged s a t) (plan-is none (ap maybe-error w)) d
 
--- what it asks of the balances
-pub between-exact : (xs : List ℕ) → Between xs → Exact xs
-between-exact xs b = record { state = b .state; fit = b .ok .core-is .holds }
-
 module _ (xs out : List ℕ) (s a t n p : ℕ) (e : n ≡ login-rows a (gateway (cell xs))) (room : p ≡ places (length out)) where
   pub accept-short : p < n → Tries (login-mail s a (gateway (cell xs))) (logged s a t) (record { code = 6; count = 0 }) xs xs out out
   accept-short l = short (omega (arith, login-length s a (gateway (cell xs)))) refl refl refl
@@ -264,4 +256,4 @@ one-row xs a b l e t = ap (λ (c : Bool). cond c 1 0) (sym t ∙ funded-rows xs 
 pub no-row : (xs : List ℕ) (a : ℕ) (b : Bool) → a < owner-slots → b ≡ is-some (wallet (cell xs C.accounts a)) → b ≡ false → 0 ≡ balance-rows a (gateway (cell xs) .core)
 no-row xs a b l e t = ap (λ (c : Bool). cond c 1 0) (sym t ∙ funded-rows xs a b l e)
 
-pub ruleset laws = (judging, told, one-row, no-row, link-becomes, heard-linked, linked-exact, linked-rows, enter-sends, post-done, no-balance, one-balance, balance-room, login-refused, login-free, login-accepted, between-exact, accept-short, accept-done, arith)
+pub ruleset laws = (judging, told, one-row, no-row, link-becomes, heard-linked, linked-rows, enter-sends, post-done, no-balance, one-balance, balance-room, login-refused, login-free, login-accepted, exact-between, accept-short, accept-done, arith)

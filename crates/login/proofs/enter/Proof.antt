@@ -1,4 +1,6 @@
-use Rattle.login.proofs.Entered.{laws, heard-linked, linked-exact, linked-rows}
+use Rattle.login.proofs.Entered.{laws, heard-linked, linked-rows}
+use Rattle.balances.proofs.Laws.{exact-becomes}
+use Rattle.login.specs.Login.{logged}
 use borrow.Author.Needs.{needs}
 use Rattle.login.proofs.enter.Statement.{statement}
 use Rattle.login.proofs.enter.Tie as tie
@@ -15,7 +17,7 @@ post-requires c κs =
     let k = h .before .before .before .before in
     let s = k .before .before .before .before in
     let b = heard-linked (s .args .m .now) (s .args .out .now) (s .args .s) (s .args .a) (s .args .time) (s .pre .1 .slot) (k .link .ensures) (h .hear .ensures) in
-    (linked-exact (s .args .m .now) (s .args .out .now) (s .args .s) (s .args .a) (s .args .time) b (s .pre .0), s .pre .1 .owner, linked-rows (s .args .m .now) (s .args .out .now) (s .args .s) (s .args .a) (s .args .time) b _ (s .pre .2))
+    (exact-becomes (logged (s .args .s) (s .args .a) (s .args .time)) (s .pre .0) b, s .pre .1 .owner, linked-rows (s .args .m .now) (s .args .out .now) (s .args .s) (s .args .a) (s .args .time) b _ (s .pre .2))
 
 stamp-requires : tie.Need-stamp-requires
 stamp-requires c κs = search needs
