@@ -3,13 +3,11 @@ use orderbook::Command;
 use outcome::Reply;
 use store::cells;
 ghost use mathlib.Core.Path.{_≡_};
-ghost use mathlib.Core.Bool.{true, cond};
+ghost use mathlib.Core.Bool.{true};
 ghost use mathlib.Core.List.{[], map};
-ghost use Prim.Native.Nat.{_+_, _-_, _*_, _≤_, _<_};
+ghost use Prim.Native.Nat.{_*_, _≤_, _<_};
 ghost use lib.ListN.{length};
 ghost use Rattle.gateway.specs.Limits.{owner-slots, most-in-batch};
-ghost use Rattle.gateway.specs.Core as Core;
-ghost use Rattle.gateway.specs.Ledger.{owner-of};
 ghost use Rattle.gateway.specs.Rest.{with-batch};
 ghost use Rattle.gateway.specs.Entry.{nothing, account-was, queued};
 ghost use Rattle.gateway.specs.Calls.{call, take-batch, detach, disconnect, without-session};
@@ -42,47 +40,23 @@ pub fn can_number(m: &[u8]) -> bool
     let flying = pending::header::word_at(m, cells::FLYING);
     let waiting = pending::header::word_at(m, cells::WAITING);
     let last = pending::header::word_at(m, cells::LAST);
-    flying < MOST_IN_FLIGHT && waiting < MOST_IN_BATCH && last < MOST
-}
-
-// Whom a command acts for; a phase change counts as 0's.
-fn owner_of(command: Command) -> u64
-    ensures { λ r. ⌜ r ≡ owner-of command ⌝ }
-{
-    match command {
-        Command::Limit { owner, .. } => owner as u64,
-        Command::Market { owner, .. } => owner as u64,
-        Command::Cancel { owner, .. } => owner as u64,
-        Command::Modify { owner, .. } => owner as u64,
-        Command::Stop { owner, .. } => owner as u64,
-        Command::CancelAll { owner } => owner as u64,
-        Command::SetPhase { phase: _ } => 0,
+    if flying < MOST_IN_FLIGHT {
+        if waiting < MOST_IN_BATCH {
+            return last < MOST;
+        }
     }
+    false
 }
 
-// 1 where the command places an order.
-fn places(command: Command) -> u64
-    ensures { λ r. ⌜ r ≡ cond (Core.places command) 1 0 ⌝ }
-{
-    match command {
-        Command::Limit { .. } => 1,
-        Command::Market { .. } => 1,
-        Command::Stop { .. } => 1,
-        _ => 0,
-    }
-}
-
-// The command has the next number, and is in flight; the sender is a session plus one, 0 for SYSTEM.
-pub fn take_off(m: &mut [u8], sender: u64, command: Command)
+// The next number is in flight, for an owner; the sender is a session plus one, 0 for SYSTEM, and `places` 1 where an order is placed.
+pub fn take_off(m: &mut [u8], sender: u64, owner: u64, places: u64)
     requires { ⌜ State (now m) × (P.can-number (gateway (cell (now m))) ≡ true) ⌝ }
-    ensures { λ r. ⌜ Becomes (now (m .exit)) (P.flying sender command (gateway (cell (now (m .entry))))) × P.Unplaced (now (m .exit)) ⌝ }
+    ensures { λ r. ⌜ Becomes (now (m .exit)) (P.flying sender owner places (gateway (cell (now (m .entry))))) × P.Unplaced (now (m .exit)) ⌝ }
 {
-    let owner = owner_of(command);
-    let places = places(command);
     pending::take_off(m, sender, owner, places);
 }
 
-// It joins the batch.
+// The command joins the batch.
 pub fn queue(m: &mut [u8], command: Command)
     requires { ⌜ State (now m) × (length (rest-of (now m) .batch) < most-in-batch) × Batched command ⌝ }
     ensures { λ r. ⌜ Becomes (now (m .exit)) (with-rest (queued command) (gateway (cell (now (m .entry))))) ⌝ }
@@ -90,12 +64,12 @@ pub fn queue(m: &mut [u8], command: Command)
     pending::batch::push_command(m, command);
 }
 
-// Both, for a command that places nothing: one that does is placed in between.
-pub fn push(m: &mut [u8], sender: u64, command: Command)
-    requires { ⌜ State (now m) × (P.can-number (gateway (cell (now m))) ≡ true) × Batched command ⌝ }
-    ensures { λ r. ⌜ Becomes (now (m .exit)) (P.pushed sender command (gateway (cell (now (m .entry))))) ⌝ }
+// Numbers a command that places nothing, and puts it into the batch.
+pub fn push(m: &mut [u8], sender: u64, owner: u64, command: Command)
+    requires { ⌜ State (now m) × (P.can-number (gateway (cell (now m))) ≡ true) × P.Plain owner command ⌝ }
+    ensures { λ r. ⌜ Becomes (now (m .exit)) (P.numbered sender command (gateway (cell (now (m .entry))))) ⌝ }
 {
-    take_off(m, sender, command);
+    take_off(m, sender, owner, 0);
     queue(m, command);
 }
 
@@ -196,13 +170,8 @@ pub fn disconnect(m: &mut [u8], s: usize) -> u64
     }
     if can_number(m) {
         forget(m, s);
-        push(
-            m,
-            0,
-            Command::CancelAll {
-                owner: (a - 1) as u32,
-            },
-        );
+        let owner = (a - 1) as u32;
+        push(m, 0, a - 1, Command::CancelAll { owner });
         return 0;
     }
     outcome::FULL
