@@ -1,5 +1,5 @@
 -- An order-entry message: its tests, and what its parts do.
-use Prim.Native.Nat.{ℕ, _<_}
+use Prim.Native.Nat.{ℕ, _+_, _<_}
 use mathlib.Core.Path.{_≡_}
 use mathlib.Core.Bool.{Bool, true, false, cond, _&&_}
 use mathlib.Core.Option.{Option, some}
@@ -20,7 +20,7 @@ use Rattle.risk.specs.declared.Bucket.{Bucket}
 use Rattle.wallet.specs.Wallet as W
 use Rattle.risk.specs.Collar.{near-market}
 use Rattle.gateway.specs.Basics.{option, is-some}
-use Rattle.gateway.specs.Limits.{most-orders, most-notices}
+use Rattle.gateway.specs.Limits.{owner-slots, most-orders, most-notices}
 use Rattle.gateway.specs.Ledger.{command, price-option, fits, held, open-of}
 use Rattle.gateway.specs.Core.{Tests, Core, Origin, account-at, core-step, fits-after}
 use Rattle.gateway.specs.Rest.{Rest, with-buckets}
@@ -30,10 +30,12 @@ use Rattle.store.specs.Layout.{cell}
 use Rattle.store.specs.View.{gateway}
 use Rattle.orders.specs.declared.Live.{Live}
 use Rattle.orders.specs.Orders as Orders
+use Rattle.pending.specs.Pending.{Batched}
+use Rattle.live.specs.Live as Live
 use Rattle.mailbox.specs.Mailbox.{places}
 use Rattle.outcome.specs.declared.Reply.{Reply}
 use Rattle.outcome.specs.Between.{Between}
-use Rattle.outcome.specs.Parts.{rest-of, heard}
+use Rattle.outcome.specs.Parts.{with-rest, rest-of, heard}
 use Rattle.outcome.specs.Answers.{Ends, Sent}
 use Rattle.commands.specs.Commands as Commands
 
@@ -112,6 +114,18 @@ other-plan s a allowed k t g = with-token s a 0 (g .core) (heard s t (g .rest)) 
 -- o has the words of account a's new order
 pub record Stands (a : ℕ) (q : NewOrder) (o : Live) : Type 0 where
   pub is : (n : ℕ) → Orders.order-of n o ≡ record { number = n; account = a; client-ref = q .«client_ref»; side = q .side; price = price-of (q .kind); leaves = q .qty }
+
+-- what is asked before the order o is numbered: its number is the next, and k its command
+pub record CanPlace (n : ℕ) (o : Live) (k : Command) (g : Gateway) : Type 0 where
+  pub can : Commands.can-number g ≡ true
+  pub room : length (g .core .ledger .orders) < most-orders
+  pub next-is : n ≡ next (g .core)
+  pub owner-is : o .account < owner-slots
+  pub batched : Batched k
+
+-- it is numbered, live and in the batch
+abbrev pub in-book : ℕ → ℕ → Live → Command → Gateway → Gateway
+in-book s n o k g = with-rest (queued k) (Live.with-ledger (Live.placing n o) (Commands.flying (s + 1) (o .account) 1 g))
 
 -- the order of session s is numbered, placed, noticed and in the batch
 abbrev pub placed : ℕ → ℕ → NewOrder → Gateway → Gateway

@@ -42,7 +42,7 @@ ghost use Rattle.store.specs.Layout.{cell};
 ghost use Rattle.store.specs.View.{word, gateway};
 ghost use Rattle.pending.specs.Pending.{Batched};
 ghost use Rattle.sound.specs.Sound.{held-cell, State, Becomes};
-ghost use Rattle.live.specs.Live as Live;
+ghost use Rattle.live.specs.Live.{hold-notice};
 ghost use Rattle.mailbox.specs.Mailbox.{places};
 ghost use Rattle.outcome.specs.Parts.{with-rest, rest-of, Speaks};
 ghost use Rattle.outcome.specs.Answers.{Gives};
@@ -143,11 +143,11 @@ fn judge_other(m: &[u8], passed: bool, allowed: bool) -> MaybeRejectCode
 }
 
 fn push(m: &mut [u8], s: usize, a: usize, bucket: Bucket, k: Command, time: u64)
-    requires { ⌜ State (now m) × (s < session-slots) × (a < owner-slots) × (Commands.can-number (gateway (cell (now m))) ≡ true) × Batched k ⌝ }
-    ensures { λ r. ⌜ Becomes (now (m .exit)) (Commands.pushed (s + 1) k (with-rest (P.after s a bucket time) (gateway (cell (now (m .entry)))))) ⌝ }
+    requires { ⌜ State (now m) × (s < session-slots) × (a < owner-slots) × (Commands.can-number (gateway (cell (now m))) ≡ true) × Commands.Plain a k ⌝ }
+    ensures { λ r. ⌜ Becomes (now (m .exit)) (Commands.numbered (s + 1) k (with-rest (P.after s a bucket time) (gateway (cell (now (m .entry)))))) ⌝ }
 {
     begin(m, s, a, bucket, time);
-    commands::push(m, s as u64 + 1, k);
+    commands::push(m, s as u64 + 1, a as u64, k);
 }
 
 fn enter_other(
@@ -159,7 +159,7 @@ fn enter_other(
     time: u64,
     out: &mut [u8],
 ) -> Reply
-    requires { ⌜ Speaks s (some a) (now m) × Batched k × (Ledger.order-of k ≡ none) ⌝ }
+    requires { ⌜ Speaks s (some a) (now m) × Commands.Plain a k ⌝ }
     ensures { λ r. ⌜ P.Does (P.other-plan s a allowed k time (gateway (cell (now (m .entry))))) r (now (m .entry)) (now (m .exit)) (now (out .entry)) (now (out .exit)) ⌝ }
 {
     let t = take_token(m, a, time);
@@ -376,7 +376,7 @@ const MOST_NOTICES: u64 = 2048;
 // For the notice of what it holds.
 fn notice_room(m: &[u8], a: usize, hold: u64) -> bool
     requires { ⌜ State (now m) × (a < owner-slots) ⌝ }
-    ensures { λ r. ⌜ r ≡ leb (length (Live.hold-notice a (int 0) (int hold) (cell (now (m .entry)))) + word (cell (now (m .entry))) C.notice-rows) most-notices ⌝ }
+    ensures { λ r. ⌜ r ≡ leb (length (hold-notice a (int 0) (int hold) (cell (now (m .entry)))) + word (cell (now (m .entry))) C.notice-rows) most-notices ⌝ }
 {
     let n = pending::header::word_at(m, cells::NOTICE_ROWS);
     if hold == 0 {
@@ -455,10 +455,10 @@ fn judge_new(m: &[u8], a: usize, passed: bool, order: NewOrder) -> MaybeRejectCo
 
 // It is numbered, placed and in the batch.
 fn place(m: &mut [u8], s: usize, number: u64, o: Live, k: Command)
-    requires { ⌜ State (now m) × (s < session-slots) ⌝ }
-    ensures { λ r. ⌜ State (now (m .exit)) ⌝ }
+    requires { ⌜ State (now m) × (s < session-slots) × P.CanPlace number o k (gateway (cell (now m))) ⌝ }
+    ensures { λ r. ⌜ Becomes (now (m .exit)) (P.in-book s number o k (gateway (cell (now (m .entry))))) ⌝ }
 {
-    commands::take_off(m, s as u64 + 1, k);
+    commands::take_off(m, s as u64 + 1, o.account, 1);
     live::place(m, number, o);
     commands::queue(m, k);
 }

@@ -1,0 +1,14 @@
+use Rattle.orderentry.proofs.few_open.Statement.{statement}
+use Rattle.orderentry.proofs.few_open.Tie as tie
+
+open-orders-requires : tie.Need-open-orders-requires
+open-orders-requires c κs = search laws
+
+max-open-requires : tie.Need-max-open-requires
+max-open-requires c κs = search laws
+
+returns : tie.Need-returns
+returns c = search laws
+
+pub few-open-spec : {M : Type 1} → statement M
+few-open-spec = tie.close (tie.spec open-orders-requires max-open-requires returns)

@@ -1,0 +1,25 @@
+use borrow.Author.Needs.{needs}
+use Rattle.orderentry.proofs.held_at.Statement.{statement}
+use Rattle.orderentry.proofs.held_at.Tie as tie
+
+enum-told : tie.Need-enum-told
+enum-told c = search needs
+
+get-requires : tie.Need-get-requires
+get-requires c κs = search needs
+
+enum-told-2 : tie.Need-enum-told-2
+enum-told-2 c = search needs
+
+get-requires-2 : tie.Need-get-requires-2
+get-requires-2 c κs = search needs
+
+returns : tie.Need-returns
+returns c = search laws
+
+returns-2 : tie.Need-returns-2
+returns-2 c = search laws
+
+pub held-at-spec : {M : Type 1} → statement M
+held-at-spec =
+    tie.close (tie.spec enum-told get-requires enum-told-2 get-requires-2 returns returns-2)
