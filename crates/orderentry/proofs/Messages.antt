@@ -224,12 +224,13 @@ module _ (xs out : List ℕ) (s a t : ℕ) where
   unfolding hear unless
   mass-done ys end r h d = gives xs out ys end s a In.MassCancel t r h tt d
 
-  pub modify-done : (ys end : List ℕ) (i : ℕ) (p : ℤ) (q : ℕ) (f : Bool) (r : Reply) → Speaks s (some a) xs → f ≡ is-some (wallet (cell xs C.accounts a)) → Does (other-plan s a (not f) (Modify i a p q) t (gateway (cell xs))) r xs ys out end →
+  pub modify-done : (ys end : List ℕ) (i : ℕ) (p z : ℤ) (q : ℕ) (f : Bool) (r : Reply) → Speaks s (some a) xs → z ≡ p → f ≡ is-some (wallet (cell xs C.accounts a)) → Does (other-plan s a (not f) (Modify i a z q) t (gateway (cell xs))) r xs ys out end →
       Gives (call (gateway (cell xs)) (receive-from s (In.Modify i p q) t (places (length out)))) r xs ys out end
   unfolding hear
-  modify-done ys end i p q f r h e d =
+  modify-done ys end i p z q f r h z-is e d =
       gives xs out ys end s a (In.Modify i p q) t r h tt
-      (subst (λ b. Does (other-plan s a (not b) (Modify i a p q) t (gateway (cell xs))) r xs ys out end) (e ∙ ap is-some (sym (wallet-at-row a (cell xs) (slot (exists h))))) d)
+      (subst (λ b. Does (other-plan s a (not b) (Modify i a p q) t (gateway (cell xs))) r xs ys out end) (e ∙ ap is-some (sym (wallet-at-row a (cell xs) (slot (exists h)))))
+      (subst (λ x. Does (other-plan s a (not f) (Modify i a x q) t (gateway (cell xs))) r xs ys out end) z-is d))
 
 pub plain-cancel : (i a : ℕ) → Commands.Plain a (Cancel i a)
 unfolding order-of owner-of

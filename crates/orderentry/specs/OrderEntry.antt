@@ -10,6 +10,7 @@ use lib.ListN.{length, set}
 use lib.Dec.{ltb, leb}
 use Rattle.orderbook.specs.declared.Side.{Side}
 use Rattle.orderbook.specs.declared.Command.{Command}
+use Rattle.protocol.specs.declared.Inbound.the-variants as In
 use Rattle.protocol.specs.declared.NewOrder.{NewOrder}
 use Rattle.protocol.specs.declared.OrderKind.{OrderKind}
 use Rattle.protocol.specs.declared.RejectCode.{RejectCode}
@@ -25,6 +26,7 @@ use Rattle.gateway.specs.Ledger.{command, price-option, fits, held, open-of}
 use Rattle.gateway.specs.Core.{Tests, Core, Origin, account-at, core-step, fits-after}
 use Rattle.gateway.specs.Rest.{Rest, with-buckets}
 use Rattle.gateway.specs.Entry.{Plan, with-token, enter-other, next, queued, noticing, new-notice, price-of, command-of, wallet-at, balance-with, covered, most-open, paper-tests}
+use Rattle.gateway.specs.Fits.{InboundFits}
 use Rattle.gateway.specs.Calls.{Gateway, carry-out, within}
 use Rattle.store.specs.Layout.{cell}
 use Rattle.store.specs.View.{gateway}
@@ -111,9 +113,10 @@ after s a b t r = with-bucket a b (heard s t r)
 abbrev pub other-plan : ℕ → ℕ → Bool → Command → ℕ → Gateway → Plan
 other-plan s a allowed k t g = with-token s a 0 (g .core) (heard s t (g .rest)) (enter-other s ((NotAllowed, allowed) ∷ []) k (g .core))
 
--- o has the words of account a's new order
+-- o has the words of account a's new order, whose numbers fit their Rust types
 pub record Stands (a : ℕ) (q : NewOrder) (o : Live) : Type 0 where
   pub is : (n : ℕ) → Orders.order-of n o ≡ record { number = n; account = a; client-ref = q .«client_ref»; side = q .side; price = price-of (q .kind); leaves = q .qty }
+  pub fits : InboundFits (In.NewOrder q)
 
 -- what is asked before the order o is numbered: its number is the next, and k its command
 pub record CanPlace (n : ℕ) (o : Live) (k : Command) (g : Gateway) : Type 0 where

@@ -420,32 +420,36 @@ fn hold_fits(m: &[u8], a: usize, side: Side, hold: u64) -> bool
     true
 }
 
-fn has_place(m: &[u8], a: usize, order: NewOrder) -> bool
-    requires { ⌜ P.Exists a (now m) ⌝ }
+fn has_place(m: &[u8], a: usize, order: NewOrder, o: Live) -> bool
+    requires { ⌜ P.Exists a (now m) × P.Stands a order o ⌝ }
     ensures { λ r. ⌜ r ≡ P.has-place a order (gateway (cell (now (m .entry)))) ⌝ }
 {
-    let o = live_of(a, order);
     let side = order.side;
     let hold = live::hold_of(o.side, o.priced, o.price, o.leaves);
     let live = pending::header::word_at(m, cells::LIVE_ORDERS);
-    live < MOST_ORDERS && notice_room(m, a, hold) && hold_fits(m, a, side, hold)
-}
-
-fn has_room(m: &[u8], a: usize, order: NewOrder) -> bool
-    requires { ⌜ P.Exists a (now m) ⌝ }
-    ensures { λ r. ⌜ r ≡ P.has-room a order (gateway (cell (now (m .entry)))) ⌝ }
-{
-    if commands::can_number(m) {
-        return has_place(m, a, order);
+    if live < MOST_ORDERS {
+        if notice_room(m, a, hold) {
+            return hold_fits(m, a, side, hold);
+        }
     }
     false
 }
 
-fn judge_new(m: &[u8], a: usize, passed: bool, order: NewOrder) -> MaybeRejectCode
-    requires { ⌜ P.Exists a (now m) ⌝ }
+fn has_room(m: &[u8], a: usize, order: NewOrder, o: Live) -> bool
+    requires { ⌜ P.Exists a (now m) × P.Stands a order o ⌝ }
+    ensures { λ r. ⌜ r ≡ P.has-room a order (gateway (cell (now (m .entry)))) ⌝ }
+{
+    if commands::can_number(m) {
+        return has_place(m, a, order, o);
+    }
+    false
+}
+
+fn judge_new(m: &[u8], a: usize, passed: bool, order: NewOrder, o: Live) -> MaybeRejectCode
+    requires { ⌜ P.Exists a (now m) × P.Stands a order o ⌝ }
     ensures { λ r. ⌜ r ≡ P.first (P.new-order-tests a order passed (gateway (cell (now (m .entry))))) ⌝ }
 {
-    let room = check(has_room(m, a, order), RejectCode::Unavailable);
+    let room = check(has_room(m, a, order, o), RejectCode::Unavailable);
     let paper = or_else(judge_paper(m, a, order), room);
     let few = or_else(check(few_open(m, a), RejectCode::TooManyOrders), paper);
     or_else(check(passed, RejectCode::Throttled), few)
@@ -463,26 +467,25 @@ fn place(m: &mut [u8], s: usize, number: u64, o: Live, k: Command)
     commands::queue(m, k);
 }
 
-fn place_new(m: &mut [u8], s: usize, a: usize, order: NewOrder)
-    requires { ⌜ State (now m) × (s < session-slots) × (a < owner-slots) × (P.has-room a order (gateway (cell (now m))) ≡ true) ⌝ }
+fn place_new(m: &mut [u8], s: usize, a: usize, order: NewOrder, o: Live)
+    requires { ⌜ State (now m) × (s < session-slots) × (a < owner-slots) × (P.has-room a order (gateway (cell (now m))) ≡ true) × P.Stands a order o ⌝ }
     ensures { λ r. ⌜ Becomes (now (m .exit)) (P.placed s a order (gateway (cell (now (m .entry))))) ⌝ }
 {
     let number = pending::header::word_at(m, cells::LAST) + 1;
-    let o = live_of(a, order);
     let side = order.side;
     let kind = order.kind;
     let k = command_of(number, a, side, order.qty, kind);
-    place(m, s, number, o, k);
     let hold = live::hold_of(o.side, o.priced, o.price, o.leaves);
+    place(m, s, number, o, k);
     live::notice_hold(m, o.account, 0, hold);
 }
 
-fn enter_new(m: &mut [u8], s: usize, a: usize, bucket: Bucket, order: NewOrder, time: u64)
-    requires { ⌜ State (now m) × (s < session-slots) × (a < owner-slots) × (P.has-room a order (gateway (cell (now m))) ≡ true) ⌝ }
+fn enter_new(m: &mut [u8], s: usize, a: usize, bucket: Bucket, order: NewOrder, o: Live, time: u64)
+    requires { ⌜ State (now m) × (s < session-slots) × (a < owner-slots) × (P.has-room a order (gateway (cell (now m))) ≡ true) × P.Stands a order o ⌝ }
     ensures { λ r. ⌜ Becomes (now (m .exit)) (P.placed s a order (with-rest (P.after s a bucket time) (gateway (cell (now (m .entry)))))) ⌝ }
 {
     begin(m, s, a, bucket, time);
-    place_new(m, s, a, order);
+    place_new(m, s, a, order, o);
 }
 
 pub fn new_order(
@@ -496,13 +499,14 @@ pub fn new_order(
     requires { ⌜ Speaks s (some a) (now m) ⌝ }
     ensures { λ r. ⌜ Gives (call (gateway (cell (now (m .entry)))) (receive-from s (In.NewOrder order) time (places (length (now (out .entry)))))) r (now (m .entry)) (now (m .exit)) (now (out .entry)) (now (out .exit)) ⌝ }
 {
+    let o = live_of(a, order);
     let t = take_token(m, a, time);
     let bucket = t.bucket;
-    let v = judge_new(m, a, t.passed, order);
+    let v = judge_new(m, a, t.passed, order, o);
     match v {
         MaybeRejectCode::Some(why) => refuse(m, s, a, bucket, why, order.client_ref, time, out),
         MaybeRejectCode::None => {
-            enter_new(m, s, a, bucket, order, time);
+            enter_new(m, s, a, bucket, order, o, time);
             Reply { code: 0, count: 0 }
         }
     }

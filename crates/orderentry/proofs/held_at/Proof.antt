@@ -1,3 +1,4 @@
+use Rattle.orderentry.proofs.Testing.{testing}
 use borrow.Author.Needs.{needs}
 use Rattle.orderentry.proofs.held_at.Statement.{statement}
 use Rattle.orderentry.proofs.held_at.Tie as tie
@@ -15,10 +16,10 @@ get-requires-2 : tie.Need-get-requires-2
 get-requires-2 c κs = search needs
 
 returns : tie.Need-returns
-returns c = search laws
+returns c = search testing
 
 returns-2 : tie.Need-returns-2
-returns-2 c = search laws
+returns-2 c = search testing
 
 pub held-at-spec : {M : Type 1} → statement M
 held-at-spec =

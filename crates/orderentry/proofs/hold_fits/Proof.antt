@@ -1,12 +1,13 @@
+use Rattle.orderentry.proofs.Testing.{testing}
 use borrow.Author.Needs.{needs}
 use Rattle.orderentry.proofs.hold_fits.Statement.{statement}
 use Rattle.orderentry.proofs.hold_fits.Tie as tie
 
 is-funded-requires : tie.Need-is-funded-requires
-is-funded-requires c κs = search laws
+is-funded-requires c κs = search testing
 
 held-at-requires : tie.Need-held-at-requires
-held-at-requires c κs = search laws
+held-at-requires c κs = search testing
 
 total-requires : tie.Need-total-requires
 total-requires c κs = search needs
@@ -15,10 +16,10 @@ fits-requires : tie.Need-fits-requires
 fits-requires c κs = search needs
 
 returns : tie.Need-returns
-returns c = search laws
+returns c = search testing
 
 returns-2 : tie.Need-returns-2
-returns-2 c = search laws
+returns-2 c = search testing
 
 pub hold-fits-spec : {M : Type 1} → statement M
 hold-fits-spec =

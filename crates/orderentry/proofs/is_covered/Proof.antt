@@ -1,3 +1,4 @@
+use Rattle.orderentry.proofs.Testing.{testing}
 use borrow.Author.Needs.{needs}
 use Rattle.orderentry.proofs.is_covered.Statement.{statement}
 use Rattle.orderentry.proofs.is_covered.Tie as tie
@@ -15,10 +16,10 @@ enum-told : tie.Need-enum-told
 enum-told c = search needs
 
 returns : tie.Need-returns
-returns c = search laws
+returns c = search testing
 
 returns-2 : tie.Need-returns-2
-returns-2 c = search laws
+returns-2 c = search testing
 
 pub is-covered-spec : {M : Type 1} → statement M
 is-covered-spec =

@@ -1,3 +1,4 @@
+use Rattle.orderentry.proofs.Testing.{testing}
 use borrow.Author.Needs.{needs}
 use Rattle.orderentry.proofs.judge_kind.Statement.{statement}
 use Rattle.orderentry.proofs.judge_kind.Tie as tie
@@ -18,13 +19,13 @@ enum-told-2 : tie.Need-enum-told-2
 enum-told-2 c = search needs
 
 returns : tie.Need-returns
-returns c = search laws
+returns c = search testing
 
 returns-2 : tie.Need-returns-2
-returns-2 c = search laws
+returns-2 c = search testing
 
 returns-3 : tie.Need-returns-3
-returns-3 c = search laws
+returns-3 c = search testing
 
 pub judge-kind-spec : {M : Type 1} → statement M
 judge-kind-spec =

@@ -1,3 +1,4 @@
+use Rattle.orderentry.proofs.Testing.{testing}
 use borrow.Author.Needs.{needs}
 use Rattle.orderentry.proofs.judge_limit.Statement.{statement}
 use Rattle.orderentry.proofs.judge_limit.Tie as tie
@@ -18,7 +19,7 @@ or-else-requires : tie.Need-or-else-requires
 or-else-requires c κs = search needs
 
 returns : tie.Need-returns
-returns c = search laws
+returns c = search testing
 
 pub judge-limit-spec : {M : Type 1} → statement M
 judge-limit-spec =

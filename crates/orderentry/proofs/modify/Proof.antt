@@ -1,3 +1,4 @@
+use Rattle.words.proofs.Int.{read}
 use Rattle.orderentry.proofs.Messages.{exists, row-needs, account-cast, plain-modify, modify-done}
 use borrow.Author.Needs.{needs}
 use Rattle.orderentry.proofs.modify.Statement.{statement}
@@ -20,7 +21,7 @@ same-length-2 c = search needs
 
 returns : tie.Need-returns
 returns c = let s = c .before .before .before .before .before .before .before .before .before .before .before in
-    modify-done (s .args .m .now) (s .args .out .now) (s .args .s) (s .args .a) (s .args .time) _ _ _ _ _ _ _ (s .pre) (c .before .before .before .before .before .before .before .is-funded .ensures) (c .before .before .before .before .enter-other .ensures)
+    modify-done (s .args .m .now) (s .args .out .now) (s .args .s) (s .args .a) (s .args .time) _ _ _ (s .args .price) _ _ _ _ (s .pre) (read {x = s .args .price} (s .fits .price .sfits)) (c .before .before .before .before .before .before .before .is-funded .ensures) (c .before .before .before .before .enter-other .ensures)
 
 pub modify-spec : {M : Type 1} → statement M
 modify-spec =
