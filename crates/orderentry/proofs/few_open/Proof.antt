@@ -1,12 +1,13 @@
+use Rattle.orderentry.proofs.Messages.{row-needs}
 use Rattle.orderentry.proofs.Testing.{testing}
 use Rattle.orderentry.proofs.few_open.Statement.{statement}
 use Rattle.orderentry.proofs.few_open.Tie as tie
 
 open-orders-requires : tie.Need-open-orders-requires
-open-orders-requires c κs = search testing
+open-orders-requires c κs = row-needs (c .before .pre)
 
 max-open-requires : tie.Need-max-open-requires
-max-open-requires c κs = search testing
+max-open-requires c κs = row-needs (c .before .before .pre)
 
 returns : tie.Need-returns
 returns c = search testing

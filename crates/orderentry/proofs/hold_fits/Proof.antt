@@ -1,13 +1,14 @@
+use Rattle.orderentry.proofs.Messages.{slot, row-needs}
 use Rattle.orderentry.proofs.Testing.{testing}
 use borrow.Author.Needs.{needs}
 use Rattle.orderentry.proofs.hold_fits.Statement.{statement}
 use Rattle.orderentry.proofs.hold_fits.Tie as tie
 
 is-funded-requires : tie.Need-is-funded-requires
-is-funded-requires c κs = search testing
+is-funded-requires c κs = row-needs (c .before .pre)
 
 held-at-requires : tie.Need-held-at-requires
-held-at-requires c κs = search testing
+held-at-requires c κs = let p = c .before .before .before .pre in (p .between .state, slot p)
 
 total-requires : tie.Need-total-requires
 total-requires c κs = search needs

@@ -1,3 +1,4 @@
+use Rattle.orderentry.proofs.Testing.{testing}
 use borrow.Author.Needs.{needs}
 use Rattle.orderentry.proofs.live_of.Statement.{statement}
 use Rattle.orderentry.proofs.live_of.Tie as tie
@@ -18,7 +19,7 @@ price-word-requires : tie.Need-price-word-requires
 price-word-requires c κs = search needs
 
 returns : tie.Need-returns
-returns c = search laws
+returns c = c .before .before .before .before .fits .order
 
 pub live-of-spec : {M : Type 1} → statement M
 live-of-spec =

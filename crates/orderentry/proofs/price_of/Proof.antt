@@ -1,3 +1,5 @@
+use Rattle.words.proofs.Int.{read}
+use mathlib.Core.Path.{refl}
 use borrow.Author.Needs.{needs}
 use Rattle.orderentry.proofs.price_of.Statement.{statement}
 use Rattle.orderentry.proofs.price_of.Tie as tie
@@ -12,7 +14,7 @@ enum-known-kind-2 : tie.Need-enum-known-kind-2
 enum-known-kind-2 c = search needs
 
 returns : tie.Need-returns
-returns c = search laws
+returns c = let f = c .before .kind .given in rw (f .1, read {x = f .0 .0} (c .known-told .given .0 .1)) refl
 
 returns-2 : tie.Need-returns-2
 returns-2 c = search needs
