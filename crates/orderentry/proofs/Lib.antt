@@ -1,3 +1,4 @@
 pub mod Judging
 pub mod Messages
 pub mod Testing
+pub mod Placing

@@ -7,12 +7,17 @@ use mathlib.Core.List.{List, [], _∷_, _++_, append-nil}
 use Prim.Native.Nat.{ℕ, _+_, _-_, _≤_, _<_}
 use native.Mathlib.Omega.{arith}
 use borrow.Author.Tests.{eq-eqb, ne-eqb, lt-ltb, le-ltb, le-leb, lt-leb}
+use mir.Syntax.{w64}
+use mir.Val.{SFits, ofZ}
+use mir.ValLaws.{ofZ-fits}
 use lib.IntN.{ℤ, pos, negsuc, subℕ, _+ℤ_, _-ℤ_, +ℤ-idr}
 use lib.Signed.{leZ}
 use lib.ListN.{length, length-append, getD}
 use lib.Dec.{ltb, leb}
 use Rattle.orderbook.specs.declared.Side.{Side}
 use Rattle.orderbook.specs.declared.Side.the-variants.{Buy, Sell}
+use Rattle.orderbook.specs.declared.MaybePrice as M
+use Rattle.protocol.specs.Codes.{sideCode}
 use Rattle.protocol.specs.declared.NewOrder.{NewOrder}
 use Rattle.protocol.specs.declared.OrderKind.{OrderKind}
 use Rattle.protocol.specs.declared.OrderKind.the-variants as Kind
@@ -25,7 +30,7 @@ use Rattle.le.proofs.Laws.{lt-or-le}
 use Rattle.words.specs.declared.Amount.{Amount}
 use Rattle.words.specs.declared.Amount.the-variants.{Fits, TooBig}
 use Rattle.words.specs.Words.{int, half, modulus, fit, amount, _⊖_}
-use Rattle.words.proofs.Int.{low, high, int-zero}
+use Rattle.words.proofs.Int.{low, high, int-zero, int-of}
 use Rattle.wallet.specs.declared.Wallet.{Wallet}
 use Rattle.wallet.specs.Wallet as W
 use Rattle.risk.specs.Collar.{near, near-market}
@@ -34,13 +39,18 @@ use Rattle.gateway.specs.Limits.{owner-slots, most-orders, most-notices}
 use Rattle.gateway.specs.Ledger.{Order, Ledger, command, step, placed, order-of, owner-of, with-orders, price-option, hold, held, fits, holds-fit, open-of}
 use Rattle.gateway.specs.Core.{Tests, account-at, fits-after}
 use Rattle.gateway.specs.Entry.{wallet-at, balance-with, most-open, next, is-zero, new-notice, price-of, command-of}
+use Rattle.gateway.specs.Bytes.{price-flag, price-word}
+use Rattle.gateway.specs.Fits.{Signed, KindFits}
 use Rattle.gateway.specs.Calls.{Gateway}
 use Rattle.store.specs.Cells as C
 use Rattle.store.specs.Layout.{cell, Holds}
-use Rattle.store.specs.View.{Store, word, flag, optional, maybe-price, wallet, ledger, gateway}
+use Rattle.store.specs.View.{Store, word, flag, optional, side, maybe-price, wallet, ledger, gateway}
 use Rattle.store.proofs.Listed.{listed-length}
 use Rattle.clients.specs.Clients as Clients
+use Rattle.clients.proofs.Laws.{word-fits}
 use Rattle.clients.proofs.Views.{wallet-at-row}
+use Rattle.pending.specs.Pending.{MaybeFits}
+use Rattle.pending.proofs.Commands.{side-back, price-back}
 use Rattle.orders.specs.declared.Live.{Live}
 use Rattle.orders.specs.Orders as Orders
 use Rattle.sound.specs.Sound.{held-cell, State}
@@ -83,6 +93,9 @@ not-negative h l = ap (leZ (pos 0)) (low h (omega arith)) ∙ le-leb 0 h (omega 
 negative : (h : ℕ) → h < modulus → 9223372036854775807 < h → leZ (pos 0) (int h) ≡ false
 unfolding _⊖_
 negative h f l = ap (leZ (pos 0)) (high h f (omega arith)) ∙ rw (lt-ltb h modulus f) refl
+
+signed : (p : ℤ) → SFits w64 p → Signed p
+signed p f = word-fits (ofZ w64 p) p (ofZ-fits w64 p f .fits) (int-of p f)
 
 module _ {a : ℕ} {xs : List ℕ} (h : Exists a xs) (w-is : is-some (wallet-at a (gateway (cell xs) .core)) ≡ true) where
   abbrev g : Gateway
@@ -201,6 +214,31 @@ module _ (s : Store) (a new n : ℕ) (n-is : n ≡ word s C.notice-rows) where
 
     pub room-unfunded : b ≡ false → Room (leb n most-notices)
     room-unfunded e = none-counted (other-hold s a 0 new (omega arith) f (λ q. ne (sym q)) ∙ no-wallet s a b b-is e)
+
+-- ---- the words of the order
+
+kind-fits : (k : OrderKind) → MaybeFits (price-of k) → KindFits k
+kind-fits (Kind.Limit p t d) f = signed p f
+kind-fits Kind.Market f = tt
+kind-fits (Kind.Stop t M.the-variants.None) f = tt
+kind-fits (Kind.Stop t (M.the-variants.Some p)) f = signed p f
+
+pub stands : (a : ℕ) (q : NewOrder) (p : M.MaybePrice) (z f w : ℕ) → p ≡ price-of (q .kind) → z ≡ sideCode (q .side) → f ≡ price-flag p → w ≡ price-word p → MaybeFits p → q .«client_ref» < modulus → q .qty < modulus →
+    Stands a q (record { account = a; «client_ref» = q .«client_ref»; side = z; priced = f; price = w; leaves = q .qty; hold = 0 })
+stands a q p z f w p-is z-is f-is w-is m c d =
+    record {
+      is =
+          λ n i.
+          record {
+            number = n;
+            account = a;
+            client-ref = q .«client_ref»;
+            side = (ap side z-is ∙ side-back (q .side)) i;
+            price = (ap₂ maybe-price f-is w-is ∙ price-back p m ∙ p-is) i;
+            leaves = q .qty;
+          };
+      fits = (c, (d, kind-fits (q .kind) (subst MaybeFits p-is m)));
+    }
 
 -- what the order holds
 module _ {a : ℕ} {q : NewOrder} {o : Live} (w : Stands a q o) where

@@ -11,10 +11,10 @@ covers-requires : tie.Need-covers-requires
 covers-requires c κs = search needs
 
 returns : tie.Need-returns
-returns c = let p = c .before .before .before .before .pre in free-is (p .0) (p .1) _ _ _ _ (c .before .before .if1 .taken) (c .before .wallet-at .ensures) (c .covers .ensures)
+returns c = let s = c .before .before .before .before in free-is (s .pre .0) (s .pre .1) (s .args .side) _ _ _ (c .before .before .if1 .taken) (c .before .wallet-at .ensures) (c .covers .ensures)
 
 returns-2 : tie.Need-returns-2
-returns-2 c = let s = c .before .before in not-free (s .pre .0) (s .pre .1) _ _ (s .fits .hold .fits) (c .if1 .left)
+returns-2 c = let s = c .before .before in not-free (s .pre .0) (s .pre .1) (s .args .side) _ (s .fits .hold .fits) (c .if1 .left)
 
 pub is-free-spec : {M : Type 1} → statement M
 is-free-spec = tie.close (tie.spec wallet-at-requires covers-requires returns returns-2)

@@ -1,3 +1,4 @@
+use Prim.Native.Nat.{ℕ}
 use Rattle.orderentry.proofs.Testing.{testing}
 use borrow.Author.Needs.{needs}
 use Rattle.orderentry.proofs.live_of.Statement.{statement}
@@ -19,7 +20,7 @@ price-word-requires : tie.Need-price-word-requires
 price-word-requires c κs = search needs
 
 returns : tie.Need-returns
-returns c = c .before .before .before .before .fits .order
+returns c = let x : ℕ = c .before .before .before .before .good .1 .0 in search testing
 
 pub live-of-spec : {M : Type 1} → statement M
 live-of-spec =

@@ -1,60 +1,49 @@
+use Rattle.orderentry.proofs.Placing.{new-passes, new-refused, new-done}
+use Rattle.orderentry.proofs.Messages.{exists, slot}
+use borrow.Author.Needs.{needs}
 use Rattle.orderentry.proofs.new_order.Statement.{statement}
 use Rattle.orderentry.proofs.new_order.Tie as tie
-use Rattle.orderentry.proofs.new_order.Reads as reads
-use Rattle.orderentry.proofs.new_order.Lts as lts
-use Rattle.orderentry.proofs.enter_new.Reads as enter-new-reads
-use Rattle.orderentry.proofs.judge_new.Reads as judge-new-reads
-use Rattle.orderentry.proofs.live_of.Reads as live-of-reads
-use Rattle.orderentry.proofs.refuse.Reads as refuse-reads
-use Rattle.orderentry.proofs.take_token.Reads as take-token-reads
 
--- src/lib.rt:502:9
 live-of-requires : tie.Need-live-of-requires
-live-of-requires c κs = search laws
+live-of-requires c κs = search needs
 
--- src/lib.rt:503:9
 take-token-requires : tie.Need-take-token-requires
-take-token-requires c κs = search laws
+take-token-requires c κs = exists (c .before .before .before .before .pre)
 
--- src/lib.rt:505:9
 judge-new-requires : tie.Need-judge-new-requires
-judge-new-requires c κs = search laws
+judge-new-requires c κs = (exists (c .before .before .before .before .before .before .before .pre), c .before .before .before .before .live-of .ensures)
 
--- src/lib.rt:507:31
 enum-known-v : tie.Need-enum-known-v
-enum-known-v c = search laws
+enum-known-v c = search needs
 
--- src/lib.rt:507:39
 refuse-requires : tie.Need-refuse-requires
-refuse-requires c κs = search laws
+refuse-requires c κs = let p = c .before .before .before .before .before .before .before .before .before .before .before .before .before .pre in (p .between .state, p .slot, slot (exists p))
 
--- src/lib.rt:509:23
 enum-told : tie.Need-enum-told
-enum-told c = search laws
+enum-told c = search needs
 
--- src/lib.rt:509:13
 enter-new-requires : tie.Need-enter-new-requires
-enter-new-requires c κs = search laws
+enter-new-requires c κs = let s = c .before .before .before .before .before .before .before .before .before .before .before in
+    let p = s .pre in
+    let room = new-passes (s .args .m .now) (s .args .out .now) (s .args .s) (s .args .a) (s .args .order) (s .args .time) _ _ (c .before .before .before .before .before .before .take-token .ensures) (c .before .before .before .judge-new .ensures) (c .before .enum-told .given .1) in
+    (p .between .state, p .slot, slot (exists p), room, c .before .before .before .before .before .before .before .before .live-of .ensures)
 
--- src/lib.rt:491:1
 same-length : tie.Need-same-length
-same-length c = search laws
+same-length c = search needs
 
--- src/lib.rt:491:1
 same-length-2 : tie.Need-same-length-2
-same-length-2 c = search laws
+same-length-2 c = search needs
 
--- src/lib.rt:491:1
 returns : tie.Need-returns
-returns c = search laws
+returns c = let s = c .before .before .before .before .before .before .before .before .before .before .before .before .before .before .before .before .before .before in
+    new-refused (s .args .m .now) (s .args .out .now) (s .args .s) (s .args .a) (s .args .order) (s .args .time) _ _ (c .before .before .before .before .before .before .before .before .before .before .before .before .before .take-token .ensures) (c .before .before .before .before .before .before .before .before .before .before .judge-new .ensures) _ (c .before .before .before .before .before .before .before .before .before .before .before .before .before .before .before .live-of .ensures) (s .pre) _ _ _ _ (c .before .before .before .before .before .before .before .before .v .given .1) (c .before .before .before .before .refuse .ensures)
 
--- src/lib.rt:491:1
 same-length-3 : tie.Need-same-length-3
-same-length-3 c = search laws
+same-length-3 c = search needs
 
--- src/lib.rt:491:1
 returns-2 : tie.Need-returns-2
-returns-2 c = search laws
+returns-2 c = let s = c .before .before .before .before .before .before .before .before .before .before .before .before .before .before in
+    new-done (s .args .m .now) (s .args .out .now) (s .args .s) (s .args .a) (s .args .order) (s .args .time) _ _ (c .before .before .before .before .before .before .before .before .before .take-token .ensures) (c .before .before .before .before .before .before .judge-new .ensures) _ (c .before .before .before .before .before .before .before .before .before .before .before .live-of .ensures) (s .pre) (c .before .before .before .before .enum-told .given .1) (c .before .before .enter-new .ensures)
 
 pub new-order-spec : {M : Type 1} → statement M
 new-order-spec =
