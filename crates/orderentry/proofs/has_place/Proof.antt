@@ -1,19 +1,20 @@
+use borrow.Author.Needs.{needs}
 use Rattle.orderentry.proofs.Testing.{no-place, no-notice, place-is}
 use Rattle.orderentry.proofs.Messages.{slot}
 use Rattle.orderentry.proofs.has_place.Statement.{statement}
 use Rattle.orderentry.proofs.has_place.Tie as tie
 
 hold-of-requires : tie.Need-hold-of-requires
-hold-of-requires c κs = search testing
+hold-of-requires c κs = search needs
 
 word-at-requires : tie.Need-word-at-requires
-word-at-requires c κs = search testing
+word-at-requires c κs = search needs
 
 notice-room-requires : tie.Need-notice-room-requires
 notice-room-requires c κs = let p = c .before .before .before .before .pre .0 in (p .between .state, slot p)
 
 hold-fits-requires : tie.Need-hold-fits-requires
-hold-fits-requires c κs = search testing
+hold-fits-requires c κs = search needs
 
 returns : tie.Need-returns
 returns c = let p = c .before .before .before .before .before .before .before .pre in place-is (p .0) (p .1) _ _ (c .before .before .before .before .before .hold-of .ensures) (c .before .before .before .before .word-at .ensures) (c .before .before .before .if1 .taken) _ (c .before .before .notice-room .ensures) _ (c .before .if2 .taken) (c .hold-fits .ensures)

@@ -1,5 +1,5 @@
-use Prim.Native.Nat.{ℕ}
-use Rattle.orderentry.proofs.Testing.{testing}
+use native.Mathlib.Omega.{arith}
+use Rattle.orderentry.proofs.Testing.{stands}
 use borrow.Author.Needs.{needs}
 use Rattle.orderentry.proofs.live_of.Statement.{statement}
 use Rattle.orderentry.proofs.live_of.Tie as tie
@@ -20,7 +20,12 @@ price-word-requires : tie.Need-price-word-requires
 price-word-requires c κs = search needs
 
 returns : tie.Need-returns
-returns c = let x : ℕ = c .before .before .before .before .good .1 .0 in search testing
+returns c = let s = c .before .before .before .before in
+    let w = c .price-word .ensures in
+    let x = s .good .1 .0 .1 .1 in
+    let u = x .0 in
+    let v = x .1 .1 .0 in
+    stands (s .args .a) (s .args .order) _ _ _ _ (c .before .before .before .price-of .ensures) (c .before .before .side-code .ensures) (c .before .price-flag .ensures) (w .0) (w .1) (omega (arith, u)) (omega (arith, v))
 
 pub live-of-spec : {M : Type 1} → statement M
 live-of-spec =
