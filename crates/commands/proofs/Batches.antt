@@ -95,4 +95,11 @@ module _ (xs out : List ℕ) (n p : ℕ) (b : Between xs) (n-is : n ≡ word (ce
       (rw (le-leb (length (rest-of xs .batch)) (places (length out)) (omega (arith, l, n-is, room, batch-is (cell xs)))) refl)
       (omega (arith, n-is, batch-is (cell xs), length-map (rest-of xs .batch) command-row)) d h
 
-pub ruleset batches = (command-needs, clear-becomes, batch-short, batch-done, arith)
+-- ---- the last number
+
+pub last-said : (xs : List ℕ) (r : ℕ) → Between xs → r ≡ word (cell xs) C.last → Says (number-is r) (call (gateway (cell xs)) last-seq) 0 xs xs
+unfolding plan
+last-said xs r b e =
+    says-done xs last-seq tt b (number-is r) (gateway (cell xs) .rest) (ap (λ n. quiet (number-is n) [] (gateway (cell xs) .rest)) (sym e)) (record { state = b .state; gateway-is = refl })
+
+pub ruleset batches = (last-said, command-needs, clear-becomes, batch-short, batch-done, arith)

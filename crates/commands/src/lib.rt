@@ -1,4 +1,4 @@
-// Commands are numbered and handed over: `push`, `take_batch`, `detach` and `disconnect` of exchange.rs.
+// Commands are numbered and handed over: `push`, `last_seq`, `take_batch`, `detach` and `disconnect` of exchange.rs.
 use orderbook::Command;
 use outcome::Reply;
 use store::cells;
@@ -9,8 +9,8 @@ ghost use Prim.Native.Nat.{_*_, _≤_, _<_};
 ghost use lib.ListN.{length};
 ghost use Rattle.gateway.specs.Limits.{owner-slots, most-in-batch};
 ghost use Rattle.gateway.specs.Rest.{with-batch};
-ghost use Rattle.gateway.specs.Entry.{nothing, account-was, queued};
-ghost use Rattle.gateway.specs.Calls.{call, take-batch, detach, disconnect, without-session};
+ghost use Rattle.gateway.specs.Entry.{nothing, account-was, number-is, queued};
+ghost use Rattle.gateway.specs.Calls.{call, last-seq, take-batch, detach, disconnect, without-session};
 ghost use Rattle.store.specs.Cells as C;
 ghost use Rattle.store.specs.Layout.{cell};
 ghost use Rattle.store.specs.View.{word, optional, command, gateway};
@@ -31,6 +31,14 @@ const MOST_IN_BATCH: u64 = 256;
 
 // The last number of all.
 const MOST: u64 = 18446744073709551615;
+
+// The last number.
+pub fn last_seq(m: &[u8]) -> u64
+    requires { ⌜ Between (now m) ⌝ }
+    ensures { λ r. ⌜ Says (number-is r) (call (gateway (cell (now (m .entry)))) last-seq) 0 (now (m .entry)) (now (m .entry)) ⌝ }
+{
+    pending::header::word_at(m, cells::LAST)
+}
 
 // Not 256 in flight, not 256 in the batch, a number left.
 pub fn can_number(m: &[u8]) -> bool
