@@ -1,6 +1,5 @@
 -- The batch is handed over. Assumes nothing.
 use mathlib.Core.Path.{_≡_, refl, sym, ap, _∙_}
-use mathlib.Core.Option.{none}
 use mathlib.Core.List.{List, [], _∷_, _++_, map}
 use Prim.Native.Nat.{ℕ, _+_, _*_, _≤_, _<_}
 use native.Mathlib.Numerals.{add-one}
@@ -10,9 +9,9 @@ use lib.ListN.{length, getD, take, length-map}
 use lib.Seq.{take-suc, take-all, length-take-le}
 use Rattle.orderbook.specs.declared.Command.{Command}
 use Rattle.orderbook.specs.declared.Command.the-variants.{CancelAll}
-use Rattle.gateway.specs.Limits.{too-short, most-in-batch}
+use Rattle.gateway.specs.Limits.{most-in-batch}
 use Rattle.gateway.specs.Rest.{with-batch}
-use Rattle.gateway.specs.Entry.{commands, unless, refuse, quiet}
+use Rattle.gateway.specs.Entry.{commands, unless}
 use Rattle.gateway.specs.Calls.{call, plan, take-batch}
 use Rattle.store.specs.Cells as C
 use Rattle.store.specs.Layout.{cell, Holds}
@@ -95,4 +94,4 @@ module _ (xs out : List ℕ) (n p : ℕ) (b : Between xs) (n-is : n ≡ word (ce
       (rw (le-leb (length (rest-of xs .batch)) (places (length out)) (omega (arith, l, n-is, room, batch-is (cell xs)))) refl)
       (omega (arith, n-is, batch-is (cell xs), length-map (rest-of xs .batch) command-row)) d h
 
-pub ruleset batches = (command-needs, clear-becomes, batch-short, batch-done, arith)
+pub ruleset batches = (clear-becomes, batch-short, batch-done, arith)
