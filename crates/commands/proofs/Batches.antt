@@ -1,6 +1,5 @@
 -- The batch is handed over. Assumes nothing.
 use mathlib.Core.Path.{_≡_, refl, sym, ap, _∙_}
-use mathlib.Core.Option.{none}
 use mathlib.Core.List.{List, [], _∷_, _++_, map}
 use Prim.Native.Nat.{ℕ, _+_, _*_, _≤_, _<_}
 use native.Mathlib.Numerals.{add-one}
@@ -10,10 +9,10 @@ use lib.ListN.{length, getD, take, length-map}
 use lib.Seq.{take-suc, take-all, length-take-le}
 use Rattle.orderbook.specs.declared.Command.{Command}
 use Rattle.orderbook.specs.declared.Command.the-variants.{CancelAll}
-use Rattle.gateway.specs.Limits.{too-short, most-in-batch}
+use Rattle.gateway.specs.Limits.{most-in-batch}
 use Rattle.gateway.specs.Rest.{with-batch}
-use Rattle.gateway.specs.Entry.{commands, unless, refuse, quiet}
-use Rattle.gateway.specs.Calls.{call, plan, take-batch}
+use Rattle.gateway.specs.Entry.{number-is, commands, unless, quiet}
+use Rattle.gateway.specs.Calls.{call, plan, last-seq, take-batch}
 use Rattle.store.specs.Cells as C
 use Rattle.store.specs.Layout.{cell, Holds}
 use Rattle.store.specs.View.{word, command, gateway, Is}
@@ -30,8 +29,8 @@ use Rattle.sound.proofs.Waiting.{clear-sound}
 use Rattle.mailbox.specs.Mailbox.{places}
 use Rattle.outcome.specs.Between.{Between}
 use Rattle.outcome.specs.Parts.{with-rest, rest-of}
-use Rattle.outcome.specs.Answers.{Lists}
-use Rattle.outcome.proofs.Calls.{lists-short, lists-done}
+use Rattle.outcome.specs.Answers.{Says, Lists}
+use Rattle.outcome.proofs.Calls.{says-done, lists-short, lists-done}
 use Rattle.commands.proofs.Numbering.{batch-is}
 
 pub command-needs : {xs : List ℕ} (j : ℕ) → State xs → j < word (cell xs) C.waiting → Holds xs × (j < most-in-batch) × CommandFits (cell xs C.batch j)
@@ -102,4 +101,4 @@ unfolding plan
 last-said xs r b e =
     says-done xs last-seq tt b (number-is r) (gateway (cell xs) .rest) (ap (λ n. quiet (number-is n) [] (gateway (cell xs) .rest)) (sym e)) (record { state = b .state; gateway-is = refl })
 
-pub ruleset batches = (last-said, command-needs, clear-becomes, batch-short, batch-done, arith)
+pub ruleset batches = (last-said, clear-becomes, batch-short, batch-done, arith)

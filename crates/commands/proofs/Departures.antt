@@ -2,21 +2,21 @@
 use mathlib.Core.Path.{_≡_, refl, sym, ap, _∙_}
 use mathlib.Core.Bool.{Bool, true, false, cond, _&&_}
 use mathlib.Core.Logic.{⊎-elim}
-use mathlib.Core.Option.{Option, none, some}
+use mathlib.Core.Option.{none, some}
 use mathlib.Core.List.{List, [], _∷_}
 use Prim.Native.Nat.{ℕ, _-_, _^_, _≤_, _<_}
 use native.Mathlib.Omega.{arith}
-use borrow.Author.Tests.{eq-eqb, ne-eqb, ltb-true, lt-ltb}
-use lib.ListN.{length, set, List·getD-eq-default}
+use borrow.Author.Tests.{eq-eqb, ne-eqb}
+use lib.ListN.{length, List·getD-eq-default}
 use lib.Seq.{set-out}
-use lib.Dec.{eqb, ltb}
+use lib.Dec.{ltb}
 use Rattle.orderbook.specs.declared.Command.the-variants.{CancelAll}
 use Rattle.le.proofs.Laws.{lt-or-le}
 use Rattle.words.specs.Words.{modulus}
 use Rattle.gateway.specs.Limits.{owner-slots, session-slots, most-in-flight, most-in-batch, full}
 use Rattle.gateway.specs.Ledger.{order-of, owner-of}
-use Rattle.gateway.specs.Rest.{Session, with-sessions, session-at, account-of}
-use Rattle.gateway.specs.Entry.{Plan, nothing, account-was, unless, refuse, sends, next}
+use Rattle.gateway.specs.Rest.{with-sessions, session-at, account-of}
+use Rattle.gateway.specs.Entry.{Plan, nothing, account-was, unless, refuse, next}
 use Rattle.gateway.specs.Entry as Entry
 use Rattle.gateway.specs.Calls.{Gateway, call, plan, detach, disconnect, without-session, gone}
 use Rattle.store.specs.Cells as C

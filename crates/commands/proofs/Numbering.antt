@@ -1,9 +1,8 @@
 -- Numbering: what can be numbered, and the gateway after it. Assumes nothing.
 use mathlib.Core.Path.{_≡_, refl, sym, ap, _∙_}
-use mathlib.Core.Bool.{Bool, true, false, _&&_, and-eq-true-iff}
+use mathlib.Core.Bool.{true, false, _&&_, and-eq-true-iff}
 use mathlib.Core.Logic.{⊎-elim}
-use mathlib.Core.Option.{none}
-use mathlib.Core.List.{List, [], _++_, append-nil}
+use mathlib.Core.List.{List, append-nil}
 use Prim.Native.Nat.{ℕ, _+_, _-_, _≤_, _<_}
 use native.Mathlib.Omega.{arith}
 use borrow.Author.Tests.{ltb-true, lt-ltb, le-ltb}
@@ -13,13 +12,12 @@ use Rattle.orderbook.specs.declared.Command.{Command}
 use Rattle.le.proofs.Laws.{lt-or-le}
 use Rattle.words.specs.Words.{modulus}
 use Rattle.gateway.specs.Limits.{most-in-flight, most-in-batch}
-use Rattle.gateway.specs.Ledger.{Order, order-of, owner-of, placed, step}
-use Rattle.gateway.specs.Core.{Flight, Core}
+use Rattle.gateway.specs.Ledger.{step}
 use Rattle.gateway.specs.Entry.{next, queued}
 use Rattle.gateway.specs.Calls.{Gateway}
 use Rattle.store.specs.Cells as C
 use Rattle.store.specs.Layout.{cell}
-use Rattle.store.specs.View.{Store, word, fill, in-slot, command, optional, gateway, Is, Ready}
+use Rattle.store.specs.View.{Store, word, fill, in-slot, command, gateway, Is, Ready}
 use Rattle.store.proofs.Listed.{listed-length}
 use Rattle.store.proofs.Places.{header-cell, order-cell}
 use Rattle.pending.specs.Pending as Pending
@@ -120,9 +118,6 @@ push-room xs {ys} sender owner places can b =
     omega (arith, room xs can .batch, batch-is (cell xs), ap length e)
 
 module _ (sender owner : ℕ) (k : Command) (p : Plain owner k) (g : Gateway) where
-  no-order : (os : List Order) → os ≡ os ++ placed 0 (next (g .core)) (owner-of k) (order-of k)
-  no-order os = sym (append-nil os) ∙ ap (λ o. os ++ placed 0 (next (g .core)) (owner-of k) o) (sym (p .places-nothing))
-
   plain-is : with-rest (queued k) (flying sender owner 0 g) ≡ numbered sender k g
   unfolding step
   plain-is = rw (p .places-nothing, ← p .owner-is, append-nil (g .core .ledger .orders)) refl
@@ -133,4 +128,4 @@ push-becomes xs sender owner k p b d =
     let e = then-becomes (with-rest (queued k)) (b .0) d in
     record { state = e .state; gateway-is = e .gateway-is ∙ plain-is sender owner k p (gateway (cell xs)) }
 
-pub ruleset numbering = (number-left, many-flying, many-waiting, take-off-needs, take-off-becomes, queue-needs, queue-becomes, push-becomes, arith)
+pub ruleset numbering = (number-left, many-flying, many-waiting, arith)

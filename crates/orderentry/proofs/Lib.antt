@@ -2,3 +2,4 @@ pub mod Judging
 pub mod Messages
 pub mod Testing
 pub mod Placing
+pub mod Collars

@@ -2,12 +2,12 @@
 use mathlib.Core.Path.{_≡_, refl, sym, ap, ap₂, subst, _∙_}
 use mathlib.Core.Bool.{Bool, true, false, cond, not, _&&_, false≢true}
 use mathlib.Core.Logic.{⊎-elim}
-use mathlib.Core.Option.{Option, none, some}
-use mathlib.Core.List.{List, [], _∷_, _++_}
+use mathlib.Core.Option.{none, some}
+use mathlib.Core.List.{List, [], _∷_}
 use Prim.Native.Nat.{ℕ, _+_, _^_, _≤_, _<_}
 use native.Mathlib.Omega.{arith}
 use lib.IntN.{ℤ}
-use lib.ListN.{length, set}
+use lib.ListN.{length}
 use lib.Dec.{ltb}
 use Rattle.orderbook.specs.declared.Command.{Command}
 use Rattle.orderbook.specs.declared.Command.the-variants.{Cancel, Modify, CancelAll}
@@ -17,32 +17,31 @@ use Rattle.protocol.specs.declared.Outbound.the-variants as Out
 use Rattle.protocol.specs.declared.RejectCode.{RejectCode}
 use Rattle.protocol.specs.declared.RejectCode.the-variants.{Throttled, Unavailable, NotAllowed}
 use Rattle.protocol.specs.declared.codes.MaybeRejectCode as Why
-use Rattle.accounts.specs.declared.Account.{Account}
 use Rattle.risk.specs.declared.Bucket.{Bucket}
 use Rattle.risk.specs.declared.Taken.{Taken}
 use Rattle.risk.specs.Throttle as Throttle
 use Rattle.le.proofs.Laws.{lt-or-le}
 use Rattle.words.specs.Words.{modulus}
-use Rattle.gateway.specs.Basics.{option, is-some}
-use Rattle.gateway.specs.Limits.{owner-slots, session-slots, most-in-flight, most-in-batch}
+use Rattle.gateway.specs.Basics.{is-some}
+use Rattle.gateway.specs.Limits.{owner-slots, most-in-flight, most-in-batch}
 use Rattle.gateway.specs.Ledger.{Item, command, order-of, owner-of}
 use Rattle.gateway.specs.Core.{Tests, Origin, account-at, core-step}
 use Rattle.gateway.specs.Rest.{Mail, send, Rest, at-time, stamped}
-use Rattle.gateway.specs.Entry.{Plan, records, sends, unless, reject, next, wallet-at, rate-of, most-open, taken, hear}
+use Rattle.gateway.specs.Entry.{Plan, records, sends, unless, reject, next, rate-of, taken, hear}
 use Rattle.gateway.specs.Entry as Entry
 use Rattle.gateway.specs.Fits.{InboundFits}
 use Rattle.gateway.specs.Invariant.{Known}
 use Rattle.gateway.specs.Calls.{Gateway, call, plan, mail-of, carry-out, within, receive-from}
 use Rattle.store.specs.Cells as C
 use Rattle.store.specs.Layout.{cell, Holds}
-use Rattle.store.specs.View.{Row, word, flag, optional, account, wallet, bucket, gateway, Is}
+use Rattle.store.specs.View.{Row, word, flag, account, wallet, bucket, gateway, Is}
 use Rattle.clients.specs.Clients as Clients
 use Rattle.clients.proofs.Laws.{plus-one}
 use Rattle.clients.proofs.Views.{account-at-row, account-past, wallet-at-row, bucket-at-row, bucket-view}
 use Rattle.sound.specs.Sound.{State, Becomes}
 use Rattle.sound.proofs.Kept.{becomes}
 use Rattle.sound.proofs.Clients.{bucket-sound}
-use Rattle.mailbox.specs.Mailbox.{places, mailed}
+use Rattle.mailbox.specs.Mailbox.{places}
 use Rattle.mailbox.proofs.Rows.{mailed-none}
 use Rattle.outcome.specs.declared.Reply.{Reply}
 use Rattle.outcome.specs.Parts.{with-rest, rest-of, heard, Sends, Speaks}
@@ -56,7 +55,7 @@ use Rattle.orderentry.proofs.Judging.{or-first, joined, unless-passed, 
 
 -- ---- the account
 
-there : {A : Type 0} (b : Bool) (x : A) → is-some (cond b (some x) none) ≡ true → cond b (some x) none ≡ some x
+pub there : {A : Type 0} (b : Bool) (x : A) → is-some (cond b (some x) none) ≡ true → cond b (some x) none ≡ some x
 there true x e = refl
 there false x e = absurd (false≢true e)
 
@@ -244,4 +243,4 @@ pub plain-mass : (a : ℕ) → Commands.Plain a (CancelAll a)
 unfolding order-of owner-of
 plain-mass a = record { batched = tt; owner-is = refl; places-nothing = refl }
 
-pub ruleset messages = (rate-needs, row-needs, token-is, bucket-becomes, begin-becomes, refuse-short, refuse-done, other-is, push-becomes, cancel-done, mass-done, modify-done, arith)
+pub ruleset messages = (rate-needs, row-needs, token-is, bucket-becomes, begin-becomes, refuse-short, refuse-done, other-is, push-becomes, arith)

@@ -1,7 +1,7 @@
 -- A new order: numbered, placed, noticed, in the batch; and the call. Assumes nothing.
-use mathlib.Core.Path.{_≡_, refl, sym, ap, ap₂, subst, _∙_}
+use mathlib.Core.Path.{_≡_, refl, sym, ap, subst, _∙_}
 use mathlib.Core.Bool.{Bool, true, false, cond, _&&_, and-eq-true-iff}
-use mathlib.Core.Option.{Option, none, some}
+use mathlib.Core.Option.{some}
 use mathlib.Core.List.{List, [], _∷_, _++_}
 use Prim.Native.Nat.{ℕ, _+_, _≤_, _<_}
 use native.Mathlib.Omega.{arith}
@@ -22,19 +22,18 @@ use Rattle.risk.specs.declared.Taken.{Taken}
 use Rattle.words.specs.Words.{int, modulus}
 use Rattle.gateway.specs.Basics.{option}
 use Rattle.gateway.specs.Limits.{owner-slots, session-slots, most-orders, most-notices, most-in-flight, most-in-batch}
-use Rattle.gateway.specs.Ledger.{Order, step, command, open-of, order-of, owner-of}
-use Rattle.gateway.specs.Core.{Tests, account-at, fits-after, core-step}
+use Rattle.gateway.specs.Ledger.{step, command, open-of}
+use Rattle.gateway.specs.Core.{Tests, account-at, fits-after}
 use Rattle.gateway.specs.Rest.{Rest, at-time}
 use Rattle.gateway.specs.Entry.{Plan, unless, reject, records, next, queued, noticing, new-notice, paper-tests, new-tests, most-open, wallet-at, command-of, taken, hear}
 use Rattle.gateway.specs.Entry as Entry
 use Rattle.gateway.specs.Calls.{Gateway, call, receive-from}
 use Rattle.store.specs.Cells as C
 use Rattle.store.specs.Layout.{cell}
-use Rattle.store.specs.View.{Store, word, gateway}
+use Rattle.store.specs.View.{word, gateway}
 use Rattle.store.proofs.Listed.{listed-length}
 use Rattle.clients.proofs.Laws.{plus-one}
 use Rattle.orders.specs.declared.Live.{Live}
-use Rattle.orders.specs.Orders as Orders
 use Rattle.pending.specs.Pending.{Batched}
 use Rattle.sound.specs.Sound.{State, Becomes}
 use Rattle.live.specs.Live as Live

@@ -10,9 +10,9 @@ use borrow.Author.Tests.{eq-eqb, ne-eqb, lt-ltb, le-ltb, le-leb, lt-leb}
 use mir.Syntax.{w64}
 use mir.Val.{SFits, ofZ}
 use mir.ValLaws.{ofZ-fits}
-use lib.IntN.{ℤ, pos, negsuc, subℕ, _+ℤ_, _-ℤ_, +ℤ-idr}
+use lib.IntN.{ℤ, pos, _+ℤ_, _-ℤ_, +ℤ-idr}
 use lib.Signed.{leZ}
-use lib.ListN.{length, length-append, getD}
+use lib.ListN.{length, length-append}
 use lib.Dec.{ltb, leb}
 use Rattle.orderbook.specs.declared.Side.{Side}
 use Rattle.orderbook.specs.declared.Side.the-variants.{Buy, Sell}
@@ -21,7 +21,6 @@ use Rattle.protocol.specs.Codes.{sideCode}
 use Rattle.protocol.specs.declared.NewOrder.{NewOrder}
 use Rattle.protocol.specs.declared.OrderKind.{OrderKind}
 use Rattle.protocol.specs.declared.OrderKind.the-variants as Kind
-use Rattle.protocol.specs.declared.Balance.{Balance}
 use Rattle.protocol.specs.declared.RejectCode.{RejectCode}
 use Rattle.protocol.specs.declared.RejectCode.the-variants.{TooManyOrders, Throttled, Unavailable, InsufficientFunds, NotAllowed, OffMarket}
 use Rattle.protocol.specs.declared.codes.MaybeRejectCode as Why
@@ -29,7 +28,7 @@ use Rattle.accounts.specs.declared.Funds.{Funds}
 use Rattle.le.proofs.Laws.{lt-or-le}
 use Rattle.words.specs.declared.Amount.{Amount}
 use Rattle.words.specs.declared.Amount.the-variants.{Fits, TooBig}
-use Rattle.words.specs.Words.{int, half, modulus, fit, amount, _⊖_}
+use Rattle.words.specs.Words.{int, modulus, fit, amount, _⊖_}
 use Rattle.words.proofs.Int.{low, high, int-zero, int-of}
 use Rattle.wallet.specs.declared.Wallet.{Wallet}
 use Rattle.wallet.specs.Wallet as W
@@ -43,8 +42,8 @@ use Rattle.gateway.specs.Bytes.{price-flag, price-word}
 use Rattle.gateway.specs.Fits.{Signed, KindFits}
 use Rattle.gateway.specs.Calls.{Gateway}
 use Rattle.store.specs.Cells as C
-use Rattle.store.specs.Layout.{cell, Holds}
-use Rattle.store.specs.View.{Store, word, flag, optional, side, maybe-price, wallet, ledger, gateway}
+use Rattle.store.specs.Layout.{cell}
+use Rattle.store.specs.View.{Store, word, flag, side, maybe-price, wallet, gateway}
 use Rattle.store.proofs.Listed.{listed-length}
 use Rattle.clients.specs.Clients as Clients
 use Rattle.clients.proofs.Laws.{word-fits}
@@ -52,8 +51,7 @@ use Rattle.clients.proofs.Views.{wallet-at-row}
 use Rattle.pending.specs.Pending.{MaybeFits}
 use Rattle.pending.proofs.Commands.{side-back, price-back}
 use Rattle.orders.specs.declared.Live.{Live}
-use Rattle.orders.specs.Orders as Orders
-use Rattle.sound.specs.Sound.{held-cell, State}
+use Rattle.sound.specs.Sound.{held-cell}
 use Rattle.sound.proofs.Totals.{total-exact}
 use Rattle.live.specs.Live.{hold-word, hold-notice}
 use Rattle.live.proofs.Accounts.{hold-is, held-one}
@@ -63,7 +61,7 @@ use Rattle.outcome.specs.Parts.{rest-of}
 use Rattle.commands.specs.Commands.{can-number}
 use Rattle.orderentry.specs.OrderEntry.{first, or-else, Exists, is-free, is-covered, limit-tests, paper, hold-fits, the-command, has-place, has-room, new-order-tests, Stands}
 use Rattle.orderentry.proofs.Judging.{or-first, or-append}
-use Rattle.orderentry.proofs.Messages.{slot, account-is}
+use Rattle.orderentry.proofs.Messages.{there, slot, account-is}
 
 -- ---- open orders
 
@@ -104,15 +102,11 @@ module _ {a : ℕ} {xs : List ℕ} (h : Exists a xs) (w-is : is-some (wallet-at 
   abbrev its-funds : Funds
   its-funds = record { cash = int (cell xs C.accounts a C.account-cash); position = int (cell xs C.accounts a C.account-position) }
 
-  there : (b : Bool) → is-some (cond b (some its-funds) none) ≡ true → cond b (some its-funds) none ≡ some its-funds
-  there true e = refl
-  there false e = absurd (false≢true e)
-
   -- its wallet
   pub wallet-is : wallet-at a (g .core) ≡ some its-funds
   wallet-is =
       let e = wallet-at-row a (cell xs) (slot h) in
-      e ∙ there (flag (cell xs C.accounts a C.account-funded)) (ap is-some (sym e) ∙ w-is)
+      e ∙ there (flag (cell xs C.accounts a C.account-funded)) its-funds (ap is-some (sym e) ∙ w-is)
 
   exact : (z : Side) → int (cell xs C.accounts a (held-cell z)) ≡ held a z (g .core .ledger .orders)
   exact z =
@@ -350,4 +344,4 @@ new-is g a q passed r f x y u z v c d r-is x-is y-is u-is f-is z-is v-is c-is d-
     ts : Tests RejectCode
     ts = paper a (q .side) (q .qty) (q .kind) g
 
-pub ruleset testing = (few-is, near-free, near-unmarked, near-is, free-is, not-free, covered-is, covered-not, limit-is, kind-needs, no-paper, total-any, total-is, held-buy, held-sell, room-same, room-funded, room-unfunded, no-place, no-notice, place-is, room-is, no-room, new-is, arith)
+pub ruleset testing = (few-is, near-free, near-unmarked, near-is, covered-is, covered-not, limit-is, no-paper, total-any, total-is, room-same, room-funded, room-unfunded, room-is, no-room, new-is, arith)

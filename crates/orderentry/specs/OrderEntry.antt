@@ -2,7 +2,7 @@
 use Prim.Native.Nat.{ℕ, _+_, _<_}
 use mathlib.Core.Path.{_≡_}
 use mathlib.Core.Bool.{Bool, true, false, cond, _&&_}
-use mathlib.Core.Option.{Option, some}
+use mathlib.Core.Option.{some}
 use mathlib.Core.List.{List, [], _∷_, _++_}
 use lib.IntN.{ℤ, pos, _+ℤ_, _-ℤ_}
 use lib.Signed.{leZ}
@@ -23,7 +23,7 @@ use Rattle.risk.specs.Collar.{near-market}
 use Rattle.gateway.specs.Basics.{option, is-some}
 use Rattle.gateway.specs.Limits.{owner-slots, most-orders, most-notices}
 use Rattle.gateway.specs.Ledger.{command, price-option, fits, held, open-of}
-use Rattle.gateway.specs.Core.{Tests, Core, Origin, account-at, core-step, fits-after}
+use Rattle.gateway.specs.Core.{Tests, Core, account-at, core-step, fits-after}
 use Rattle.gateway.specs.Rest.{Rest, with-buckets}
 use Rattle.gateway.specs.Entry.{Plan, with-token, enter-other, next, queued, noticing, new-notice, price-of, command-of, wallet-at, balance-with, covered, most-open, paper-tests}
 use Rattle.gateway.specs.Fits.{InboundFits}
@@ -37,7 +37,7 @@ use Rattle.live.specs.Live as Live
 use Rattle.mailbox.specs.Mailbox.{places}
 use Rattle.outcome.specs.declared.Reply.{Reply}
 use Rattle.outcome.specs.Between.{Between}
-use Rattle.outcome.specs.Parts.{with-rest, rest-of, heard}
+use Rattle.outcome.specs.Parts.{with-rest, heard}
 use Rattle.outcome.specs.Answers.{Ends, Sent}
 use Rattle.commands.specs.Commands as Commands
 

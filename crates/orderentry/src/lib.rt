@@ -1,5 +1,7 @@
 // Order entry of a logged-in session: `take_token`, `enter` and `place` of exchange.rs.
 // A message is judged on the state as it is, and only then does anything change.
+pub mod collar;
+
 use orderbook::Command;
 use orderbook::MaybePrice;
 use orderbook::Side;
@@ -17,30 +19,26 @@ use store::cells;
 use wallet::Wallet;
 use words::Amount;
 ghost use mathlib.Core.Path.{_≡_};
-ghost use mathlib.Core.Bool.{true, false, not, _&&_};
-ghost use mathlib.Core.Option.{none, some};
-ghost use mathlib.Core.List.{[], _∷_, _++_};
-ghost use Prim.Native.Nat.{_+_, _≤_, _<_};
-ghost use lib.IntN.{pos};
+ghost use mathlib.Core.Bool.{true, false};
+ghost use mathlib.Core.Option.{some};
+ghost use mathlib.Core.List.{[], _∷_};
+ghost use Prim.Native.Nat.{_+_, _<_};
 ghost use lib.ListN.{length};
 ghost use lib.Dec.{ltb, leb};
 ghost use Rattle.protocol.specs.declared.Inbound.the-variants as In;
 ghost use Rattle.protocol.specs.declared.RejectCode.the-variants.{Throttled, TooManyOrders, Unavailable};
 ghost use Rattle.words.specs.Words.{int, amount};
-ghost use Rattle.wallet.specs.Wallet as W;
 ghost use Rattle.risk.specs.Collar.{near-market};
 ghost use Rattle.gateway.specs.Basics.{option, is-some};
 ghost use Rattle.gateway.specs.Limits.{owner-slots, session-slots, most-notices};
-ghost use Rattle.gateway.specs.Ledger.{price-option, open-of, command};
-ghost use Rattle.gateway.specs.Ledger as Ledger;
-ghost use Rattle.gateway.specs.Core.{account-at, fits-after};
+ghost use Rattle.gateway.specs.Ledger.{price-option, open-of};
+ghost use Rattle.gateway.specs.Core.{account-at};
 ghost use Rattle.gateway.specs.Rest.{at-time};
-ghost use Rattle.gateway.specs.Entry.{taken, most-open, wallet-at, covered, paper-tests, new-notice, new-tests, price-of, command-of, next, reject};
+ghost use Rattle.gateway.specs.Entry.{taken, most-open, wallet-at, covered, price-of, command-of, reject};
 ghost use Rattle.gateway.specs.Calls.{call, receive-from};
 ghost use Rattle.store.specs.Cells as C;
 ghost use Rattle.store.specs.Layout.{cell};
 ghost use Rattle.store.specs.View.{word, gateway};
-ghost use Rattle.pending.specs.Pending.{Batched};
 ghost use Rattle.sound.specs.Sound.{held-cell, State, Becomes};
 ghost use Rattle.live.specs.Live.{hold-notice};
 ghost use Rattle.mailbox.specs.Mailbox.{places};

@@ -1,12 +1,11 @@
-use mathlib.Core.Path.{_≡_, refl, ap, _∙_}
+use mathlib.Core.Path.{_≡_, refl}
 use mathlib.Core.List.{map}
-use Prim.Native.Nat.{_-_, _≤_}
+use Prim.Native.Nat.{_-_}
 use native.Mathlib.Omega.{arith}
 use borrow.Author.Needs.{needs}
 use lib.ListN.{length, take}
 use Rattle.pending.specs.Pending.{command-row}
 use Rattle.rows.specs.Rows.{put-rows}
-use Rattle.rows.proofs.Laws.{length-row}
 use Rattle.outcome.specs.Parts.{rest-of}
 use Rattle.commands.proofs.Batches.{rows-none, rows-more, rows-all}
 use Rattle.commands.proofs.put_batch.Statement.{statement}
