@@ -92,6 +92,7 @@ fn put_command(m: &[u8], out: &mut [u8], j: usize)
     rows::put(out, mailbox::ROW * j, &row);
 }
 
+// The n rows of the batch.
 fn put_batch(m: &[u8], out: &mut [u8], n: usize)
     requires { ⌜ State (now m) × (n ≡ word (cell (now m)) C.waiting) × (n ≤ places (length (now out))) ⌝ }
     ensures { λ r. ⌜ now (out .exit) ≡ put-rows 96 0 (map command-row (rest-of (now (m .entry)) .batch)) (now (out .entry)) ⌝ }

@@ -68,13 +68,14 @@ is-free h s a c w = leZ (pos 0) h && W.covers s h (balance-with a (c .ledger .or
 abbrev pub is-covered : Side → ℤ → ℕ → ℕ → Core → Funds → Bool
 is-covered s p q a c w = covered (W.hold-of s p q) s a w (c .ledger .orders)
 
--- what a wallet's account is asked of a limit order, and of any
+-- what a wallet's account is asked of a limit order at p
 abbrev pub limit-tests : Side → ℤ → ℕ → ℕ → Gateway → Tests RejectCode
 limit-tests s p q a g =
     (OffMarket, near-market p (g .rest .collar) (price-option (g .core .ledger .mark)))
     ∷ (InsufficientFunds, option false (is-covered s p q a (g .core)) (wallet-at a (g .core)))
     ∷ []
 
+-- and of any order; an account without a wallet is asked nothing
 abbrev pub paper : ℕ → Side → ℕ → OrderKind → Gateway → Tests RejectCode
 paper a s q k g = option [] (paper-tests a s q (g .core) (g .rest) k) (wallet-at a (g .core))
 
@@ -85,7 +86,7 @@ hold-fits a s h g = cond (is-some (wallet-at a (g .core))) (fits (held a s (g .c
 abbrev pub the-command : ℕ → NewOrder → Core → Command
 the-command a o c = command-of (next c) a (o .side) (o .qty) (o .kind)
 
--- room for the order, for its notice and for its hold
+-- room for the order, for its notice and for its hold: the last three tests of `new-tests`
 abbrev pub has-place : ℕ → NewOrder → Gateway → Bool
 has-place a o g =
     ltb (length (g .core .ledger .orders)) most-orders
@@ -102,10 +103,10 @@ new-order-tests a o passed g =
 
 -- ---- parts
 
--- session s is heard at time t, and account a's bucket is b
 abbrev pub with-bucket : ℕ → Bucket → Rest → Rest
 with-bucket a b r = with-buckets (set (r .buckets) a b) r
 
+-- session s is heard at time t, and account a's bucket is b
 abbrev pub after : ℕ → ℕ → Bucket → ℕ → Rest → Rest
 after s a b t r = with-bucket a b (heard s t r)
 

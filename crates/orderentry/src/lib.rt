@@ -79,6 +79,13 @@ fn take_token(m: &[u8], a: usize, time: u64) -> Taken
 
 // ---- what every message shares
 
+fn set_bucket(m: &mut [u8], a: usize, bucket: Bucket)
+    requires { ⌜ State (now m) × (a < owner-slots) ⌝ }
+    ensures { λ r. ⌜ Becomes (now (m .exit)) (with-rest (P.with-bucket a bucket) (gateway (cell (now (m .entry))))) ⌝ }
+{
+    clients::set_bucket(m, a, bucket);
+}
+
 // The session was heard, and the account's bucket is this.
 fn begin(m: &mut [u8], s: usize, a: usize, bucket: Bucket, time: u64)
     requires { ⌜ State (now m) × (s < session-slots) × (a < owner-slots) ⌝ }
@@ -86,13 +93,6 @@ fn begin(m: &mut [u8], s: usize, a: usize, bucket: Bucket, time: u64)
 {
     outcome::hear(m, s, time);
     set_bucket(m, a, bucket);
-}
-
-fn set_bucket(m: &mut [u8], a: usize, bucket: Bucket)
-    requires { ⌜ State (now m) × (a < owner-slots) ⌝ }
-    ensures { λ r. ⌜ Becomes (now (m .exit)) (with-rest (P.with-bucket a bucket) (gateway (cell (now (m .entry))))) ⌝ }
-{
-    clients::set_bucket(m, a, bucket);
 }
 
 // The client is told why; code 6 where there is no place for that.
@@ -140,6 +140,7 @@ fn judge_other(m: &[u8], passed: bool, allowed: bool) -> MaybeRejectCode
     or_else(check(passed, RejectCode::Throttled), own)
 }
 
+// The command is numbered for the account, which the session is logged in for.
 fn push(m: &mut [u8], s: usize, a: usize, bucket: Bucket, k: Command, time: u64)
     requires { ⌜ State (now m) × (s < session-slots) × (a < owner-slots) × (Commands.can-number (gateway (cell (now m))) ≡ true) × Commands.Plain a k ⌝ }
     ensures { λ r. ⌜ Becomes (now (m .exit)) (Commands.numbered (s + 1) k (with-rest (P.after s a bucket time) (gateway (cell (now (m .entry)))))) ⌝ }
@@ -148,6 +149,7 @@ fn push(m: &mut [u8], s: usize, a: usize, bucket: Bucket, k: Command, time: u64)
     commands::push(m, s as u64 + 1, a as u64, k);
 }
 
+// A command that places nothing; `allowed` is what it asks itself.
 fn enter_other(
     m: &mut [u8],
     s: usize,
@@ -311,6 +313,7 @@ fn price_of(kind: OrderKind) -> MaybePrice
     }
 }
 
+// The row that the order will have; its hold is found when it is placed.
 fn live_of(a: usize, order: NewOrder) -> Live
     ensures { λ r. ⌜ P.Stands a order r ⌝ }
 {
@@ -418,6 +421,7 @@ fn hold_fits(m: &[u8], a: usize, side: Side, hold: u64) -> bool
     true
 }
 
+// For the order, its notice and what it holds.
 fn has_place(m: &[u8], a: usize, order: NewOrder, o: Live) -> bool
     requires { ⌜ P.Exists a (now m) × P.Stands a order o ⌝ }
     ensures { λ r. ⌜ r ≡ P.has-place a order (gateway (cell (now (m .entry)))) ⌝ }
@@ -443,6 +447,7 @@ fn has_room(m: &[u8], a: usize, order: NewOrder, o: Live) -> bool
     false
 }
 
+// The tests in the definitions' order.
 fn judge_new(m: &[u8], a: usize, passed: bool, order: NewOrder, o: Live) -> MaybeRejectCode
     requires { ⌜ P.Exists a (now m) × P.Stands a order o ⌝ }
     ensures { λ r. ⌜ r ≡ P.first (P.new-order-tests a order passed (gateway (cell (now (m .entry))))) ⌝ }
@@ -465,6 +470,7 @@ fn place(m: &mut [u8], s: usize, number: u64, o: Live, k: Command)
     commands::queue(m, k);
 }
 
+// And its account is told what it holds.
 fn place_new(m: &mut [u8], s: usize, a: usize, order: NewOrder, o: Live)
     requires { ⌜ State (now m) × (s < session-slots) × (a < owner-slots) × (P.has-room a order (gateway (cell (now m))) ≡ true) × P.Stands a order o ⌝ }
     ensures { λ r. ⌜ Becomes (now (m .exit)) (P.placed s a order (gateway (cell (now (m .entry))))) ⌝ }
