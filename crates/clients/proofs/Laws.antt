@@ -163,7 +163,7 @@ write-funds-is i c p h l x y z q =
     then-cells C.accounts i (P.money-cells c p)
     (sets-is C.accounts i ((C.account-funded, 1) ∷ (C.account-funds-cash, c) ∷ (C.account-funds-position, p) ∷ []) h (omega arith) l refl (then-sets x (then-sets y (then-sets z no-sets)))) q
 
-word-fits : (w : ℕ) (z : ℤ) → w < modulus → int w ≡ z → Signed z
+pub word-fits : (w : ℕ) (z : ℤ) → w < modulus → int w ≡ z → Signed z
 unfolding fits
 word-fits w z h e = ap (λ x. is-some (fit x)) (sym e) ∙ ap is-some (fit-int w h)
 

@@ -1,20 +1,20 @@
 -- Who is told what does not look at the stamps, and publishing leaves them. Assumes nothing.
-use mathlib.Core.Path.{_≡_, refl, sym, ap, ap₂, _∙_}
-use mathlib.Core.Bool.{false, cond, _&&_}
+use mathlib.Core.Path.{_≡_, refl, ap, ap₂, _∙_}
+use mathlib.Core.Bool.{cond, _&&_}
 use mathlib.Core.Option.{Option, none, some, Option·map}
-use mathlib.Core.List.{List, [], _∷_, _++_}
+use mathlib.Core.List.{List, [], _++_}
 use Prim.Native.Nat.{ℕ, zero, suc, _+_, _≤_, _<_}
 use native.Mathlib.Omega.{arith}
-use lib.ListN.{length, getD, set}
-use lib.Dec.{eqb}
+use lib.ListN.{length, getD}
 use Rattle.gateway.specs.Basics.{option}
 use Rattle.gateway.specs.Rest as Rest
-use Rattle.gateway.specs.Rest.{Session, Mail, Rest, with-sessions, session-at, account-of, is-open, is-subscribed, logged-in, session-from, session-of, stamped, each-from}
+use Rattle.gateway.specs.Rest.{Session, Mail, Rest, with-sessions, session-at, is-open, is-subscribed, session-of, stamped}
 use Rattle.gateway.specs.Entry.{balance, balance-to, notice-mail, changes-to, published}
 use Rattle.gateway.specs.Calls.{Gateway}
 use Rattle.store.specs.Layout.{cell}
 use Rattle.store.specs.View.{gateway}
 use Rattle.outcome.specs.Parts.{with-rest, rest-of, Sends, Steps, steps}
+use Rattle.outcome.proofs.Changed.{session-of-stamped, stamped-beside}
 use Rattle.outcome.proofs.Walk.{stamped-rest, stamped-keeps}
 use Rattle.outcome.proofs.Steps.{Sent, sent-room}
 use Rattle.mailbox.proofs.Rows.{length-mailed}
@@ -22,35 +22,7 @@ use Rattle.balances.specs.Balances.{Exact}
 use Rattle.balances.proofs.Laws.{exact-becomes}
 use Rattle.feed.specs.Feed.{Told, notice-step, changes-step, trade-step, level-step}
 
--- ---- one session changes, in what nobody looks at
-
-module _ (u : Session → Session) where
-  abbrev pub changed-at : ℕ → List (Option Session) → List (Option Session)
-  changed-at i xs = set xs i (Option·map u (getD xs i none))
-
-  pub session-from-changed : ((x : Option Session) → account-of (Option·map u x) ≡ account-of x) → (s a i : ℕ) (xs : List (Option Session)) → session-from s a (changed-at i xs) ≡ session-from s a xs
-  session-from-changed e s a i [] = refl
-  session-from-changed e s a zero (x ∷ xs) = ap (λ o. cond (option false (eqb a) o) (some s) (session-from (suc s) a xs)) (e x)
-  session-from-changed e s a (suc i) (x ∷ xs) = ap (λ t. cond (logged-in a x) (some s) t) (session-from-changed e (suc s) a i xs)
-
-  pub each-from-changed : (f : ℕ → Option Session → List Mail) → ((j : ℕ) (x : Option Session) → f j (Option·map u x) ≡ f j x) → (n i : ℕ) (xs : List (Option Session)) →
-      each-from n f (changed-at i xs) ≡ each-from n f xs
-  each-from-changed f e n i [] = refl
-  each-from-changed f e n zero (x ∷ xs) = ap (λ ms. ms ++ each-from (suc n) f xs) (e n x)
-  each-from-changed f e n (suc i) (x ∷ xs) = ap (λ ms. f n x ++ ms) (each-from-changed f e (suc n) i xs)
-
-  pub changed-keeps : {B : Type 0} (p : Option Session → B) → ((x : Option Session) → p (Option·map u x) ≡ p x) → (i s : ℕ) (xs : List (Option Session)) → p (getD (changed-at i xs) s none) ≡ p (getD xs s none)
-  changed-keeps p e i s [] = refl
-  changed-keeps p e zero zero (x ∷ xs) = e x
-  changed-keeps p e zero (suc s) (x ∷ xs) = refl
-  changed-keeps p e (suc i) zero (x ∷ xs) = refl
-  changed-keeps p e (suc i) (suc s) (x ∷ xs) = changed-keeps p e i s xs
-
 -- ---- stamps
-
-sent-account : (t : ℕ) (x : Option Session) → account-of (Option·map (Rest.set-sent t) x) ≡ account-of x
-sent-account t none = refl
-sent-account t (some x) = refl
 
 sent-open : (t : ℕ) (x : Option Session) → is-open (Option·map (Rest.set-sent t) x) ≡ is-open x
 sent-open t none = refl
@@ -59,24 +31,6 @@ sent-open t (some x) = refl
 sent-told : (t : ℕ) (x : Option Session) → is-open (Option·map (Rest.set-sent t) x) && is-subscribed (Option·map (Rest.set-sent t) x) ≡ is-open x && is-subscribed x
 sent-told t none = refl
 sent-told t (some x) = refl
-
-session-of-stamped : (a : ℕ) (ms : List Mail) (r : Rest) → session-of a (stamped ms r) ≡ session-of a r
-session-of-stamped a [] r = refl
-session-of-stamped a (Rest.send s m ∷ ms) r =
-    session-of-stamped a ms (Rest.stamp (Rest.send s m) r) ∙ session-from-changed (Rest.set-sent (r .clock)) (sent-account (r .clock)) 0 a s (r .sessions)
-session-of-stamped a (Rest.close s ∷ ms) r = session-of-stamped a ms r
-
--- stamps, and a change that leaves the sessions and the clock alone
-module _ (p : Rest → Rest) (sessions-kept : (r : Rest) → p r .sessions ≡ r .sessions) (clock-kept : (r : Rest) → p r .clock ≡ r .clock)
-    (beside : (xs : List (Option Session)) (r : Rest) → p (with-sessions xs r) ≡ with-sessions xs (p r)) where
-  pub stamped-beside : (ms : List Mail) (r : Rest) → stamped ms (p r) ≡ p (stamped ms r)
-  stamped-beside [] r = refl
-  stamped-beside (Rest.send s m ∷ ms) r =
-      ap (stamped ms)
-      (ap₂ (λ (xs : List (Option Session)) (t : ℕ). with-sessions (changed-at (Rest.set-sent t) s xs) (p r)) (sessions-kept r) (clock-kept r)
-      ∙ sym (beside (changed-at (Rest.set-sent (r .clock)) s (r .sessions)) r))
-      ∙ stamped-beside ms (Rest.stamp (Rest.send s m) r)
-  stamped-beside (Rest.close s ∷ ms) r = stamped-beside ms r
 
 pub stamped-published : (ms : List Mail) (r : Rest) → stamped ms (published r) ≡ published (stamped ms r)
 stamped-published = stamped-beside published (λ r. refl) (λ r. refl) (λ xs r. refl)

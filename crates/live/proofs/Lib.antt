@@ -5,3 +5,4 @@ pub mod Placed
 pub mod Changes
 pub mod Notices
 pub mod Laws
+pub mod Fits

@@ -71,7 +71,7 @@ module _ (xs : List ℕ) (x : Call) (fits : CallFits x) (b : Between xs) (kept :
       go (refused k) ok e = subst Between (sym (e .state-kept)) b
       go (done a is ms h) ok e = record { state = e .becomes .state; ok = subst Ok (sym (e .becomes .gateway-is)) ok }
 
-  ended : (o : Outcome) → call g x ≡ o → (ys : List ℕ) (code : ℕ) → Ends o kept tells code xs ys → Answers (call g x) kept tells code xs ys
+  pub ended : (o : Outcome) → call g x ≡ o → (ys : List ℕ) (code : ℕ) → Ends o kept tells code xs ys → Answers (call g x) kept tells code xs ys
   ended o e ys code h = let t : Ends (call g x) kept tells code xs ys = rw e h in record { ends = t; between = again ys code t }
 
   pub refuses : (k : ℕ) → plan (g .core) (g .rest) x ≡ refuse k → kept → Answers (call g x) kept tells k xs xs

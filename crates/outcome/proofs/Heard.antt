@@ -1,38 +1,31 @@
 -- A message that is received: what becomes of it, by its session. Assumes nothing.
 use mathlib.Core.Path.{_≡_, refl, sym, ap, _∙_}
-use mathlib.Core.Bool.{true, false, cond, false≢true}
+use mathlib.Core.Bool.{true, false, false≢true}
 use mathlib.Core.Logic.{⊎-elim}
 use mathlib.Core.Option.{Option, none, some, Option·map}
-use mathlib.Core.List.{List, [], _∷_}
-use Prim.Native.Nat.{ℕ, zero, suc, _≤_, _<_}
-use lib.Dec.{eqb}
-use lib.ListN.{getD, set, List·getD-eq-default}
+use mathlib.Core.List.{List, []}
+use Prim.Native.Nat.{ℕ, _≤_, _<_}
+use lib.ListN.{List·getD-eq-default}
 use Rattle.protocol.specs.declared.Inbound.{Inbound}
 use Rattle.le.proofs.Laws.{lt-or-le}
 use Rattle.gateway.specs.Limits.{session-slots}
-use Rattle.gateway.specs.Basics.{option}
-use Rattle.gateway.specs.Rest.{Session, Rest, session-at, account-of, logged-in, session-from, session-of, is-present, at-time, set-received}
+use Rattle.gateway.specs.Rest.{Session, Rest, session-at, account-of, session-of, is-present, at-time, set-received}
 use Rattle.gateway.specs.Entry.{Plan, sends, greet, hear, receive}
 use Rattle.gateway.specs.Calls.{plan, within, receive-from}
 use Rattle.store.specs.Layout.{cell}
 use Rattle.store.specs.View.{gateway}
 use Rattle.outcome.specs.Between.{Between}
 use Rattle.outcome.specs.Parts.{rest-of, heard, Speaks}
+use Rattle.outcome.proofs.Changed.{session-from-changed}
 use Rattle.outcome.proofs.Walk.{slots}
 
--- a change of a session that keeps its account keeps who is logged in
-module _ (u : Session → Session) (e : (x : Session) → u x .account ≡ x .account) where
-  account-kept : (o : Option Session) → account-of (Option·map u o) ≡ account-of o
-  account-kept none = refl
-  account-kept (some x) = e x
-
-  pub session-from-updated : (k a i : ℕ) (xs : List (Option Session)) → session-from k a (set xs i (Option·map u (getD xs i none))) ≡ session-from k a xs
-  session-from-updated k a i [] = refl
-  session-from-updated k a zero (x ∷ xs) = ap (λ o. cond (option false (eqb a) o) (some k) (session-from (suc k) a xs)) (account-kept x)
-  session-from-updated k a (suc i) (x ∷ xs) = ap (λ o. cond (logged-in a x) (some k) o) (session-from-updated (suc k) a i xs)
-
+-- who is logged in stays so
 pub session-of-heard : (a s t : ℕ) (r : Rest) → session-of a (heard s t r) ≡ session-of a r
-session-of-heard a s t r = session-from-updated (set-received t) (λ x. refl) 0 a s (r .sessions)
+session-of-heard a s t r = session-from-changed (set-received t) kept 0 a s (r .sessions)
+  where
+    kept : (o : Option Session) → account-of (Option·map (set-received t) o) ≡ account-of o
+    kept none = refl
+    kept (some x) = refl
 
 -- who is present has a slot
 pub present-slot : (xs : List ℕ) (s : ℕ) → is-present (session-at s (rest-of xs)) ≡ true → s < session-slots

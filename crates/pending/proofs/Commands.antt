@@ -35,7 +35,7 @@ word-is w z h e = sym (of-int w h) ∙ ap (ofZ w64) e
 
 -- ---- what is read back
 
-side-back : (s : Side) → side (sideCode s) ≡ s
+pub side-back : (s : Side) → side (sideCode s) ≡ s
 side-back Buy = refl
 side-back Sell = refl
 
@@ -49,7 +49,7 @@ qty-back : (q : Q.MaybeQty) → P.maybe-qty (P.qty-flag q) (P.qty-word q) ≡ q
 qty-back Q.the-variants.None = refl
 qty-back (Q.the-variants.Some q) = refl
 
-price-back : (p : M.MaybePrice) → P.MaybeFits p → maybe-price (price-flag p) (price-word p) ≡ p
+pub price-back : (p : M.MaybePrice) → P.MaybeFits p → maybe-price (price-flag p) (price-word p) ≡ p
 price-back M.the-variants.None f = refl
 price-back (M.the-variants.Some p) f = ap M.the-variants.Some (int-of p f)
 

@@ -42,7 +42,7 @@ fn qty_word(q: MaybeQty) -> u64
     }
 }
 
-fn price_flag(p: MaybePrice) -> u64
+pub fn price_flag(p: MaybePrice) -> u64
     ensures { λ r. ⌜ r ≡ price-flag p ⌝ }
 {
     match p {
@@ -51,7 +51,7 @@ fn price_flag(p: MaybePrice) -> u64
     }
 }
 
-fn price_word(p: MaybePrice) -> u64
+pub fn price_word(p: MaybePrice) -> u64
     ensures { λ r. ⌜ (r ≡ price-word p) × P.MaybeFits p ⌝ }
 {
     match p {
@@ -61,7 +61,7 @@ fn price_word(p: MaybePrice) -> u64
 }
 
 // A cell that the kind does not have is 0. A phase change is never written.
-fn row_of(c: Command) -> [u64; 12]
+pub fn row_of(c: Command) -> [u64; 12]
     ensures { λ r. ⌜ (r ≡ P.command-row c) × P.Typed c ⌝ }
 {
     match c {

@@ -19,6 +19,7 @@ use Rattle.outcome.specs.Parts.{with-rest, rest-of, heard, Sends, Speaks}
 use Rattle.outcome.specs.Answers.{Gives}
 use Rattle.outcome.proofs.Laws.{then-becomes}
 use Rattle.outcome.proofs.Calls.{sends-short, sends-done}
+use Rattle.outcome.proofs.Changed.{stamped-updated}
 use Rattle.outcome.proofs.Heard.{hear-plan}
 use Rattle.outcome.proofs.Walk.{stamped-rest, sends-more}
 use Rattle.balances.specs.Balances.{Exact}
@@ -26,7 +27,7 @@ use Rattle.balances.proofs.Laws.{exact-between, exact-becomes}
 use Rattle.feed.proofs.Stamps.{sends-room}
 use Rattle.subscribe.specs.Subscribe.{subscribe-mail, subscribed, levels-to, level-count}
 use Rattle.subscribe.proofs.Snapshot.{levels-long}
-use Rattle.subscribe.proofs.Kept.{mail-heard, stamped-updated}
+use Rattle.subscribe.proofs.Kept.{mail-heard}
 
 -- ---- counting
 

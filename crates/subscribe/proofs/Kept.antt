@@ -1,17 +1,17 @@
--- A session that is heard changes nothing that is told; a session that is subscribed keeps its stamps. Assumes nothing.
-use mathlib.Core.Path.{_≡_, refl, sym, ap, ap₂, _∙_}
+-- A session that is heard changes nothing that is told. Assumes nothing.
+use mathlib.Core.Path.{_≡_, refl, ap, ap₂, _∙_}
 use mathlib.Core.Bool.{Bool, cond, _&&_}
 use mathlib.Core.Option.{Option, none, some, Option·map}
 use mathlib.Core.List.{List, [], _∷_, _++_}
-use Prim.Native.Nat.{ℕ, zero, suc}
+use Prim.Native.Nat.{ℕ}
 use Rattle.gateway.specs.Basics.{option, each}
 use Rattle.gateway.specs.Core.{Core}
 use Rattle.gateway.specs.Rest as Rest
-use Rattle.gateway.specs.Rest.{Session, Mail, Rest, with-sessions, session-at, account-of, is-open, is-subscribed, session-of, update-session, stamped}
+use Rattle.gateway.specs.Rest.{Session, Mail, Rest, session-at, account-of, is-open, is-subscribed, session-of}
 use Rattle.gateway.specs.Entry.{balance, balance-to, notice-mail, changes-to, publish-mail, snapshot}
 use Rattle.gateway.specs.Calls.{Gateway}
 use Rattle.outcome.specs.Parts.{with-rest, heard}
-use Rattle.feed.proofs.Stamps.{changed-at, session-from-changed, each-from-changed, changed-keeps}
+use Rattle.outcome.proofs.Changed.{changed-keeps, session-from-changed, each-from-changed}
 use Rattle.subscribe.specs.Subscribe.{subscribe-mail}
 
 -- ---- heard
@@ -55,26 +55,3 @@ module _ (s t : ℕ) (c : Core) (r : Rest) where
 
 pub mail-heard : (s t : ℕ) (g : Gateway) → subscribe-mail s (with-rest (heard s t) g) ≡ subscribe-mail s g
 mail-heard s t g = ap (λ ms. ms ++ snapshot s (g .rest)) (publish-heard s t (g .core) (g .rest))
-
--- ---- a change of one session, and stamps
-
-module _ (u v : Session → Session) (e : (x : Session) → u (v x) ≡ v (u x)) where
-  swap-one : (x : Option Session) → Option·map u (Option·map v x) ≡ Option·map v (Option·map u x)
-  swap-one none = refl
-  swap-one (some x) = ap some (e x)
-
-  swapped : (i j : ℕ) (xs : List (Option Session)) → changed-at u i (changed-at v j xs) ≡ changed-at v j (changed-at u i xs)
-  swapped i j [] = refl
-  swapped zero zero (x ∷ xs) = ap (λ y. y ∷ xs) (swap-one x)
-  swapped zero (suc j) (x ∷ xs) = refl
-  swapped (suc i) zero (x ∷ xs) = refl
-  swapped (suc i) (suc j) (x ∷ xs) = ap (λ ys. x ∷ ys) (swapped i j xs)
-
--- stamps and another change of a session
-module _ (u : Session → Session) (e : (t : ℕ) (x : Session) → u (Rest.set-sent t x) ≡ Rest.set-sent t (u x)) where
-  pub stamped-updated : (s : ℕ) (ms : List Mail) (r : Rest) → stamped ms (update-session s u r) ≡ update-session s u (stamped ms r)
-  stamped-updated s [] r = refl
-  stamped-updated s (Rest.send i m ∷ ms) r =
-      ap (λ xs. stamped ms (with-sessions xs r)) (sym (swapped u (Rest.set-sent (r .clock)) (e (r .clock)) s i (r .sessions)))
-      ∙ stamped-updated s ms (Rest.stamp (Rest.send i m) r)
-  stamped-updated s (Rest.close i ∷ ms) r = stamped-updated s ms r

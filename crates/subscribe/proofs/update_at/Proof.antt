@@ -23,13 +23,21 @@ to-i64-requires : tie.Need-to-i64-requires
 to-i64-requires c κs = search needs
 
 cast-t10 : tie.Need-cast-t10
-cast-t10 c = let s = c .before .before .before .before .before .before .before in let k = c .before .before .before .before .before in let r = c .before .before .before .before in omega (arith, orders-few (s .pre .0) (s .args .side) _ (s .args .j) _ _ (s .pre .1) (s .pre .2) (k .nth .ensures .0) (r .read-row .ensures))
+cast-t10 c =
+    let r = c .before .before .before .before in
+    let k = r .before in
+    let s = k .before .before in
+    omega (arith, orders-few (s .pre .0) (s .args .side) _ (s .args .j) _ _ (s .pre .1) (s .pre .2) (k .nth .ensures .0) (r .read-row .ensures))
 
 returns : tie.Need-returns
 returns c =
     let w = c .before .to-i64 in
-    let s = c .before .before .before .before .before .before .before in
-    update-is (s .pre .0) (s .args .side) _ (s .args .j) _ _ (s .pre .1) (s .pre .2) (c .before .before .before .before .before .nth .ensures .0) (c .before .before .before .before .read-row .ensures) _ (c .before .before .before .word-at .ensures) _ (c .before .before .lowered .ensures) _ (read {x = w .result} (w .ok) ∙ w .ensures)
+    let l = c .before .before in
+    let q = l .before in
+    let r = q .before in
+    let k = r .before in
+    let s = k .before .before in
+    update-is (s .pre .0) (s .args .side) _ (s .args .j) _ _ (s .pre .1) (s .pre .2) (k .nth .ensures .0) (r .read-row .ensures) _ (q .word-at .ensures) _ (l .lowered .ensures) _ (read {x = w .result} (w .ok) ∙ w .ensures)
 
 pub update-at-spec : {M : Type 1} → statement M
 update-at-spec =

@@ -1,0 +1,3 @@
+pub mod Numbering
+pub mod Batches
+pub mod Departures

@@ -1,0 +1,4 @@
+pub mod Judging
+pub mod Messages
+pub mod Testing
+pub mod Placing
