@@ -4,6 +4,7 @@ use accounts::Funds;
 use accounts::MaybeFunds;
 use accounts::Timing;
 use balances::MaybeBalance;
+use commands::MaybeId;
 use libc::STDOUT_FILENO;
 use outcome::Reply;
 use protocol::Balance;
@@ -201,6 +202,44 @@ fn wallet(m: &[u8], row: &[u8], got: &mut [u8])
     }
 }
 
+fn disconnect(m: &mut [u8], row: &[u8], got: &mut [u8])
+    requires { ⌜ Between (now m) ⌝ }
+    ensures { λ r. ⌜ Between (now (m .exit)) ⌝ }
+{
+    let code = commands::disconnect(m, word(row, 4) as usize);
+    put(got, 2, code);
+}
+
+fn put_account(got: &mut [u8], a: MaybeId) {
+    match a {
+        MaybeId::None => {
+            put(got, 5, 0);
+            put(got, 6, 0);
+        }
+        MaybeId::Some(id) => {
+            put(got, 5, 1);
+            put(got, 6, id as u64);
+        }
+    }
+}
+
+fn detach(m: &mut [u8], row: &[u8], got: &mut [u8])
+    requires { ⌜ Between (now m) ⌝ }
+    ensures { λ r. ⌜ Between (now (m .exit)) ⌝ }
+{
+    let a = commands::detach(m, word(row, 4) as usize);
+    put(got, 2, 0);
+    put_account(got, a);
+}
+
+fn take_batch(m: &mut [u8], got: &mut [u8], out: &mut [u8])
+    requires { ⌜ Between (now m) ⌝ }
+    ensures { λ r. ⌜ Between (now (m .exit)) ⌝ }
+{
+    let r = commands::take_batch(m, out);
+    reply(got, r);
+}
+
 fn call(m: &mut [u8], row: &[u8], got: &mut [u8], out: &mut [u8])
     requires { ⌜ Between (now m) ⌝ }
     ensures { λ r. ⌜ Between (now (m .exit)) ⌝ }
@@ -213,6 +252,9 @@ fn call(m: &mut [u8], row: &[u8], got: &mut [u8], out: &mut [u8])
         9 => publish(m, got, out),
         10 => end(m, row, got, out),
         11 => shut_down(m, got, out),
+        12 => disconnect(m, row, got),
+        13 => detach(m, row, got),
+        14 => take_batch(m, got, out),
         // A call that is not here differs in its number.
         _ => put(got, 0, u64::MAX),
     }
