@@ -3,8 +3,11 @@ use accounts::Account;
 use accounts::Funds;
 use accounts::MaybeFunds;
 use accounts::Timing;
+use balances::MaybeBalance;
+use commands::MaybeId;
 use libc::STDOUT_FILENO;
 use outcome::Reply;
+use protocol::Balance;
 use protocol::LogoutReason;
 use protocol::codes;
 use protocol::codes::MaybeLogoutReason;
@@ -164,15 +167,94 @@ fn shut_down(m: &mut [u8], got: &mut [u8], out: &mut [u8])
     reply(got, r);
 }
 
+fn publish(m: &mut [u8], got: &mut [u8], out: &mut [u8])
+    requires { ⌜ Between (now m) ⌝ }
+    ensures { λ r. ⌜ Between (now (m .exit)) ⌝ }
+{
+    let r = feed::publish(m, out);
+    reply(got, r);
+}
+
+fn levels(m: &[u8], row: &[u8], got: &mut [u8], out: &mut [u8])
+    requires { ⌜ Between (now m) ⌝ }
+{
+    let side = store::side_of(word(row, 4));
+    let r = depth::levels(m, side, out);
+    reply(got, r);
+}
+
+fn put_balance(got: &mut [u8], b: Balance) {
+    put(got, 5, 1);
+    put(got, 6, words::of_i64(b.cash));
+    put(got, 7, words::of_i64(b.position));
+    put(got, 8, words::of_i64(b.cash_held));
+    put(got, 9, words::of_i64(b.position_held));
+}
+
+fn wallet(m: &[u8], row: &[u8], got: &mut [u8])
+    requires { ⌜ Between (now m) ⌝ }
+{
+    let b = balances::wallet(m, small(row, 4));
+    put(got, 2, 0);
+    match b {
+        MaybeBalance::None => put(got, 5, 0),
+        MaybeBalance::Some(x) => put_balance(got, x),
+    }
+}
+
+fn disconnect(m: &mut [u8], row: &[u8], got: &mut [u8])
+    requires { ⌜ Between (now m) ⌝ }
+    ensures { λ r. ⌜ Between (now (m .exit)) ⌝ }
+{
+    let code = commands::disconnect(m, word(row, 4) as usize);
+    put(got, 2, code);
+}
+
+fn put_account(got: &mut [u8], a: MaybeId) {
+    match a {
+        MaybeId::None => {
+            put(got, 5, 0);
+            put(got, 6, 0);
+        }
+        MaybeId::Some(id) => {
+            put(got, 5, 1);
+            put(got, 6, id as u64);
+        }
+    }
+}
+
+fn detach(m: &mut [u8], row: &[u8], got: &mut [u8])
+    requires { ⌜ Between (now m) ⌝ }
+    ensures { λ r. ⌜ Between (now (m .exit)) ⌝ }
+{
+    let a = commands::detach(m, word(row, 4) as usize);
+    put(got, 2, 0);
+    put_account(got, a);
+}
+
+fn take_batch(m: &mut [u8], got: &mut [u8], out: &mut [u8])
+    requires { ⌜ Between (now m) ⌝ }
+    ensures { λ r. ⌜ Between (now (m .exit)) ⌝ }
+{
+    let r = commands::take_batch(m, out);
+    reply(got, r);
+}
+
 fn call(m: &mut [u8], row: &[u8], got: &mut [u8], out: &mut [u8])
     requires { ⌜ Between (now m) ⌝ }
     ensures { λ r. ⌜ Between (now (m .exit)) ⌝ }
 {
     match word(row, 0) {
         2 => connect(m, row, got),
+        4 => wallet(m, row, got),
+        6 => levels(m, row, got, out),
         8 => tick(m, row, got, out),
+        9 => publish(m, got, out),
         10 => end(m, row, got, out),
         11 => shut_down(m, got, out),
+        12 => disconnect(m, row, got),
+        13 => detach(m, row, got),
+        14 => take_batch(m, got, out),
         // A call that is not here differs in its number.
         _ => put(got, 0, u64::MAX),
     }
