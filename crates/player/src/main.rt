@@ -6,11 +6,20 @@ use accounts::Timing;
 use balances::MaybeBalance;
 use commands::MaybeId;
 use libc::STDOUT_FILENO;
+use orderbook::MaybePrice;
+use orderbook::MaybeQty;
+use orderbook::Side;
+use orderbook::TimeInForce;
 use outcome::Reply;
 use protocol::Balance;
+use protocol::Inbound;
 use protocol::LogoutReason;
+use protocol::NewOrder;
+use protocol::OrderKind;
 use protocol::codes;
 use protocol::codes::MaybeLogoutReason;
+use protocol::codes::MaybeTimeInForce;
+use risk::MaybePercent;
 ghost use Prim.Native.Nat.{_≤_};
 ghost use Rattle.gateway.specs.Limits.{owner-slots};
 ghost use Rattle.store.specs.Layout.{Holds};
@@ -178,7 +187,7 @@ fn publish(m: &mut [u8], got: &mut [u8], out: &mut [u8])
 fn levels(m: &[u8], row: &[u8], got: &mut [u8], out: &mut [u8])
     requires { ⌜ Between (now m) ⌝ }
 {
-    let side = store::side_of(word(row, 4));
+    let side = side(row, 4);
     let r = depth::levels(m, side, out);
     reply(got, r);
 }
@@ -200,6 +209,30 @@ fn wallet(m: &[u8], row: &[u8], got: &mut [u8])
         MaybeBalance::None => put(got, 5, 0),
         MaybeBalance::Some(x) => put_balance(got, x),
     }
+}
+
+fn last_seq(m: &[u8], got: &mut [u8])
+    requires { ⌜ Between (now m) ⌝ }
+{
+    let last = commands::last_seq(m);
+    put(got, 2, 0);
+    put(got, 4, last);
+}
+
+fn percent(row: &[u8]) -> MaybePercent {
+    if word(row, 4) == 0 {
+        return MaybePercent::None;
+    }
+    MaybePercent::Some(small(row, 5))
+}
+
+fn set_paper_collar(m: &mut [u8], row: &[u8], got: &mut [u8])
+    requires { ⌜ Between (now m) ⌝ }
+    ensures { λ r. ⌜ Between (now (m .exit)) ⌝ }
+{
+    let percent = percent(row);
+    orderentry::collar::set_paper_collar(m, percent);
+    put(got, 2, 0);
 }
 
 fn disconnect(m: &mut [u8], row: &[u8], got: &mut [u8])
@@ -240,14 +273,125 @@ fn take_batch(m: &mut [u8], got: &mut [u8], out: &mut [u8])
     reply(got, r);
 }
 
+// ---- messages
+
+fn side(row: &[u8], i: usize) -> Side {
+    store::side_of(word(row, i))
+}
+
+fn price(row: &[u8], i: usize) -> i64 {
+    words::to_i64(word(row, i))
+}
+
+fn tif(row: &[u8], i: usize) -> TimeInForce {
+    match codes::tif_of(code(row, i)) {
+        MaybeTimeInForce::Some(t) => t,
+        MaybeTimeInForce::None => TimeInForce::Gtc,
+    }
+}
+
+fn maybe_qty(row: &[u8]) -> MaybeQty {
+    if word(row, 13) == 0 {
+        return MaybeQty::None;
+    }
+    MaybeQty::Some(word(row, 14))
+}
+
+fn maybe_price(row: &[u8]) -> MaybePrice {
+    if word(row, 12) == 0 {
+        return MaybePrice::None;
+    }
+    MaybePrice::Some(price(row, 13))
+}
+
+fn limit(row: &[u8]) -> OrderKind {
+    let tif = tif(row, 12);
+    let display = maybe_qty(row);
+    OrderKind::Limit {
+        price: price(row, 11),
+        tif,
+        display,
+    }
+}
+
+fn stop(row: &[u8]) -> OrderKind {
+    let limit = maybe_price(row);
+    OrderKind::Stop {
+        trigger: price(row, 11),
+        limit,
+    }
+}
+
+fn order_kind(row: &[u8]) -> OrderKind {
+    match word(row, 10) {
+        0 => limit(row),
+        1 => OrderKind::Market,
+        _ => stop(row),
+    }
+}
+
+fn new_order(row: &[u8]) -> NewOrder {
+    let side = side(row, 8);
+    let kind = order_kind(row);
+    NewOrder {
+        client_ref: word(row, 7),
+        side,
+        qty: word(row, 9),
+        kind,
+    }
+}
+
+fn login(row: &[u8]) -> Inbound {
+    Inbound::Login {
+        version: (word(row, 7) % 65536) as u16,
+        account: small(row, 8),
+        token: word(row, 9),
+    }
+}
+
+fn modify(row: &[u8]) -> Inbound {
+    Inbound::Modify {
+        order_id: word(row, 7),
+        price: price(row, 8),
+        qty: word(row, 9),
+    }
+}
+
+fn message(row: &[u8]) -> Inbound {
+    match word(row, 6) {
+        0 => login(row),
+        1 => Inbound::Logout,
+        2 => Inbound::Heartbeat,
+        3 => Inbound::NewOrder(new_order(row)),
+        4 => Inbound::Cancel {
+            order_id: word(row, 7),
+        },
+        5 => modify(row),
+        6 => Inbound::MassCancel,
+        _ => Inbound::Subscribe,
+    }
+}
+
+fn receive(m: &mut [u8], row: &[u8], got: &mut [u8], out: &mut [u8])
+    requires { ⌜ Between (now m) ⌝ }
+    ensures { λ r. ⌜ Between (now (m .exit)) ⌝ }
+{
+    let message = message(row);
+    let r = exchange::receive(m, word(row, 4) as usize, message, word(row, 5), out);
+    reply(got, r);
+}
+
 fn call(m: &mut [u8], row: &[u8], got: &mut [u8], out: &mut [u8])
     requires { ⌜ Between (now m) ⌝ }
     ensures { λ r. ⌜ Between (now (m .exit)) ⌝ }
 {
     match word(row, 0) {
         2 => connect(m, row, got),
+        3 => set_paper_collar(m, row, got),
         4 => wallet(m, row, got),
+        5 => last_seq(m, got),
         6 => levels(m, row, got, out),
+        7 => receive(m, row, got, out),
         8 => tick(m, row, got, out),
         9 => publish(m, got, out),
         10 => end(m, row, got, out),
