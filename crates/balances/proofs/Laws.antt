@@ -1,11 +1,12 @@
 -- A stored balance is that of the definitions. Assumes nothing.
 use mathlib.Core.Path.{_≡_, refl, sym, ap, _∙_}
-use mathlib.Core.Bool.{Bool, true, false, cond, and-eq-true-iff, false≢true}
+use mathlib.Core.Bool.{Bool, true, false, cond, false≢true}
 use mathlib.Core.Option.{Option, none, some, Option·map}
-use mathlib.Core.List.{List, [], _∷_}
-use Prim.Native.Nat.{ℕ, zero, suc, _+_, _≤_, _<_}
+use mathlib.Core.List.{List, []}
+use Prim.Native.Nat.{ℕ, _≤_, _<_}
 use native.Mathlib.Omega.{arith}
-use lib.ListN.{getD, List·getD-eq-default}
+use lib.ListN.{List·getD-eq-default}
+use Rattle.orderbook.specs.declared.Side.{Side}
 use Rattle.orderbook.specs.declared.Side.the-variants.{Buy, Sell}
 use Rattle.protocol.specs.declared.Balance.{Balance}
 use Rattle.accounts.specs.declared.Funds.{Funds}
@@ -14,7 +15,8 @@ use Rattle.wallet.specs.declared.Wallet.{Wallet}
 use Rattle.wallet.specs.Wallet as W
 use Rattle.gateway.specs.Basics.{is-some}
 use Rattle.gateway.specs.Limits.{owner-slots}
-use Rattle.gateway.specs.Ledger.{Order, held, fits, wallet-fits, wallets-fit, holds-fit}
+use Rattle.gateway.specs.Ledger.{Order, held, fits, holds-fit}
+use Rattle.gateway.proofs.Holds.{holds-each, side-fits}
 use Rattle.gateway.specs.Rest.{Rest}
 use Rattle.gateway.specs.Entry.{wallet-is, quiet, wallet-at, balance-with, balance}
 use Rattle.gateway.specs.Calls as Calls
@@ -45,13 +47,6 @@ exact-becomes f e b = record { state = b .state; fit = ap (λ (g : Gateway). hol
 
 -- ---- the totals of one wallet
 
-one-fits : (n : ℕ) (ws : List (Option Funds)) (os : List Order) → wallets-fit n ws os ≡ true → (a : ℕ) → wallet-fits (n + a) (getD ws a none) os ≡ true
-one-fits n [] os e a = refl
-one-fits n (w ∷ ws) os e zero = let h : n + 0 ≡ n = omega arith in rw h (and-eq-true-iff (wallet-fits n w os) (wallets-fit (suc n) ws os) .0 e .0)
-one-fits n (w ∷ ws) os e (suc a) =
-    let h : n + suc a ≡ suc n + a = omega arith in
-    rw h (one-fits (suc n) ws os (and-eq-true-iff (wallet-fits n w os) (wallets-fit (suc n) ws os) .0 e .1) a)
-
 module _ (xs : List ℕ) (a : ℕ) (x : Exact xs) (l : a < owner-slots) where
   abbrev row : Row
   row = cell xs C.accounts a
@@ -59,16 +54,8 @@ module _ (xs : List ℕ) (a : ℕ) (x : Exact xs) (l : a < owner-slots) where
   abbrev os : List Order
   os = ledger (cell xs) .orders
 
-  funded : (o : Option Funds) → is-some o ≡ true → wallet-fits a o os ≡ true → (fits (held a Buy os) ≡ true) × (fits (held a Sell os) ≡ true)
-  funded none t e = absurd (false≢true t)
-  funded (some w) t e = and-eq-true-iff (fits (held a Buy os)) (fits (held a Sell os)) .0 e
-
-  both-fit : is-some (wallet row) ≡ true → (fits (held a Buy os) ≡ true) × (fits (held a Sell os) ≡ true)
-  unfolding holds-fit
-  both-fit t =
-      let z : 0 + a ≡ a = omega arith in
-      let f = rw z at (one-fits 0 (ledger (cell xs) .wallets) os (x .fit) a) in
-      funded (wallet-at a (gateway (cell xs) .core)) (ap is-some (wallet-at-row a (cell xs) l) ∙ t) f
+  one-fits : is-some (wallet row) ≡ true → (z : Side) → fits (held a z os) ≡ true
+  one-fits t = side-fits a (wallet-at a (gateway (cell xs) .core)) os (ap is-some (wallet-at-row a (cell xs) l) ∙ t) (holds-each (ledger (cell xs)) (x .fit) a)
 
   -- of a row with a wallet
   with-wallet : (b : Bool) (f : Funds) → is-some (cond b (some f) none) ≡ true → cond b (some f) none ≡ some f
@@ -77,9 +64,8 @@ module _ (xs : List ℕ) (a : ℕ) (x : Exact xs) (l : a < owner-slots) where
 
   pub balance-is : (w : Wallet) (r : Balance) → is-some (wallet row) ≡ true → w ≡ wallet-words row → r ≡ W.balance-of w → some r ≡ balance a (gateway (cell xs) .core)
   balance-is w r t e g =
-      let h = both-fit t in
-      let p = total-exact (cell xs) a Buy (x .state .sound .held) l (h .0) in
-      let q = total-exact (cell xs) a Sell (x .state .sound .held) l (h .1) in
+      let p = total-exact (cell xs) a Buy (x .state .sound .held) l (one-fits t Buy) in
+      let q = total-exact (cell xs) a Sell (x .state .sound .held) l (one-fits t Sell) in
       ap some (g ∙ ap W.balance-of e)
       ∙ (λ i. some (record { cash = int (row C.account-cash); position = int (row C.account-position); «cash_held» = p i; «position_held» = q i }))
       ∙ sym (ap (Option·map (balance-with a os)) (wallet-at-row a (cell xs) l ∙ with-wallet (flag (row C.account-funded)) _ t))

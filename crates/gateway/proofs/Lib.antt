@@ -1,5 +1,6 @@
 pub mod Base
 pub mod Money
+pub mod Holds
 pub mod Sorted
 pub mod Rows
 pub mod Bytes

@@ -56,7 +56,8 @@ use Rattle.sound.proofs.Totals.{total-exact}
 use Rattle.live.specs.Live.{hold-word, hold-notice}
 use Rattle.live.proofs.Accounts.{hold-is, held-one}
 use Rattle.live.proofs.Notices.{same-hold, other-hold, no-wallet, a-wallet}
-use Rattle.live.proofs.Fits.{Swap, holds-each, side-fits, holds-swap}
+use Rattle.gateway.proofs.Holds.{holds-each, side-fits}
+use Rattle.live.proofs.Fits.{Swap, holds-swap}
 use Rattle.outcome.specs.Parts.{rest-of}
 use Rattle.commands.specs.Commands.{can-number}
 use Rattle.orderentry.specs.OrderEntry.{first, or-else, Exists, is-free, is-covered, limit-tests, paper, hold-fits, the-command, has-place, has-room, new-order-tests, Stands}
