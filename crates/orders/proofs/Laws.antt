@@ -27,7 +27,7 @@ use Rattle.store.proofs.Rows.{then-set, then-fill, is-itself, same-write, same-
 use Rattle.orders.specs.declared.Live.{Live}
 use Rattle.orders.specs.declared.Resting.{Resting}
 use Rattle.orders.proofs.Shown.{look-map}
-use Rattle.orders.specs.Orders.{hint-slots, either, Sorted, Marks, FindsRow, Sees, strike, rest, append, places, packed, compact, hint, hint-rows, squeeze, make-room, opened, open-row}
+use Rattle.orders.specs.Orders.{hint-slots, either, Sorted, Marks, FindsRow, Sees, strike, rest, append, places, packed, compact, hint, hint-rows, squeeze, make-room, opened, open-row, number-at}
 
 -- where the rows start
 abbrev base : ℕ
@@ -327,4 +327,51 @@ sees-live s n r = sees C.order-live order number-of s n r (λ q. refl)
 pub sees-resting : (s : Store) (n : ℕ) (r : Found) → Sorted s → FindsRow C.order-resting s n r → Sees C.order-resting resting resting-number s n r
 sees-resting s n r = sees C.order-resting resting resting-number s n r (λ q. refl)
 
-pub ruleset laws = (sees-live, sees-resting, set-two-is, set-four-is, strike-is, rest-is, put-row-is, append-is, sorted-bytes, room-bytes, hint-is, squeeze-is, room-there, room-made, place-is, open-row-is, find-is, live-marks, resting-marks, header-cell, order-cell, hint-cell, arith)
+-- ---- one search for both halves: a row that is not kept has neither
+
+pub kept-marks : {s : Store} → Sorted s → Marks C.order-kept s
+kept-marks {s} t =
+    record {
+      inside = omega arith;
+      small = λ j l. let f = t .flags j l in rw (f .kept-is) (either-small (s C.orders j C.order-live) (s C.orders j C.order-resting) (f .live-is) (f .resting-is));
+    }
+
+neither : (a b : ℕ) → either a b ≡ 0 → (a ≡ 0) × (b ≡ 0)
+neither zero b e = (refl, e)
+neither (suc a) b e = absurd (omega (arith, e))
+
+-- the row i alone bears its number
+module _ (k : ℕ) (s : Store) (t : Sorted s) (i : ℕ) (inside : i < word s C.order-rows) (v : ℕ) (v-is : v ≡ s C.orders i k) where
+  pub half-there : (v ≡ 0 → ⊥) → FindsRow k s (number-at i s) (At i)
+  half-there n = (inside, refl, omega (arith, v-is, n))
+
+  pub half-gone : v ≡ 0 → FindsRow k s (number-at i s) Nothing
+  half-gone z j l e =
+      ⊎-elim (λ (q : j ≡ i). ap (λ h. s C.orders h k) q ∙ sym v-is ∙ z)
+      (λ q. absurd (⊎-elim (λ a. omega (arith, t .ascends j i a inside, e)) (λ b. omega (arith, t .ascends i j (omega arith) l, e)) (lt-or-le j i))) (same? j i)
+
+module _ (s : Store) (t : Sorted s) (n : ℕ) (q : Found) (h : FindsRow C.order-kept s n q) where
+  module _ (i : ℕ) (e : q ≡ At i) where
+    its-row : FindsRow C.order-kept s n (At i)
+    its-row = rw e at h
+
+    pub row-inside : i < word s C.order-rows
+    row-inside = its-row .0
+
+    pub its-live : (r : Found) → FindsRow C.order-live s (number-at i s) r → Sees C.order-live order number-of s n r
+    its-live r f = sees-live s n r t (rw (its-row .1) at f)
+
+    pub its-resting : (r : Found) → FindsRow C.order-resting s (number-at i s) r → Sees C.order-resting resting resting-number s n r
+    its-resting r f = sees-resting s n r t (rw (its-row .1) at f)
+
+  module _ (e : q ≡ Nothing) where
+    none-kept : (j : ℕ) → j < word s C.order-rows → s C.orders j C.order-number ≡ n → (s C.orders j C.order-live ≡ 0) × (s C.orders j C.order-resting ≡ 0)
+    none-kept j l w = let k : FindsRow C.order-kept s n Nothing = rw e at h in neither (s C.orders j C.order-live) (s C.orders j C.order-resting) (sym (t .flags j l .kept-is) ∙ k j l w)
+
+    pub no-live : (r : Found) → r ≡ Nothing → Sees C.order-live order number-of s n r
+    no-live r z = rw z (sees-live s n Nothing t (λ j l w. none-kept j l w .0))
+
+    pub no-resting : (r : Found) → r ≡ Nothing → Sees C.order-resting resting resting-number s n r
+    no-resting r z = rw z (sees-resting s n Nothing t (λ j l w. none-kept j l w .1))
+
+pub ruleset laws = (sees-live, sees-resting, half-there, half-gone, row-inside, its-live, its-resting, no-live, no-resting, kept-marks, set-two-is, set-four-is, strike-is, rest-is, put-row-is, append-is, sorted-bytes, room-bytes, hint-is, squeeze-is, room-there, room-made, place-is, open-row-is, find-is, live-marks, resting-marks, header-cell, order-cell, hint-cell, arith)

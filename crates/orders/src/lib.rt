@@ -28,7 +28,7 @@ ghost use Rattle.gateway.specs.Ledger.{number-of};
 ghost use Rattle.store.specs.Cells as C;
 ghost use Rattle.store.specs.Layout.{cell, Cell, Holds};
 ghost use Rattle.store.specs.View.{word, fill, order, resting, order-room, Is, Ready};
-ghost use Rattle.orders.specs.Orders.{Sorted, Marks, FindsRow, Sees, live-row, resting-row, set-leaves, revise, show, strike, retire, take-off, rest, append, hint, hint-rows, squeeze, make-room, open-row};
+ghost use Rattle.orders.specs.Orders.{Sorted, Marks, FindsRow, Sees, live-row, resting-row, set-leaves, revise, show, strike, retire, take-off, rest, append, hint, hint-rows, squeeze, make-room, open-row, number-at};
 
 // The live half of a row.
 pub struct Live {
@@ -87,6 +87,39 @@ pub fn find_resting(m: &[u8], number: u64) -> Found
     ensures { λ r. ⌜ Sees C.order-resting resting resting-number (cell (now (m .entry))) number r ⌝ }
 {
     find(m, ORDER_RESTING, number)
+}
+
+// Where the two halves of an order stand.
+pub struct Places {
+    pub live: Found,
+    pub resting: Found,
+}
+
+// The row i where its flag in the cell k is set.
+fn half(m: &[u8], i: usize, k: usize) -> Found
+    requires { ⌜ Ready (now m) × Sorted (cell (now m)) × (i < word (cell (now m)) C.order-rows) × (k < 16) ⌝ }
+    ensures { λ r. ⌜ FindsRow k (cell (now (m .entry))) (number-at i (cell (now (m .entry)))) r ⌝ }
+{
+    if store::get(m, store::ORDERS, i, k) == 0 {
+        return Found::Nothing;
+    }
+    Found::At(i)
+}
+
+// Both halves by one search.
+pub fn look(m: &[u8], number: u64) -> Places
+    requires { ⌜ Ready (now m) × Sorted (cell (now m)) ⌝ }
+    ensures { λ r. ⌜ Sees C.order-live order number-of (cell (now (m .entry))) number (r .live) × Sees C.order-resting resting resting-number (cell (now (m .entry))) number (r .resting) ⌝ }
+{
+    if let Found::At(i) = find(m, ORDER_KEPT, number) {
+        let live = half(m, i, ORDER_LIVE);
+        let resting = half(m, i, ORDER_RESTING);
+        return Places { live, resting };
+    }
+    Places {
+        live: Found::Nothing,
+        resting: Found::Nothing,
+    }
 }
 
 pub fn live_at(m: &[u8], i: usize) -> Live
