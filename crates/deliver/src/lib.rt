@@ -6,7 +6,7 @@ use outcome::Reply;
 use protocol::Outbound;
 use protocol::Report;
 use protocol::ReportKind;
-use reports::Told;
+use reporting::Told;
 use store::cells;
 
 // ---- a mass cancel
@@ -23,14 +23,14 @@ fn judge_mass_cancelled(m: &[u8], n: u64, owner: u64, t: Told, room: usize) -> u
         depth: true,
         trades: true,
         notices: true,
-        room: reports::rows(t) <= room,
+        room: reporting::rows(t) <= room,
     })
 }
 
 // The account's open session, of any number.
 fn told(m: &[u8], owner: usize) -> Told {
     if owner < clients::OWNER_SLOTS {
-        let to = reports::listener(m, owner);
+        let to = reporting::listener(m, owner);
         return Told { to, client_ref: 0 };
     }
     Told {
@@ -46,10 +46,10 @@ fn mass_cancelled(m: &mut [u8], n: u64, owner: u32, count: u32, out: &mut [u8]) 
         return Reply { code, count: 0 };
     }
     delivery::land(m, n);
-    reports::report(m, out, 0, n, 0, t, ReportKind::MassCancelled { count });
+    reporting::report(m, out, 0, n, 0, t, ReportKind::MassCancelled { count });
     Reply {
         code: 0,
-        count: reports::rows(t),
+        count: reporting::rows(t),
     }
 }
 

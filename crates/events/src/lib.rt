@@ -10,7 +10,7 @@ use orders::Resting;
 use outcome::Reply;
 use protocol::ReportKind;
 use protocol::codes;
-use reports::Told;
+use reporting::Told;
 use table::Found;
 
 fn refused(code: u64) -> Reply {
@@ -30,22 +30,22 @@ fn judge_quiet(m: &[u8], n: u64, id: u64, t: Told, room: usize) -> u64 {
         depth: true,
         trades: true,
         notices: true,
-        room: reports::rows(t) <= room,
+        room: reporting::rows(t) <= room,
     })
 }
 
 fn quiet(m: &mut [u8], n: u64, id: u64, kind: ReportKind, out: &mut [u8]) -> Reply {
     let at = orders::find_live(m, id);
-    let t = reports::owner(m, id, at);
+    let t = reporting::owner(m, id, at);
     let code = judge_quiet(m, n, id, t, mailbox::room(out));
     if code != 0 {
         return refused(code);
     }
     delivery::land(m, n);
-    reports::report(m, out, 0, n, id, t, kind);
+    reporting::report(m, out, 0, n, id, t, kind);
     Reply {
         code: 0,
-        count: reports::rows(t),
+        count: reporting::rows(t),
     }
 }
 
@@ -102,7 +102,7 @@ fn judge_cancelled(
         depth: shows::has_room(m, id, resting),
         trades: true,
         notices: holds::few(m, h.notices),
-        room: reports::rows(t) <= room,
+        room: reporting::rows(t) <= room,
     })
 }
 
@@ -125,16 +125,16 @@ pub fn cancelled(
     let live = at.live;
     let resting = at.resting;
     let h = holds::weigh(m, id, live, Move::Retire);
-    let t = reports::owner(m, id, live);
+    let t = reporting::owner(m, id, live);
     let code = judge_cancelled(m, n, id, resting, h, t, mailbox::room(out));
     if code != 0 {
         return refused(code);
     }
     apply_cancelled(m, n, id, live);
-    reports::report(m, out, 0, n, id, t, ReportKind::Cancelled { qty, reason });
+    reporting::report(m, out, 0, n, id, t, ReportKind::Cancelled { qty, reason });
     Reply {
         code: 0,
-        count: reports::rows(t),
+        count: reporting::rows(t),
     }
 }
 
@@ -161,13 +161,13 @@ pub fn modified(
     let live = at.live;
     let resting = at.resting;
     let h = holds::weigh(m, id, live, Move::Reprice { price: p, leaves });
-    let t = reports::owner(m, id, live);
+    let t = reporting::owner(m, id, live);
     let code = judge_cancelled(m, n, id, resting, h, t, mailbox::room(out));
     if code != 0 {
         return refused(code);
     }
     apply_modified(m, n, id, live, p, leaves);
-    reports::report(
+    reporting::report(
         m,
         out,
         0,
@@ -178,7 +178,7 @@ pub fn modified(
     );
     Reply {
         code: 0,
-        count: reports::rows(t),
+        count: reporting::rows(t),
     }
 }
 
@@ -203,7 +203,7 @@ fn judge_replenished(
         depth: shows::has_room(m, id, resting),
         trades: true,
         notices: true,
-        room: reports::rows(t) <= room,
+        room: reporting::rows(t) <= room,
     })
 }
 
@@ -225,13 +225,13 @@ pub fn replenished(
     let at = orders::look(m, id);
     let live = at.live;
     let resting = at.resting;
-    let t = reports::owner(m, id, live);
+    let t = reporting::owner(m, id, live);
     let code = judge_replenished(m, n, id, resting, visible, t, mailbox::room(out));
     if code != 0 {
         return refused(code);
     }
     apply_replenished(m, n, id, visible);
-    reports::report(
+    reporting::report(
         m,
         out,
         0,
@@ -246,7 +246,7 @@ pub fn replenished(
     );
     Reply {
         code: 0,
-        count: reports::rows(t),
+        count: reporting::rows(t),
     }
 }
 
@@ -283,7 +283,7 @@ fn judge_rested(
         depth: shows::join_room(m, id, o),
         trades: true,
         notices: holds::few(m, h.notices),
-        room: reports::rows(t) <= room,
+        room: reporting::rows(t) <= room,
     })
 }
 
@@ -309,13 +309,13 @@ pub fn rested(
     let live = at.live;
     let resting = at.resting;
     let h = holds::weigh(m, id, live, Move::Leaves { leaves: qty });
-    let t = reports::owner(m, id, live);
+    let t = reporting::owner(m, id, live);
     let code = judge_rested(m, n, id, resting, o, h, t, mailbox::room(out));
     if code != 0 {
         return refused(code);
     }
     apply_rested(m, n, id, live, o);
-    reports::report(
+    reporting::report(
         m,
         out,
         0,
@@ -331,7 +331,7 @@ pub fn rested(
     );
     Reply {
         code: 0,
-        count: reports::rows(t),
+        count: reporting::rows(t),
     }
 }
 
@@ -359,7 +359,7 @@ fn judge_rejected(m: &[u8], n: u64, id: u64, h: Shift, t: Told, room: usize) -> 
         depth: true,
         trades: true,
         notices: holds::few(m, h.notices),
-        room: reports::rows(t) <= room,
+        room: reporting::rows(t) <= room,
     })
 }
 
@@ -381,15 +381,15 @@ pub fn rejected(m: &mut [u8], n: u64, id: u64, reason: RejectReason, out: &mut [
     let at = orders::find_live(m, id);
     let ends = ended(n, id, at);
     let h = holds::weigh(m, id, ends, Move::Retire);
-    let t = reports::sender(m, n, id, at);
+    let t = reporting::sender(m, n, id, at);
     let code = judge_rejected(m, n, id, h, t, mailbox::room(out));
     if code != 0 {
         return refused(code);
     }
     apply_rejected(m, n, id, ends);
-    reports::report(m, out, 0, n, id, t, ReportKind::Rejected(reason));
+    reporting::report(m, out, 0, n, id, t, ReportKind::Rejected(reason));
     Reply {
         code: 0,
-        count: reports::rows(t),
+        count: reporting::rows(t),
     }
 }

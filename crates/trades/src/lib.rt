@@ -7,7 +7,7 @@ use outcome::Reply;
 use pending::Trade;
 use protocol::ReportKind;
 use protocol::codes;
-use reports::Told;
+use reporting::Told;
 use store::cells;
 use table::Found;
 
@@ -32,7 +32,7 @@ const MOST_TRADES: u64 = 256;
 
 fn party(m: &[u8], id: u64, live: Found, resting: Found, x: Move) -> Party {
     let shift = holds::weigh(m, id, live, x);
-    let told = reports::owner(m, id, live);
+    let told = reporting::owner(m, id, live);
     Party {
         resting,
         shift,
@@ -72,7 +72,7 @@ fn judge(m: &[u8], n: u64, d: Deal, taker: Party, maker: Party, room: usize) -> 
         depth: shows::pair_room(m, d.maker, maker_at, d.taker, taker_at),
         trades: trades < MOST_TRADES,
         notices: holds::few(m, notices),
-        room: reports::rows(taker.told) + reports::rows(maker.told) <= room,
+        room: reporting::rows(taker.told) + reporting::rows(maker.told) <= room,
     })
 }
 
@@ -188,8 +188,8 @@ pub fn trade(
     }
     let both = a.shift.funded && b.shift.funded;
     apply(m, n, id, side, d, taker_live, both);
-    let i = reports::rows(a.told);
-    reports::report(
+    let i = reporting::rows(a.told);
+    reporting::report(
         m,
         out,
         0,
@@ -204,7 +204,7 @@ pub fn trade(
             leaves: taker_leaves,
         },
     );
-    reports::report(
+    reporting::report(
         m,
         out,
         i,
@@ -221,6 +221,6 @@ pub fn trade(
     );
     Reply {
         code: 0,
-        count: i + reports::rows(b.told),
+        count: i + reporting::rows(b.told),
     }
 }

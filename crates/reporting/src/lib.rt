@@ -19,7 +19,7 @@ ghost use Rattle.orders.specs.Orders.{Sees};
 ghost use Rattle.sound.specs.Sound.{State};
 ghost use Rattle.mailbox.specs.Mailbox.{places};
 ghost use Rattle.outcome.specs.Parts.{rest-of, Sends, Stepped};
-ghost use Rattle.reports.specs.Reports as P;
+ghost use Rattle.reporting.specs.Reports as P;
 
 // The open session that is told, plus one, or 0 for none; and the order's client reference.
 pub struct Told {
