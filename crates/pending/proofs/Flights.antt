@@ -1,11 +1,11 @@
 -- Which commands are in flight: those of the run that ends at the last number. Assumes nothing.
 use mathlib.Core.Path.{_≡_, refl, sym, ap, ap₂, _∙_}
-use mathlib.Core.Bool.{true, false}
+use mathlib.Core.Bool.{true, false, false≢true}
 use mathlib.Core.Logic.{⊎-elim}
-use mathlib.Core.List.{List, []}
+use mathlib.Core.List.{List, [], _∷_}
 use Prim.Native.Nat.{ℕ, zero, suc, _+_, _-_, _%_, _≤_, _<_}
 use native.Mathlib.Omega.{arith}
-use borrow.Author.Tests.{eq-eqb, ne-eqb, le-ltb, lt-ltb, lt-leb}
+use borrow.Author.Tests.{eq-eqb, ne-eqb, le-ltb, lt-ltb, lt-leb, ltb-true}
 use lib.Dec.{ltb, leb}
 use Rattle.le.proofs.Laws.{lt-or-le}
 use Rattle.gateway.specs.Core.{Flight, drop-below, is-first, in-flight}
@@ -67,6 +67,28 @@ module _ (s : Store) (run : word s C.flying ≤ word s C.last) where
 
   pub past-run : (n : ℕ) → word s C.last < n → false ≡ in-flight n (gateway s .core)
   past-run n l = sym (ap (λ fs. is-first n (drop-below n fs)) run-is ∙ ap (is-first n) (gone (in-slot s) (λ x. refl) n start (word s C.flying) (omega arith)))
+
+  -- of a run that n is in, what is left from n on starts with n
+  pub record First (n : ℕ) : Type 0 where
+    pub behind : List Flight
+    pub are : drop-below n (flights s) ≡ in-slot s n ∷ behind
+
+  pub first-in-run : (n : ℕ) → in-flight n (gateway s .core) ≡ true → First n
+  first-in-run n e =
+      let l : n ≤ word s C.last = ⊎-elim (λ k. absurd (false≢true (past-run n k ∙ e))) (λ k. k) (lt-or-le (word s C.last) n) in
+      let q = ltb-true (word s C.last - n) (word s C.flying) (in-run n l ∙ e) in
+      let d = n - start in
+      let m = word s C.last - n in
+      let a : word s C.flying ≡ d + suc m = omega arith in
+      let b : n ≡ start + d = omega arith in
+      let z : start + d + 0 ≡ n = omega arith in
+      record {
+        behind = listed (λ j. in-slot s (start + d + suc j)) m;
+        are =
+            ap (drop-below n) run-is ∙ ap₂ (λ x y. drop-below x (listed (λ j. in-slot s (start + j)) y)) b a
+            ∙ drop-run (in-slot s) (λ x. refl) d start (suc m) ∙ listed-cons (λ j. in-slot s (start + d + j)) m
+            ∙ ap (λ x. in-slot s x ∷ listed (λ j. in-slot s (start + d + suc j)) m) z;
+      }
 
 -- ---- as the code reads them
 
