@@ -1,7 +1,7 @@
 // The levels changed since the last publishing, each once, in order of first change. Those of one slot are chained from the newest on.
 use store::cells;
 ghost use mathlib.Core.Path.{_≡_};
-ghost use Prim.Native.Nat.{_+_, _≤_, _<_};
+ghost use Prim.Native.Nat.{_≤_, _<_};
 ghost use lib.ListN.{length};
 ghost use Rattle.words.specs.Words.{int};
 ghost use Rattle.gateway.specs.Depth as D;
@@ -63,7 +63,7 @@ fn slot_at(m: &[u8], i: usize) -> usize
     slot(side, store::get(m, store::CHANGED, i, cells::CHANGED_PRICE))
 }
 
-// One more than the newest row of the slot k, or 0.
+// One more than the newest row of the slot k, or 0. A top from before the last publishing leads to no row in use, or to one of another slot.
 fn top(m: &[u8], k: usize) -> usize
     requires { ⌜ Ready (now m) × (k < P.slots) ⌝ }
     ensures { λ r. ⌜ r ≡ P.top (cell (now (m .entry))) k ⌝ }

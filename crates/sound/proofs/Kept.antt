@@ -109,6 +109,12 @@ clients-room s o =
     account : (a k : ℕ) → make-room s C.accounts a k ≡ s C.accounts a k
     account a k = at C.accounts a k (λ e. omega arith) (λ e. omega arith) (λ e f. omega arith)
 
+pub chained-room : (s : Store) → Ordered s → Chained s → Chained (make-room s)
+chained-room s o =
+    chained-kept s (make-room s) (make-room-other s o C.header 0 C.changed-rows (λ e. omega arith) (λ e. omega arith) (λ e f. omega arith))
+    (λ j k l m. make-room-other s o C.changed j k (λ e. omega arith) (λ e. omega arith) (λ e f. omega arith))
+    (λ k l. make-room-other s o C.tops k C.top-row (λ e. omega arith) (λ e. omega arith) (λ e f. omega arith))
+
 -- ---- what changes neither orders nor levels
 
 pub record Beside (s t : Store) : Type 0 where
