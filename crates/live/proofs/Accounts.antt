@@ -18,6 +18,7 @@ use Rattle.store.specs.View.{Store, write, side, maybe-price, account, gateway}
 use Rattle.orders.proofs.Views.{bounds-from}
 use Rattle.levels.specs.Levels.{size, row}
 use Rattle.clients.proofs.Views.{cache-view}
+use Rattle.pending.proofs.Chain.{chained-same}
 use Rattle.sound.specs.Sound.{held-cell, Clients, Tables}
 use Rattle.sound.proofs.Kept.{sided, tables-beside, clients-write}
 use Rattle.sound.proofs.Totals.{Counts}
@@ -43,7 +44,7 @@ tables-write a k v s d =
       sizes = λ z. refl;
       levels-are = sided (λ z. (j : ℕ) → j < size z s → row z (write C.accounts a k v s) j ≡ row z s j) (λ j l. refl) (λ j l. refl);
     })
-    (record { bounds = bounds-from s (write C.accounts a k v s) (λ k l x y z. refl) (d .ordered .bounds .orders-fit) (d .ordered .bounds); last-is = omega arith; run = d .run })
+    (record { bounds = bounds-from s (write C.accounts a k v s) (λ k l x y z. refl) (d .ordered .bounds .orders-fit) (d .ordered .bounds); last-is = omega arith; run = d .run; chained = chained-same refl (d .chained) })
     d
 
 pub tables-shift : (a : ℕ) (z : Side) (old new : ℕ) (s : Store) → Tables s → Tables (shift a z old new s)

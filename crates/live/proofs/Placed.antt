@@ -19,8 +19,10 @@ use Rattle.orders.specs.Orders as Orders
 use Rattle.orders.proofs.Views.{Touched, Did, new-row, append-touched, append-view}
 use Rattle.orders.proofs.Room.{make-room-view, make-room-room, make-room-each, make-room-other}
 use Rattle.levels.specs.Levels.{block, size, row}
+use Rattle.pending.specs.Pending.{Chained}
+use Rattle.pending.proofs.Chain.{chained-same}
 use Rattle.sound.specs.Sound.{Stored, held-cell, Clients, Tables, Sound}
-use Rattle.sound.proofs.Kept.{levels-kept, clients-kept, clients-write, clients-room}
+use Rattle.sound.proofs.Kept.{levels-kept, clients-kept, clients-write, clients-room, chained-room}
 use Rattle.sound.proofs.Totals.{Swapped, Counts, held-swapped}
 use Rattle.live.specs.Live.{CanPlace, with-ledger, holding, placing, shift, place}
 use Rattle.live.proofs.Accounts.{shift-view, open-view, tables-write, tables-shift, clients-shift, shift-counts, open-counts, hold-is, held-one, open-one}
@@ -101,6 +103,10 @@ module _ (s : Store) (d : Sound s) (n : ℕ) (o : Live) (can : CanPlace n o s) w
   grown-words =
       (ap (λ m. m + 1) (word-kept C.live-orders (λ e. omega arith)), word-kept C.resting-orders (λ e. omega arith), word-kept C.last (λ e. omega arith), word-kept C.flying (λ e. omega arith))
 
+  chained-grown : Chained grown
+  unfolding Orders.append fill
+  chained-grown = chained-same refl (chained-room s (d .tables .ordered) (d .tables .chained))
+
   tables-grown : Tables grown
   tables-grown =
       let (a, b, c, e) = grown-words in
@@ -112,6 +118,7 @@ module _ (s : Store) (d : Sound s) (n : ℕ) (o : Live) (can : CanPlace n o s) w
         resting-few = rw b (d .tables .resting-few);
         numbered = rw c (each-row (λ r. r C.order-number ≤ word s C.last) (d .tables .numbered) (can .at-most-last));
         run = rw (c, e) (d .tables .run);
+        chained = chained-grown;
       }
 
   place-swapped : Swapped s (place n o s) (o .account) (side (o .side)) [] (order-of n o ∷ [])

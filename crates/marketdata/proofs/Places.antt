@@ -23,7 +23,7 @@ use Rattle.orders.proofs.Room.{make-room-view, make-room-room, make-room-each, 
 use Rattle.orders.proofs.Opened.{open-row-view, open-row-each, open-row-here}
 use Rattle.levels.specs.Levels.{block, row, size}
 use Rattle.sound.specs.Sound.{Stored, Sound, State, Becomes}
-use Rattle.sound.proofs.Kept.{sided, becomes, clients-room}
+use Rattle.sound.proofs.Kept.{sided, becomes, clients-room, chained-room}
 use Rattle.marketdata.specs.Marketdata.{Free, CanOpen, Missing, Bears, Sought, Opens}
 use Rattle.marketdata.proofs.Steps.{beyond-same, Beyond, Rows, follows-itself, orders-step}
 
@@ -98,6 +98,7 @@ module _ {xs : List ℕ} (s : State xs) (n : ℕ) (c : CanOpen n (cell xs)) (mis
         levels-are = λ z j. λ i. record { key = level-kept z j C.level-price i; qty = level-kept z j C.level-qty i; orders = level-kept z j C.level-orders i };
         caches-are = λ a. λ i. (account-kept a C.account-cash-held i, account-kept a C.account-position-held i, account-kept a C.account-open-orders i);
         clients-are = clients-room (cell xs) ordered;
+        chained-are = chained-room (cell xs) ordered;
       }
 
   made-rows : Rows u

@@ -20,7 +20,7 @@ use Rattle.gateway.proofs.Base.{split}
 use Rattle.store.specs.Cells as C
 use Rattle.store.specs.Layout.{cell}
 use Rattle.store.specs.View.{Row, Store, Bounds, word, session, ledger, depth, changed-key}
-use Rattle.store.proofs.Places.{header-cell, account-cell, session-cell, command-cell, order-cell}
+use Rattle.store.proofs.Places.{header-cell, account-cell, session-cell, command-cell, order-cell, changed-cell, top-cell}
 use Rattle.store.proofs.Listed.{listed-length}
 use Rattle.orders.specs.declared.Live.{Live}
 use Rattle.orders.specs.Orders.{Ordered, live-row, order-of}
@@ -33,6 +33,7 @@ use Rattle.levels.proofs.Depth.{Holding}
 use Rattle.levels.proofs.Views.{asks-stay, bids-stay}
 use Rattle.clients.proofs.Links.{two-cells}
 use Rattle.pending.specs.Pending as Pending
+use Rattle.pending.proofs.Chain.{chains, chained-kept, chained-same}
 use Rattle.sound.specs.Sound.{Stored, Held, Levels, Clients, Tables, Sound, State}
 use Rattle.sound.proofs.Kept.{sided, caches, total-same, held-kept, numbered-kept, marks, clients-kept}
 use Rattle.sound.proofs.Waiting.{push-level-sound}
@@ -48,6 +49,7 @@ pub record Follows (rs : List Resting) (s : Store) : Type 0 where
   pub resting-few : word s C.resting-orders ≤ most-orders
   pub numbered : (j : ℕ) → j < word s C.order-rows → s C.orders j C.order-number ≤ word s C.last
   pub run : word s C.flying ≤ word s C.last
+  pub chained : Pending.Chained s
   pub held : Held s
   pub clients : Clients s
 
@@ -65,6 +67,7 @@ follows-itself d =
       resting-few = t .resting-few;
       numbered = t .numbered;
       run = t .run;
+      chained = t .chained;
       held = d .held;
       clients = d .clients;
     }
@@ -87,6 +90,10 @@ not-count Sell b a e = a e
 not-block : (z : Side) {b : ℕ} → b < C.bids → b ≡ block z → ⊥
 not-block Buy h e = omega arith
 not-block Sell h e = omega arith
+
+not-side : (z : Side) {b : ℕ} → C.asks < b → b ≡ block z → ⊥
+not-side Buy h e = omega arith
+not-side Sell h e = omega arith
 
 module _ (z : Side) {xs ys : List ℕ} {l : List LRow.Row} (d : L.Did z xs ys l) (s : State xs) where
   abbrev was : Tables (cell xs)
@@ -125,6 +132,13 @@ module _ (z : Side) {xs ys : List ℕ} {l : List LRow.Row} (d : L.Did z xs ys l)
       account : (a k : ℕ) → a < owner-slots → k < 16 → cell ys C.accounts a k ≡ cell xs C.accounts a k
       account a k h q = d .kept C.accounts a k (account-cell a k h q) (not-block z (omega arith)) (λ e. absurd (omega arith))
 
+  chained-stay : Pending.Chained (cell ys)
+  chained-stay =
+      chained-kept (cell xs) (cell ys) (word-kept C.changed-rows (omega arith) (λ e. omega arith) (λ e. omega arith))
+      (λ j k h q. d .kept C.changed j k (changed-cell j k (omega (arith, was .ordered .bounds .changed-fit)) q) (not-side z (omega arith)) (λ e. absurd (omega arith)))
+      (λ k h. d .kept C.tops k C.top-row (top-cell k C.top-row h (omega arith)) (not-side z (omega arith)) (λ e. absurd (omega arith)))
+      (was .chained)
+
   module _ (rs : List Resting) (mine : Holding z ys rs) (other : (w : Side) → same-side w z ≡ false → D.levels w rs ≡ D.levels w (depth (cell xs) .resting)) where
     both : (w : Side) → Table w ys × Holding w ys rs
     both = go z d mine other
@@ -162,6 +176,7 @@ module _ (z : Side) {xs ys : List ℕ} {l : List LRow.Row} (d : L.Did z xs ys l)
           resting-few = rw (keeps .resting-are) (was .resting-few);
           numbered = numbered-kept keeps (omega (arith, last-is)) (was .numbered);
           run = rw (word-kept C.flying (omega arith) (λ e. omega arith) (λ e. omega arith), last-is) (was .run);
+          chained = chained-stay;
           held = held-kept keeps caches-kept (s .sound .held);
           clients = clients-stay;
         }
@@ -188,11 +203,12 @@ pub record Beyond (s t : Store) : Type 0 where
   pub levels-are : (z : Side) (j : ℕ) → row z t j ≡ row z s j
   pub caches-are : (a : ℕ) → caches t a ≡ caches s a
   pub clients-are : Clients s → Clients t
+  pub chained-are : Pending.Chained s → Pending.Chained t
 
 -- the words and rows of that
-abbrev pub outside : Store → ℕ × ℕ × ℕ × ℕ × ℕ × (ℕ → Row) × (ℕ → Row) × (ℕ → Row) × (ℕ → Row) × (ℕ → Row) × ℕ
+abbrev pub outside : Store → ℕ × ℕ × ℕ × ℕ × ℕ × (ℕ → Row) × (ℕ → Row) × (ℕ → Row) × (ℕ → Row) × (ℕ → Row) × ℕ × (ℕ × (ℕ → Row) × (ℕ → Row))
 outside s =
-    (word s C.live-orders, word s C.last, word s C.flying, word s C.bid-levels, word s C.ask-levels, s C.bids, s C.asks, s C.accounts, s C.sessions, s C.batch, word s C.waiting)
+    (word s C.live-orders, word s C.last, word s C.flying, word s C.bid-levels, word s C.ask-levels, s C.bids, s C.asks, s C.accounts, s C.sessions, s C.batch, word s C.waiting, chains s)
 
 pub beyond-same : (s t : Store) → outside t ≡ outside s → Beyond s t
 unfolding size
@@ -206,6 +222,7 @@ beyond-same s t e =
       caches-are = λ a. ap (λ x. (x .7 a C.account-cash-held, x .7 a C.account-position-held, x .7 a C.account-open-orders)) e;
       clients-are =
           clients-kept (λ i l. ap (λ x. account-of (session (x .8 i))) e) (λ a l. ap (λ x. marks (x .7 a)) e) (ap (λ x. x .10) e) (λ j l. ap (λ x. x .9 j C.command-owner) e);
+      chained-are = chained-same (ap (λ x. x .11) e);
     }
   where
     level : Row → LRow.Row
@@ -251,6 +268,7 @@ module _ {rs : List Resting} {s t : Store} (f : Follows rs s) (d : Did s t (ledg
               resting-few = few;
               numbered = r .numbers;
               run = rw (b .flying-is, b .last-is) (f .run);
+              chained = b .chained-are (f .chained);
             };
         held =
             record {

@@ -1,7 +1,7 @@
 -- The changed levels: what a scan from the newest finds, and that one that is pushed or found is remembered. Assumes nothing.
 use mathlib.Core.Path.{_≡_, refl, sym, ap, _∙_}
 use mathlib.Core.Logic.{⊎-elim}
-use mathlib.Core.Bool.{Bool, true, false, cond, not, _||_}
+use mathlib.Core.Bool.{Bool, true, false, cond, not, _||_, and-true, and-false}
 use mathlib.Core.List.{List, [], _∷_, _++_}
 use Prim.Native.Nat.{ℕ, _+_, _-_, _≤_, _<_}
 use native.Mathlib.Omega.{arith}
@@ -52,13 +52,13 @@ same-price-is a b h k =
     not-same true e ne = absurd (ne (int-injective a b h k (same-is (int a) (int b) e)))
     not-same false e ne = refl
 
-module _ (xs : List ℕ) (i x p a : ℕ) (t : Bool) (ae : a ≡ cell xs C.changed i C.changed-side) (te : t ≡ same-side (side x) (side a)) where
-  pub key-by-price : (b : ℕ) (u : Bool) → t ≡ true → b ≡ cell xs C.changed i C.changed-price → u ≡ same-price (int p) (int b) →
-      u ≡ same-key (P.key x p) (changed-key (cell xs C.changed i))
-  key-by-price b u h be ue = rw (← ae, ← be, ← te, h) ue
+module _ (xs : List ℕ) (i x p b : ℕ) (u : Bool) (be : b ≡ cell xs C.changed i C.changed-price) (ue : u ≡ same-price (int p) (int b)) where
+  pub key-by-side : (a : ℕ) (t : Bool) → u ≡ true → a ≡ cell xs C.changed i C.changed-side → t ≡ same-side (side x) (side a) →
+      t ≡ same-key (P.key x p) (changed-key (cell xs C.changed i))
+  key-by-side a t h ae te = rw (← ae, ← be, ← ue, h, and-true) te
 
-  pub key-by-side : t ≡ false → false ≡ same-key (P.key x p) (changed-key (cell xs C.changed i))
-  key-by-side h = rw (← ae, ← te, h) refl
+  pub key-by-price : u ≡ false → false ≡ same-key (P.key x p) (changed-key (cell xs C.changed i))
+  key-by-price h = rw (← be, ← ue, h, and-false) refl
 
 -- ---- the list
 
@@ -68,12 +68,9 @@ or-swap true false c = refl
 or-swap false true c = refl
 or-swap false false c = refl
 
-last-first : (k x : Key) (xs : List Key) → is-changed k (xs ++ (x ∷ [])) ≡ (same-key k x || is-changed k xs)
+pub last-first : (k x : Key) (xs : List Key) → is-changed k (xs ++ (x ∷ [])) ≡ (same-key k x || is-changed k xs)
 last-first k x [] = refl
 last-first k x (y ∷ xs) = ap (λ t. same-key k y || t) (last-first k x xs) ∙ or-swap (same-key k y) (same-key k x) (is-changed k xs)
-
-pub scan-all : (s : Store) (k : Key) (n : ℕ) → n ≡ word s C.changed-rows → is-changed k (depth s .changed) ≡ is-changed k (listed (λ i. changed-key (s C.changed i)) n)
-scan-all s k n e = rw e refl
 
 pub scan-none : (f : ℕ → Key) (k : Key) (n : ℕ) → n ≤ 0 → is-changed k (listed f n) ≡ false
 unfolding listed

@@ -1,10 +1,14 @@
 -- What each operation writes, as a store.
-use Prim.Native.Nat.{ℕ, _+_, _-_, _%_, _^_, _<_}
+use Prim.Native.Nat.{ℕ, zero, suc, _+_, _-_, _%_, _^_, _<_}
+use mathlib.Core.Path.{_≡_}
 use mathlib.Core.List.{List, [], _∷_}
-use mathlib.Core.Bool.{cond}
+use mathlib.Core.Bool.{cond, _&&_}
+use lib.Dec.{eqb, leb}
 use lib.ListN.{getD}
 use mir.Syntax.{w64}
 use mir.Val.{SFits}
+use Rattle.orderbook.specs.declared.Side.{Side}
+use Rattle.orderbook.specs.declared.Side.the-variants.{Buy, Sell}
 use Rattle.orderbook.specs.declared.MaybePrice as M
 use Rattle.orderbook.specs.declared.MaybeQty as Q
 use Rattle.orderbook.specs.declared.Command.{Command}
@@ -17,7 +21,7 @@ use Rattle.gateway.specs.Depth.{Key, is-changed}
 use Rattle.gateway.specs.Ledger.{owner-of}
 use Rattle.gateway.specs.Limits.{most-in-flight}
 use Rattle.store.specs.Cells as C
-use Rattle.store.specs.View.{Row, Store, word, write, fill, flag, optional, side, depth}
+use Rattle.store.specs.View.{Row, Store, word, write, fill, flag, optional, side, changed-key, depth}
 use Rattle.pending.specs.declared.Flight as F
 use Rattle.pending.specs.declared.Trade as T
 use Rattle.pending.specs.declared.changed.Changed as L
@@ -68,8 +72,45 @@ changed-words r = record { side = r C.changed-side; price = r C.changed-price }
 abbrev pub key : ℕ → ℕ → Key
 key s p = (side s, int p)
 
+-- each side has 1,024 slots, and a level that of its price's word
+abbrev pub side-slots : ℕ
+side-slots = 1024
+
+abbrev pub first-slot : Side → ℕ
+first-slot Buy = 0
+first-slot Sell = side-slots
+
+unfoldable pub slot : Key → ℕ
+slot k = first-slot (k .0) + word-of (k .1) % side-slots
+
+abbrev pub slots : ℕ
+slots = 2048
+
+-- the slot of the row j
+abbrev pub slot-at : Store → ℕ → ℕ
+slot-at s j = slot (changed-key (s C.changed j))
+
+-- one more than the last of the first n rows that has the slot k, or 0
+unfoldable pub newest : Store → ℕ → ℕ → ℕ
+newest s k zero = 0
+newest s k (suc n) = cond (eqb (slot-at s n) k) (suc n) (newest s k n)
+
+-- the stored top of the slot k, or 0 where it is stale: it leads to no row in use, or to one of another slot
+unfoldable pub top : Store → ℕ → ℕ
+top s k =
+    let t = s C.tops k C.top-row in
+    cond (flag t && (leb t (word s C.changed-rows) && eqb (slot-at s (t - 1)) k)) t 0
+
+-- a row leads to the last one before it of its slot, and a slot to its newest row
+pub record Chained (s : Store) : Type 0 where
+  pub links : (j : ℕ) → j < word s C.changed-rows → s C.changed j C.changed-link ≡ newest s (slot-at s j) j
+  pub tops : (k : ℕ) → k < slots → top s k ≡ newest s k (word s C.changed-rows)
+
+-- a new level, before the others of its slot
 abbrev pub push-level : ℕ → ℕ → Store → Store
-push-level x p = push-row C.changed C.changed-rows (x ∷ p ∷ [])
+push-level x p s =
+    let k = slot (key x p) in
+    write C.tops k C.top-row (word s C.changed-rows + 1) (push-row C.changed C.changed-rows (x ∷ p ∷ top s k ∷ []) s)
 
 -- the level changed: it is listed once
 unfoldable pub remember : ℕ → ℕ → Store → Store

@@ -587,7 +587,7 @@ fn play_all(fd: i32, m: &mut [u8])
 }
 
 // An empty start comes first, so that there is a state whatever the file has.
-fn run(fd: i32, m: &mut [u8; 442624]) {
+fn run(fd: i32, m: &mut [u8; 467200]) {
     begin(
         m,
         0,
@@ -607,7 +607,7 @@ fn main() {
         os::fail(path);
         return;
     }
-    let mut m = [0u8; 442624];
+    let mut m = [0u8; 467200];
     run(fd, &mut m);
     libc::close(fd);
 }

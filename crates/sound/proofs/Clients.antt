@@ -21,6 +21,7 @@ use Rattle.levels.specs.Levels.{row, size}
 use Rattle.clients.specs.Clients.{Limited, Linked}
 use Rattle.clients.specs.Clients as P
 use Rattle.pending.specs.Pending.{BatchFits}
+use Rattle.pending.proofs.Chain.{chained-kept}
 use Rattle.clients.proofs.Rows.{write-cell, spares, cells-spare, cells-block}
 use Rattle.clients.proofs.Links.{linked-money, linked-bucket, linked-add-account, linked-connect, linked-cell, linked-log-in, linked-forget}
 use Rattle.clients.proofs.Limits.{limited-money, limited-bucket, limited-add-account, limited-connect, limited-session, limited-log-in, limited-forget}
@@ -57,6 +58,9 @@ module _ {s t : Store} (e : Elsewhere s t) (d : Sound s) where
         bounds = bounds-from s t (λ k l x y z. words k) (rw (words C.order-rows) (d .tables .ordered .bounds .orders-fit)) (d .tables .ordered .bounds);
         last-is = rw (words C.last) (omega arith);
         run = rw (words C.flying, words C.last) (d .tables .run);
+        chained =
+            chained-kept s t (words C.changed-rows) (λ j k l m. e C.changed j k (λ q. omega arith) (λ q. omega arith)) (λ k l. e C.tops k C.top-row (λ q. omega arith) (λ q. omega arith))
+            (d .tables .chained);
       })
       c (λ _. f) d
     where

@@ -15,8 +15,10 @@ use Rattle.store.specs.Cells as C
 use Rattle.store.specs.Layout.{cell}
 use Rattle.gateway.specs.Rest.{account-of}
 use Rattle.store.specs.View.{Row, Store, Same, Is, Bounds, word, write, session, depth, gateway}
-use Rattle.store.proofs.Places.{header-cell, account-cell, session-cell, command-cell}
+use Rattle.store.proofs.Places.{header-cell, account-cell, session-cell, command-cell, changed-cell, top-cell}
 use Rattle.store.proofs.Rows.{put-cell, row-unread}
+use Rattle.pending.specs.Pending.{Chained}
+use Rattle.pending.proofs.Chain.{chained-kept}
 use Rattle.clients.proofs.Links.{two-cells, linked-ext}
 use Rattle.clients.proofs.Limits.{limited-ext}
 use Rattle.store.proofs.Frames.{Agree, order-same, gateway-same}
@@ -107,6 +109,12 @@ clients-room s o =
     account : (a k : ℕ) → make-room s C.accounts a k ≡ s C.accounts a k
     account a k = at C.accounts a k (λ e. omega arith) (λ e. omega arith) (λ e f. omega arith)
 
+pub chained-room : (s : Store) → Ordered s → Chained s → Chained (make-room s)
+chained-room s o =
+    chained-kept s (make-room s) (make-room-other s o C.header 0 C.changed-rows (λ e. omega arith) (λ e. omega arith) (λ e f. omega arith))
+    (λ j k l m. make-room-other s o C.changed j k (λ e. omega arith) (λ e. omega arith) (λ e f. omega arith))
+    (λ k l. make-room-other s o C.tops k C.top-row (λ e. omega arith) (λ e. omega arith) (λ e f. omega arith))
+
 -- ---- what changes neither orders nor levels
 
 pub record Beside (s t : Store) : Type 0 where
@@ -114,11 +122,12 @@ pub record Beside (s t : Store) : Type 0 where
   pub sizes : (z : Side) → size z t ≡ size z s
   pub levels-are : (z : Side) (j : ℕ) → j < size z s → row z t j ≡ row z s j
 
--- the words that may grow: in bounds, and the last number
+-- the words that may grow: in bounds, and the last number; and the chains of changed levels
 pub record Grown (s t : Store) : Type 0 where
   pub bounds : Bounds t
   pub last-is : word s C.last ≤ word t C.last
   pub run : word t C.flying ≤ word t C.last
+  pub chained : Chained t
 
 module _ {s t : Store} (e : Beside s t) (g : Grown s t) where
   pub tables-beside : Tables s → Tables t
@@ -131,6 +140,7 @@ module _ {s t : Store} (e : Beside s t) (g : Grown s t) where
         resting-few = rw (e .keeps .resting-are) (d .resting-few);
         numbered = numbered-kept (e .keeps) (g .last-is) (d .numbered);
         run = g .run;
+        chained = g .chained;
       }
 
   pub sound-beside : ((a : ℕ) → a < owner-slots → caches t a ≡ caches s a) → (Clients s → Clients t) → Sound s → Sound t
@@ -181,6 +191,11 @@ module _ (s t : Store) (e : Same s t) (d : Sound s) where
       mark-same (word-same C.waiting (omega arith))
       (λ j l. sym (e C.batch j C.command-owner (command-cell j C.command-owner (omega (arith, bounds .batch-fits)) (omega arith))))
 
+  chained-here : Chained t
+  chained-here =
+      chained-kept s t (word-same C.changed-rows (omega arith)) (λ j k l q. sym (e C.changed j k (changed-cell j k (omega (arith, bounds .changed-fit)) q)))
+      (λ k l. sym (e C.tops k C.top-row (top-cell k C.top-row l (omega arith)))) (d .tables .chained)
+
   pub sound-same : Sound t
   sound-same =
       sound-beside
@@ -189,6 +204,7 @@ module _ (s t : Store) (e : Same s t) (d : Sound s) where
         bounds = bounds-same s t e bounds;
         last-is = rw (word-same C.last (omega arith)) (omega arith);
         run = rw (word-same C.flying (omega arith), word-same C.last (omega arith)) (d .tables .run);
+        chained = chained-here;
       })
       cache-same clients-same d
 

@@ -1,6 +1,6 @@
 -- What the live orders hold and how many there are, where one of them comes, changes or goes. Assumes nothing.
 use mathlib.Core.Path.{_≡_, refl, sym, ap, _∙_}
-use mathlib.Core.Bool.{true, false, cond, _&&_, true≢false}
+use mathlib.Core.Bool.{true, false, cond, _&&_}
 use mathlib.Core.Logic.{⊎-elim}
 use mathlib.Core.Option.{Option, none, some}
 use mathlib.Core.List.{List, [], _∷_, _++_}
@@ -11,7 +11,6 @@ use lib.ListN.{length}
 use lib.Dec.{eqb}
 use lib.IntN.{ℤ, pos, _+ℤ_, _-ℤ_, +ℤ-idl, +ℤ-idr, +ℤ-assoc}
 use Rattle.orderbook.specs.declared.Side.{Side}
-use Rattle.orderbook.specs.declared.Side.the-variants.{Buy, Sell}
 use Rattle.words.specs.Words.{int, _⊖_, fit, wrap}
 use Rattle.words.proofs.Diff.{⊖-same, ⊖-add, ⊖-sub}
 use Rattle.words.proofs.Wrap.{diff-of, int-wrap, wrap-shift}
@@ -24,6 +23,7 @@ use Rattle.gateway.specs.Ledger.{Order, order-hold, same-side, held-by, held, f
 use Rattle.gateway.proofs.Base.{split}
 use Rattle.store.specs.Cells as C
 use Rattle.store.specs.View.{Store, word, ledger}
+use Rattle.pending.proofs.Chain.{same-side-is}
 use Rattle.sound.specs.Sound.{Stored, held-cell, Held}
 use Rattle.sound.proofs.Kept.{caches, total-same}
 
@@ -116,12 +116,6 @@ pub record Counts (s t : Store) (c : ℕ) (w : Side) (h k : ℤ) (m n : ℕ) : T
 no-change : (v : ℤ) {x y : ℤ} → x ≡ pos 0 → y ≡ pos 0 → v -ℤ x +ℤ y ≡ v
 no-change v p q = (λ i. v -ℤ p i +ℤ q i) ∙ +ℤ-idr (v +ℤ pos 0) ∙ +ℤ-idr v
 
-same-is : (z w : Side) → same-side z w ≡ true → z ≡ w
-same-is Buy Buy e = refl
-same-is Sell Sell e = refl
-same-is Buy Sell e = absurd (true≢false (sym e))
-same-is Sell Buy e = absurd (true≢false (sym e))
-
 module _ {s t : Store} {c : ℕ} {w : Side} {x y : ℤ} {m k : ℕ} {old new : List Order} (p : Swapped s t c w old new) (n : Counts s t c w x y m k) (d : Held s)
     (xe : x ≡ held c w old) (ye : y ≡ held c w new) (me : m ≡ open-of c old) (ke : k ≡ open-of c new) where
   foreign : (a : ℕ) → (a ≡ c → ⊥) → (l : List Order) → Each (λ o. (o .account ≡ c) × (o .side ≡ w)) l → Each (λ o. o .account ≡ a → ⊥) l
@@ -145,7 +139,7 @@ module _ {s t : Store} {c : ℕ} {w : Side} {x y : ℤ} {m k : ℕ} {old new : L
       (λ (e : a ≡ c).
       split (λ b. (same-side z w ≡ b) → t C.accounts a (held-cell z) ≡ wrap (held a z (ledger t .orders))) (same-side z w)
       (λ _ q.
-      let i = same-is z w q in
+      let i = same-side-is z w q in
       rw (e, i)
       (n .total ∙ (λ i. wrap (int (d .totals c (rw (← e) l) w i) -ℤ xe i +ℤ ye i))
       ∙ wrap-shift (held c w (ledger s .orders)) (held c w old) (held c w new) ∙ sym (ap wrap (held-is c w))))

@@ -1,5 +1,5 @@
 -- What waits, and the words of the header: each operation keeps the state sound. Assumes nothing.
-use mathlib.Core.Path.{_≡_, ap}
+use mathlib.Core.Path.{_≡_, refl, ap}
 use Prim.Native.Nat.{ℕ, _+_, _-_, _≤_, _<_}
 use native.Mathlib.Omega.{arith}
 use Rattle.orderbook.specs.declared.Command.{Command}
@@ -13,6 +13,7 @@ use Rattle.clients.proofs.Links.{linked-ext}
 use Rattle.clients.proofs.Limits.{limited-ext}
 use Rattle.pending.specs.Pending as P
 use Rattle.pending.proofs.Commands.{batch-fits}
+use Rattle.pending.proofs.Chain.{chains, chained-kept, chained-same, chained-none, chained-pushed}
 use Rattle.sound.specs.Sound.{Clients, Sound}
 use Rattle.sound.proofs.Kept.{sided, Grown, sound-beside}
 
@@ -61,34 +62,37 @@ module _ (s : Store) (d : Sound s) where
   abbrev f : P.BatchFits s
   f = d .clients .batch
 
+  kept : {t : Store} → chains t ≡ chains s → P.Chained t
+  kept e = chained-same e (d .tables .chained)
+
   pub notice-sound : (a : ℕ) → word s C.notice-rows < most-notices → Sound (P.notice a s)
   unfolding fill
   notice-sound a l =
-      sound-untouched (search arith) (record { bounds = let c = b in search (arith, l); last-is = omega arith; run = d .tables .run }) f d
+      sound-untouched (search arith) (record { bounds = let c = b in search (arith, l); last-is = omega arith; run = d .tables .run; chained = kept refl }) f d
 
   pub trade-sound : (seq id x p q : ℕ) → word s C.trade-rows < most-trades → Sound (P.trade seq id x p q s)
   unfolding fill
   trade-sound seq id x p q l =
-      sound-untouched (search arith) (record { bounds = let c = b in search (arith, l); last-is = omega arith; run = d .tables .run }) f d
+      sound-untouched (search arith) (record { bounds = let c = b in search (arith, l); last-is = omega arith; run = d .tables .run; chained = kept refl }) f d
 
   pub published-sound : Sound (P.published s)
-  published-sound = sound-untouched (search arith) (record { bounds = let c = b in search arith; last-is = omega arith; run = d .tables .run }) f d
+  published-sound = sound-untouched (search arith) (record { bounds = let c = b in search arith; last-is = omega arith; run = d .tables .run; chained = chained-none (P.published s) refl }) f d
 
   pub take-off-sound : (x y z : ℕ) → word s C.flying < most-in-flight → Sound (P.take-off x y z s)
   unfolding fill
   take-off-sound x y z l =
-      sound-untouched (search arith) (record { bounds = let c = b in search (arith, l); last-is = omega arith; run = let r = d .tables .run in omega arith }) f d
+      sound-untouched (search arith) (record { bounds = let c = b in search (arith, l); last-is = omega arith; run = let r = d .tables .run in omega arith; chained = kept refl }) f d
 
   -- an event of a number in the run
   pub land-sound : (n : ℕ) → 0 < n → word s C.last + 1 ≤ n + word s C.flying → Sound (P.land n s)
   land-sound n l h =
       sound-untouched (search arith)
-      (record { bounds = let c = b in let m : word s C.last + 1 - n ≤ most-in-flight = omega (arith, c .flights-fit) in search (arith, m); last-is = omega arith; run = omega arith }) f d
+      (record { bounds = let c = b in let m : word s C.last + 1 - n ≤ most-in-flight = omega (arith, c .flights-fit) in search (arith, m); last-is = omega arith; run = omega arith; chained = kept refl }) f d
 
   pub push-level-sound : (x p : ℕ) → word s C.changed-rows < most-changed → Sound (P.push-level x p s)
   unfolding fill
   push-level-sound x p l =
-      sound-untouched (search arith) (record { bounds = let c = b in search (arith, l); last-is = omega arith; run = d .tables .run }) f d
+      sound-untouched (search arith) (record { bounds = let c = b in search (arith, l); last-is = omega arith; run = d .tables .run; chained = chained-pushed x p s (d .tables .chained) }) f d
 
   -- a row of the batch, whose numbers are not known one by one
   pub command-sound : (c : Command) → P.Typed c → word s C.waiting < most-in-batch → Sound (P.command-push c s)
@@ -121,6 +125,7 @@ module _ (s : Store) (d : Sound s) where
             };
         last-is = rw (words C.last) (omega arith);
         run = rw (words C.flying, words C.last) (d .tables .run);
+        chained = chained-kept s _ (words C.changed-rows) (λ j k l m. at C.changed j k (λ e. omega arith)) (λ k l. at C.tops k C.top-row (λ e. omega arith)) (d .tables .chained);
       })
       (batch-fits c s t f) d
     where
@@ -132,17 +137,17 @@ module _ (s : Store) (d : Sound s) where
 
   pub clear-sound : Sound (P.clear-batch s)
   clear-sound =
-      sound-untouched (search arith) (record { bounds = let c = b in search arith; last-is = omega arith; run = d .tables .run }) (λ j l. absurd (omega arith)) d
+      sound-untouched (search arith) (record { bounds = let c = b in search arith; last-is = omega arith; run = d .tables .run; chained = kept refl }) (λ j l. absurd (omega arith)) d
 
   pub clock-sound : (t : ℕ) → Sound (P.set-clock t s)
-  clock-sound t = sound-untouched (search arith) (record { bounds = let c = b in search arith; last-is = omega arith; run = d .tables .run }) f d
+  clock-sound t = sound-untouched (search arith) (record { bounds = let c = b in search arith; last-is = omega arith; run = d .tables .run; chained = kept refl }) f d
 
   pub delivered-sound : (n : ℕ) → Sound (P.set-delivered n s)
-  delivered-sound n = sound-untouched (search arith) (record { bounds = let c = b in search arith; last-is = omega arith; run = d .tables .run }) f d
+  delivered-sound n = sound-untouched (search arith) (record { bounds = let c = b in search arith; last-is = omega arith; run = d .tables .run; chained = kept refl }) f d
 
   pub collar-sound : (n : ℕ) → Sound (P.set-collar n s)
-  collar-sound n = sound-untouched (search arith) (record { bounds = let c = b in search arith; last-is = omega arith; run = d .tables .run }) f d
+  collar-sound n = sound-untouched (search arith) (record { bounds = let c = b in search arith; last-is = omega arith; run = d .tables .run; chained = kept refl }) f d
 
   pub mark-sound : (p : ℕ) → Sound (P.set-mark p s)
   unfolding fill
-  mark-sound p = sound-untouched (search arith) (record { bounds = let c = b in search arith; last-is = omega arith; run = d .tables .run }) f d
+  mark-sound p = sound-untouched (search arith) (record { bounds = let c = b in search arith; last-is = omega arith; run = d .tables .run; chained = kept refl }) f d

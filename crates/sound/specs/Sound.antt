@@ -13,7 +13,7 @@ use Rattle.gateway.specs.Calls.{Gateway}
 use Rattle.store.specs.Cells as C
 use Rattle.store.specs.Layout.{cell, Holds}
 use Rattle.store.specs.View.{Row, Store, word, order, ledger, depth, gateway}
-use Rattle.pending.specs.Pending.{BatchFits}
+use Rattle.pending.specs.Pending.{BatchFits, Chained}
 use Rattle.clients.specs.Clients.{Limited, Linked}
 use Rattle.orders.specs.Orders.{Ordered}
 use Rattle.levels.specs.Levels.{key, row, size, entries, best}
@@ -61,6 +61,7 @@ pub record Tables (s : Store) : Type 0 where
   -- commands are numbered one by one: no order has a later number, and those in flight end at the last
   pub numbered : (j : ℕ) → j < word s C.order-rows → s C.orders j C.order-number ≤ word s C.last
   pub run : word s C.flying ≤ word s C.last
+  pub chained : Chained s
 
 pub record Sound (s : Store) : Type 0 where
   pub tables : Tables s

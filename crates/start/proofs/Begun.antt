@@ -33,6 +33,7 @@ use Rattle.clients.specs.Clients as Clients
 use Rattle.clients.proofs.Links.{linked-ext, linked-zeros}
 use Rattle.clients.proofs.Limits.{limited-ext, limited-zeros}
 use Rattle.clients.proofs.Views.{add-account-view}
+use Rattle.pending.proofs.Chain.{chained-none}
 use Rattle.sound.specs.Sound.{held-cell, Sound, State, Becomes}
 use Rattle.sound.proofs.Kept.{becomes}
 use Rattle.sound.proofs.Clients.{add-account-sound}
@@ -108,6 +109,7 @@ module _ (limit last : ℕ) (t : Timing) (few : limit ≤ owner-slots) where
               resting-few = omega arith;
               numbered = λ j l. absurd (not-suc-le-zero l);
               run = omega arith;
+              chained = chained-none s refl;
             };
         held = record { rows = λ j l m. absurd (not-suc-le-zero l); totals = λ a l z. no-total a z; counts = λ a l. refl };
         clients = record { linked = linked-ext zeros s (λ i l. refl) (λ a l. refl) linked-zeros; limited = limited-ext zeros s (λ a l. refl) (λ a l. refl) limited-zeros; batch = λ j l. absurd (not-suc-le-zero l) };

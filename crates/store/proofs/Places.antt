@@ -145,8 +145,11 @@ trade-cell i k h l = record { block-is = omega arith; row-is = h; cell-is = l }
 pub notice-cell : (i k : ℕ) → i < 2048 → k < 1 → Cell C.notices i k
 notice-cell i k h l = record { block-is = omega arith; row-is = h; cell-is = l }
 
-pub changed-cell : (i k : ℕ) → i < 1024 → k < 2 → Cell C.changed i k
+pub changed-cell : (i k : ℕ) → i < 1024 → k < 3 → Cell C.changed i k
 changed-cell i k h l = record { block-is = omega arith; row-is = h; cell-is = l }
 
 pub hint-cell : (i k : ℕ) → i < 4096 → k < 1 → Cell C.hints i k
 hint-cell i k h l = record { block-is = omega arith; row-is = h; cell-is = l }
+
+pub top-cell : (i k : ℕ) → i < 2048 → k < 1 → Cell C.tops i k
+top-cell i k h l = record { block-is = omega arith; row-is = h; cell-is = l }

@@ -291,9 +291,20 @@ changed-side = 0
 abbrev pub changed-price : ℕ
 changed-price = 1
 
+-- one more than the last row before it of the same slot
+abbrev pub changed-link : ℕ
+changed-link = 2
+
 -- ---- rows of orders, by number modulo 4,096; a hint may be wrong
 abbrev pub hints : ℕ
 hints = 11
 
 abbrev pub hint-row : ℕ
 hint-row = 0
+
+-- ---- by a changed level's slot: one more than the newest row of the slot; it may be stale
+abbrev pub tops : ℕ
+tops = 12
+
+abbrev pub top-row : ℕ
+top-row = 0

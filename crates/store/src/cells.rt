@@ -176,5 +176,11 @@ pub const CHANGED_SIDE: usize = 0;
 
 pub const CHANGED_PRICE: usize = 1;
 
+// one more than the last row before it of the same slot
+pub const CHANGED_LINK: usize = 2;
+
 // rows of orders, by number modulo 4,096; a hint may be wrong
 pub const HINT_ROW: usize = 0;
+
+// by a changed level's slot: one more than the newest row of the slot; it may be stale
+pub const TOP_ROW: usize = 0;

@@ -32,8 +32,10 @@ pub const CHANGED: usize = 10;
 
 pub const HINTS: usize = 11;
 
+pub const TOPS: usize = 12;
+
 // The bytes of a state.
-pub const SIZE: usize = 442_624;
+pub const SIZE: usize = 467_200;
 
 // The first bytes of the blocks whose rows move.
 pub const ORDERS_AT: usize = 69_888;
@@ -58,8 +60,9 @@ fn start_of(b: usize) -> usize
         45600,
         47136,
         49184,
-        51232,
-        55328,
+        52256,
+        56352,
+        58400,
     ];
     starts[b]
 }
@@ -68,7 +71,7 @@ fn width_of(b: usize) -> usize
     requires { ⌜ b < blocks ⌝ }
     ensures { λ r. ⌜ r ≡ width b ⌝ }
 {
-    let widths = [32, 16, 8, 4, 12, 16, 4, 4, 6, 1, 2, 1];
+    let widths = [32, 16, 8, 4, 12, 16, 4, 4, 6, 1, 3, 1, 1];
     widths[b]
 }
 
@@ -124,7 +127,7 @@ pub fn clear(m: &mut [u8])
     ensures { λ r. ⌜ Is (now (m .exit)) zeros ⌝ }
 {
     let mut i: usize = 0;
-    while i < 55328 {
+    while i < 58400 {
         le::put_u64(m, 8 * i, 0);
         i += 1;
     }
