@@ -389,34 +389,13 @@ fn notice_room(m: &[u8], a: usize, hold: u64) -> bool
     n <= MOST_NOTICES
 }
 
-fn fits(a: Amount) -> bool
-    ensures { λ r. ⌜ r ≡ is-some (amount a) ⌝ }
-{
-    match a {
-        Amount::Fits(_) => true,
-        Amount::TooBig => false,
-    }
-}
-
-fn held_at(m: &[u8], a: usize, side: Side) -> u64
-    requires { ⌜ State (now m) × (a < owner-slots) ⌝ }
-    ensures { λ r. ⌜ r ≡ cell (now (m .entry)) C.accounts a (held-cell side) ⌝ }
-{
-    match side {
-        Side::Buy => store::get(m, store::ACCOUNTS, a, cells::ACCOUNT_CASH_HELD),
-        Side::Sell => store::get(m, store::ACCOUNTS, a, cells::ACCOUNT_POSITION_HELD),
-    }
-}
-
 // The total that the account's orders of this side hold stays in range.
 fn hold_fits(m: &[u8], a: usize, side: Side, hold: u64) -> bool
     requires { ⌜ P.Exists a (now m) ⌝ }
     ensures { λ r. ⌜ r ≡ P.hold-fits a side (int hold) (gateway (cell (now (m .entry)))) ⌝ }
 {
     if clients::is_funded(m, a) {
-        let held = held_at(m, a, side);
-        let total = words::total(held, 0, hold);
-        return fits(total);
+        return live::total_fits(m, a, side, 0, hold);
     }
     true
 }

@@ -6,7 +6,7 @@ ghost use Prim.Native.Nat.{_+_, _-_, _*_, _%_, _<_, _≤_};
 ghost use lib.Dec.{leb};
 ghost use lib.IntN.{ℤ, pos, negℤ, natAbs, _+ℤ_, _-ℤ_, _*ℤ_};
 ghost use lib.Signed.{leZ};
-ghost use Rattle.words.specs.Words.{base, half, int, _⊖_, signed, wide, value, place-of, placed, nearest-to, amount, fit, clamp, wrap, modulus};
+ghost use Rattle.words.specs.Words.{base, half, int, _⊖_, signed, wide, value, place-of, placed, nearest-to, amount, fit-in, fit, clamp, wrap, modulus};
 
 // 2^32, 2^63 and 2^64 - 1.
 const BASE: u64 = 4294967296;
@@ -116,6 +116,24 @@ fn wide_le(a: Wide, b: Wide) -> bool
         false
     } else {
         a.lo <= b.lo
+    }
+}
+
+// a - b, of which b is not the greater.
+fn wide_sub(a: Wide, b: Wide) -> Wide
+    requires { ⌜ wide b ≤ wide a ⌝ }
+    ensures { λ r. ⌜ wide r ≡ wide a - wide b ⌝ }
+{
+    if b.lo <= a.lo {
+        Wide {
+            hi: a.hi - b.hi,
+            lo: a.lo - b.lo,
+        }
+    } else {
+        Wide {
+            hi: a.hi - b.hi - 1,
+            lo: a.lo + (MAX - b.lo) + 1,
+        }
     }
 }
 
@@ -264,15 +282,59 @@ fn place_of(total: u64, old: u64, new: u64) -> Place
     }
 }
 
-// The exact total after one of its parts changes from `old` to `new`.
-pub fn total(total: u64, old: u64, new: u64) -> Amount
-    ensures { λ r. ⌜ amount r ≡ fit (int total -ℤ int old +ℤ int new) ⌝ }
+fn amount_at(p: Place) -> Amount
+    ensures { λ r. ⌜ amount r ≡ fit-in (placed p) ⌝ }
 {
-    match place_of(total, old, new) {
+    match p {
         Place::In(w) => Amount::Fits(w),
         Place::Above => Amount::TooBig,
         Place::Below => Amount::TooBig,
     }
+}
+
+// The exact total after one of its parts changes from `old` to `new`.
+pub fn total(total: u64, old: u64, new: u64) -> Amount
+    ensures { λ r. ⌜ amount r ≡ fit (int total -ℤ int old +ℤ int new) ⌝ }
+{
+    amount_at(place_of(total, old, new))
+}
+
+// t + d and t - d again, where d may be of two words.
+fn grown_wide(t: u64, d: Wide) -> Place
+    ensures { λ r. ⌜ placed r ≡ place-of ((t + wide d) ⊖ half) ⌝ }
+{
+    if d.hi != 0 {
+        return Place::Above;
+    }
+    grown(t, d.lo)
+}
+
+fn shrunk_wide(t: u64, d: Wide) -> Place
+    ensures { λ r. ⌜ placed r ≡ place-of (t ⊖ (half + wide d)) ⌝ }
+{
+    if d.hi != 0 {
+        return Place::Below;
+    }
+    shrunk(t, d.lo)
+}
+
+fn place_wide(t: u64, old: Wide, new: Wide) -> Place
+    ensures { λ r. ⌜ placed r ≡ place-of ((t + wide new) ⊖ (half + wide old)) ⌝ }
+{
+    if wide_le(old, new) {
+        return grown_wide(t, wide_sub(new, old));
+    }
+    shrunk_wide(t, wide_sub(old, new))
+}
+
+// The exact total after two of its parts change: what one change alone gives need not fit.
+pub fn total_of_two(total: u64, old: u64, new: u64, old2: u64, new2: u64) -> Amount
+    ensures { λ r. ⌜ amount r ≡ fit (int total -ℤ int old +ℤ int new -ℤ int old2 +ℤ int new2) ⌝ }
+{
+    let t = raised(total);
+    let before = wide_add(raised(old), raised(old2));
+    let after = wide_add(raised(new), raised(new2));
+    amount_at(place_wide(t, before, after))
 }
 
 fn nearest(p: Place) -> u64
