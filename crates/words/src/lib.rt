@@ -119,24 +119,6 @@ fn wide_le(a: Wide, b: Wide) -> bool
     }
 }
 
-// a - b, of which b is not the greater.
-fn wide_sub(a: Wide, b: Wide) -> Wide
-    requires { ⌜ wide b ≤ wide a ⌝ }
-    ensures { λ r. ⌜ wide r ≡ wide a - wide b ⌝ }
-{
-    if b.lo <= a.lo {
-        Wide {
-            hi: a.hi - b.hi,
-            lo: a.lo - b.lo,
-        }
-    } else {
-        Wide {
-            hi: a.hi - b.hi - 1,
-            lo: a.lo + (MAX - b.lo) + 1,
-        }
-    }
-}
-
 // a <= b - c
 pub fn le_sub(a: u64, b: u64, c: u64) -> bool
     ensures { λ r. ⌜ r ≡ leZ (int a) (int b -ℤ int c) ⌝ }
@@ -269,17 +251,24 @@ fn shrunk(t: u64, d: u64) -> Place
     }
 }
 
+// t - old + new, of a raised number.
+fn moved(t: u64, old: u64, new: u64) -> Place
+    ensures { λ r. ⌜ placed r ≡ place-of ((t + new) ⊖ (old + half)) ⌝ }
+{
+    if old <= new {
+        grown(t, new - old)
+    } else {
+        shrunk(t, old - new)
+    }
+}
+
 fn place_of(total: u64, old: u64, new: u64) -> Place
     ensures { λ r. ⌜ placed r ≡ place-of (int total -ℤ int old +ℤ int new) ⌝ }
 {
     let t = raised(total);
     let o = raised(old);
     let n = raised(new);
-    if o <= n {
-        grown(t, n - o)
-    } else {
-        shrunk(t, o - n)
-    }
+    moved(t, o, n)
 }
 
 fn amount_at(p: Place) -> Amount
@@ -299,32 +288,44 @@ pub fn total(total: u64, old: u64, new: u64) -> Amount
     amount_at(place_of(total, old, new))
 }
 
-// t + d and t - d again, where d may be of two words.
-fn grown_wide(t: u64, d: Wide) -> Place
-    ensures { λ r. ⌜ placed r ≡ place-of ((t + wide d) ⊖ half) ⌝ }
+// t + a + b and t - a - b.
+fn grown_twice(t: u64, a: u64, b: u64) -> Place
+    ensures { λ r. ⌜ placed r ≡ place-of ((t + (a + b)) ⊖ half) ⌝ }
 {
-    if d.hi != 0 {
-        return Place::Above;
+    if a <= MAX - b {
+        grown(t, a + b)
+    } else {
+        Place::Above
     }
-    grown(t, d.lo)
 }
 
-fn shrunk_wide(t: u64, d: Wide) -> Place
-    ensures { λ r. ⌜ placed r ≡ place-of (t ⊖ (half + wide d)) ⌝ }
+fn shrunk_twice(t: u64, a: u64, b: u64) -> Place
+    ensures { λ r. ⌜ placed r ≡ place-of (t ⊖ (half + (a + b))) ⌝ }
 {
-    if d.hi != 0 {
-        return Place::Below;
+    if a <= MAX - b {
+        shrunk(t, a + b)
+    } else {
+        Place::Below
     }
-    shrunk(t, d.lo)
 }
 
-fn place_wide(t: u64, old: Wide, new: Wide) -> Place
-    ensures { λ r. ⌜ placed r ≡ place-of ((t + wide new) ⊖ (half + wide old)) ⌝ }
+// t - old + new - old2 + new2, of a raised number.
+fn moved_twice(t: u64, old: u64, new: u64, old2: u64, new2: u64) -> Place
+    ensures { λ r. ⌜ placed r ≡ place-of ((t + (new + new2)) ⊖ (old + old2 + half)) ⌝ }
 {
-    if wide_le(old, new) {
-        return grown_wide(t, wide_sub(new, old));
+    if old <= new {
+        if old2 <= new2 {
+            grown_twice(t, new - old, new2 - old2)
+        } else {
+            moved(t, old2 - new2, new - old)
+        }
+    } else {
+        if old2 <= new2 {
+            moved(t, old - new, new2 - old2)
+        } else {
+            shrunk_twice(t, old - new, old2 - new2)
+        }
     }
-    shrunk_wide(t, wide_sub(old, new))
 }
 
 // The exact total after two of its parts change: what one change alone gives need not fit.
@@ -332,9 +333,11 @@ pub fn total_of_two(total: u64, old: u64, new: u64, old2: u64, new2: u64) -> Amo
     ensures { λ r. ⌜ amount r ≡ fit (int total -ℤ int old +ℤ int new -ℤ int old2 +ℤ int new2) ⌝ }
 {
     let t = raised(total);
-    let before = wide_add(raised(old), raised(old2));
-    let after = wide_add(raised(new), raised(new2));
-    amount_at(place_wide(t, before, after))
+    let o = raised(old);
+    let n = raised(new);
+    let o2 = raised(old2);
+    let n2 = raised(new2);
+    amount_at(moved_twice(t, o, n, o2, n2))
 }
 
 fn nearest(p: Place) -> u64
