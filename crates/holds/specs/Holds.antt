@@ -5,15 +5,14 @@ use mathlib.Core.Bool.{Bool, true, false, cond, _&&_}
 use mathlib.Core.Option.{Option, none, some, Option·map}
 use mathlib.Core.List.{List, []}
 use lib.Dec.{eqb}
-use lib.IntN.{ℤ, pos, _+ℤ_, _-ℤ_}
+use lib.IntN.{ℤ, _+ℤ_, _-ℤ_}
 use lib.ListN.{length}
 use Rattle.orderbook.specs.declared.Side.{Side}
-use Rattle.orderbook.specs.declared.MaybePrice.the-variants.{Some}
 use Rattle.words.specs.Words.{int}
 use Rattle.gateway.specs.Basics.{option, is-some}
 use Rattle.gateway.specs.Limits.{owner-slots}
-use Rattle.gateway.specs.Ledger.{Order, Ledger, Change, mark-by, fill, set-leaves, reprice, retire, find, wallet-of, paper, change, hold, order-hold, same-side, held, fits}
-use Rattle.gateway.specs.Deliver.{change-notices}
+use Rattle.gateway.specs.Ledger.{Order, Ledger, Change, fill, set-leaves, reprice, retire, find, wallet-of, paper, change, order-hold, same-side, held, fits}
+use Rattle.gateway.specs.Deliver.{hold-after, change-notices}
 use Rattle.gateway.specs.Calls.{Gateway}
 use Rattle.store.specs.Cells as C
 use Rattle.store.specs.View.{Store, side, wallet}
@@ -35,14 +34,6 @@ change-of n Retire = retire n
 -- a change of the ledger, with its notices
 abbrev pub moved : Change → Gateway → Gateway
 moved x g = with-notices (change-notices x (g .core .ledger)) (with-ledger (change x) g)
-
--- what the order o holds once x has happened to it: a fill leaves it its own price, and an order with nothing left holds nothing
-abbrev pub hold-after : Change → Order → ℤ
-hold-after (mark-by t m p) o = order-hold o
-hold-after (fill n p q v) o = hold (o .side) (o .price) v
-hold-after (set-leaves n v) o = hold (o .side) (o .price) v
-hold-after (reprice n p v) o = hold (o .side) (Some p) v
-hold-after (retire n) o = pos 0
 
 -- ---- what is weighed
 
