@@ -13,6 +13,7 @@ use Rattle.gateway.specs.Basics.{option, is-some}
 use Rattle.gateway.specs.Limits.{owner-slots}
 use Rattle.gateway.specs.Ledger.{Order, Ledger, Change, fill, set-leaves, reprice, retire, find, wallet-of, paper, change, order-hold, same-side, held, fits}
 use Rattle.gateway.specs.Deliver.{hold-after, change-notices}
+use Rattle.gateway.specs.Entry.{is-zero}
 use Rattle.gateway.specs.Calls.{Gateway}
 use Rattle.store.specs.Cells as C
 use Rattle.store.specs.View.{Store, side, wallet}
@@ -97,8 +98,9 @@ settles (Leaves v) = 0
 settles (Reprice p v) = 0
 settles Retire = 0
 
+-- and one notice more where the hold changes
 abbrev pub notice-count : Move → ℕ → ℕ → ℕ
-notice-count x old new = cond (eqb old new) (settles x) (settles x + 1)
+notice-count x old new = cond (is-zero (int new -ℤ int old)) (settles x) (settles x + 1)
 
 abbrev pub row-shift : Move → Live → Store → Shift
 row-shift x o s =
