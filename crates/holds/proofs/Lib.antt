@@ -1,2 +1,5 @@
+pub mod Pure
 pub mod Totals
 pub mod Weighing
+pub mod Judging
+pub mod Applying

@@ -1,9 +1,9 @@
 -- What `weigh` finds: the part of the order that x would change, and its notices. Assumes nothing.
 use mathlib.Core.Path.{_≡_, refl, sym, ap, ap₂, subst, _∙_}
-use mathlib.Core.Bool.{Bool, true, false, cond}
+use mathlib.Core.Bool.{Bool, true, false, cond, false≢true}
 use mathlib.Core.Option.{Option, none, some, Option·map}
 use mathlib.Core.List.{List, [], _∷_, _++_}
-use Prim.Native.Nat.{ℕ, _+_, _<_}
+use Prim.Native.Nat.{ℕ, _+_, _≤_, _<_}
 use native.Mathlib.Omega.{arith}
 use lib.IntN.{ℤ, pos, _-ℤ_}
 use lib.Dec.{eqb}
@@ -59,6 +59,12 @@ after-retire x o e = ap (λ y. hold-after-word y o) (sym e)
 pub settles-as : (x y : Move) → x ≡ y → settles y ≡ settles x
 settles-as x y e = ap settles (sym e)
 
+pub settles-small : (x : Move) → settles x ≤ 1
+settles-small (Fill p q v) = omega arith
+settles-small (Leaves v) = omega arith
+settles-small (Reprice p v) = omega arith
+settles-small Retire = omega arith
+
 pub count-same : (x : Move) (old new n : ℕ) → n ≡ settles x → old ≡ new → n ≡ notice-count x old new
 count-same x old new n h e = h ∙ sym (ap (λ b. cond b (settles x) (settles x + 1)) (stays old new e))
 
@@ -106,7 +112,7 @@ notices-by n x l e = ap (option [] (λ q. cond (is-some (wallet-of (l .wallets) 
 
 -- ---- the order that x changes
 
-new-is : (n : ℕ) (x : Move) (r : _) → int (hold-after-word x (live-row r)) ≡ hold-after (change-of n x) (order r)
+pub new-is : (n : ℕ) (x : Move) (r : _) → int (hold-after-word x (live-row r)) ≡ hold-after (change-of n x) (order r)
 new-is n (Fill p q v) r = hold-is (r C.order-side) (r C.order-priced) (r C.order-price) v
 new-is n (Leaves v) r = hold-is (r C.order-side) (r C.order-priced) (r C.order-price) v
 new-is n (Reprice p v) r = hold-is (r C.order-side) 1 p v
@@ -114,7 +120,7 @@ new-is n Retire r = int-zero
 
 -- none, or one whose account has no wallet
 nothing-weighs : (n : ℕ) (x : Move) (g : Gateway) → paper n (g .core .ledger) ≡ false → change-notices (change-of n x) (g .core .ledger) ≡ [] → paper-order n (g .core .ledger) ≡ none → Weighs n x nothing g
-nothing-weighs n x g p e f = record { inside = omega arith; paper-is = p; noticed = ap length e; is = sym (ap (Option·map (part-of (change-of n x))) f) }
+nothing-weighs n x g p e f = record { owned = record { inside = omega arith; has-wallet = λ q. absurd (false≢true q) }; paper-is = p; noticed = ap length e; is = sym (ap (Option·map (part-of (change-of n x))) f) }
 
 module _ (xs : List ℕ) (st : State xs) (n : ℕ) (x : Move) (at : Found) (sees : Sees C.order-live order number-of (cell xs) n at) where
   abbrev s : Store
@@ -199,7 +205,7 @@ module _ (xs : List ℕ) (st : State xs) (n : ℕ) (x : Move) (at : Found) (sees
               (gateway s)
           some-weighs b =
               record {
-                inside = small;
+                owned = record { inside = small; has-wallet = λ _. wallet-is b };
                 paper-is = paper-is b;
                 noticed =
                     ap length (notices-is b) ∙ counted n x was
@@ -209,4 +215,4 @@ module _ (xs : List ℕ) (st : State xs) (n : ℕ) (x : Move) (at : Found) (sees
                     ∙ sym (ap (Option·map (part-of (change-of n x))) (order-is b));
               }
 
-pub ruleset weighing = (after-fill, after-leaves, after-reprice, after-retire, settles-as, count-same, count-other, row-funded, row-unfunded, weighs-nothing, row-small, owner-small, weighs-row, arith)
+pub ruleset weighing = (after-fill, after-leaves, after-reprice, after-retire, settles-as, count-same, count-other, row-funded, row-unfunded, weighs-nothing, row-small, owner-small, live-at, weighs-row, arith)

@@ -6,7 +6,7 @@ use mathlib.Core.Option.{Option, none, some, Option·map}
 use mathlib.Core.List.{List, []}
 use lib.Dec.{eqb}
 use lib.IntN.{ℤ, _+ℤ_, _-ℤ_}
-use lib.ListN.{length}
+use lib.ListN.{length, getD}
 use Rattle.orderbook.specs.declared.Side.{Side}
 use Rattle.words.specs.Words.{int}
 use Rattle.gateway.specs.Basics.{option, is-some}
@@ -56,9 +56,14 @@ paper-order n l = option none (λ o. cond (is-some (wallet-of (l .wallets) o)) (
 abbrev pub part : Shift → Option Part
 part s = cond (s .funded) (some (record { account = s .account; side = side (s .side); old = int (s .old); new = int (s .new) })) none
 
+-- its account has a row, and a wallet where it says so
+pub record Owned (s : Shift) (l : Ledger) : Type 0 where
+  pub inside : s .account < owner-slots
+  pub has-wallet : s .funded ≡ true → is-some (getD (l .wallets) (s .account) none) ≡ true
+
 -- s is what x would do to the order n
 pub record Weighs (n : ℕ) (x : Move) (s : Shift) (g : Gateway) : Type 0 where
-  pub inside : s .account < owner-slots
+  pub owned : Owned s (g .core .ledger)
   pub paper-is : paper n (g .core .ledger) ≡ s .funded
   pub noticed : length (change-notices (change-of n x) (g .core .ledger)) ≡ s .notices
   pub is : part s ≡ Option·map (part-of (change-of n x)) (paper-order n (g .core .ledger))

@@ -130,7 +130,7 @@ pub fn weigh(m: &[u8], id: u64, at: Found, x: Move) -> Shift
 
 // Code 7: the total that the order is a part of.
 pub fn fits(m: &[u8], s: Shift) -> bool
-    requires { ⌜ Between (now m) × (s .account < owner-slots) ⌝ }
+    requires { ⌜ Between (now m) × P.Owned s (ledger (cell (now m))) ⌝ }
     ensures { λ r. ⌜ r ≡ P.shift-fits s (ledger (cell (now (m .entry)))) ⌝ }
 {
     if s.funded {
@@ -162,7 +162,7 @@ fn is_one(s: Shift, t: Shift) -> bool
 
 // Code 7 for two orders: one total that both are parts of is judged once, whatever either change alone gives.
 pub fn pair_fits(m: &[u8], s: Shift, t: Shift) -> bool
-    requires { ⌜ Between (now m) × (s .account < owner-slots) × (t .account < owner-slots) ⌝ }
+    requires { ⌜ Between (now m) × P.Owned s (ledger (cell (now m))) × P.Owned t (ledger (cell (now m))) ⌝ }
     ensures { λ r. ⌜ r ≡ P.pair-fits s t (ledger (cell (now (m .entry)))) ⌝ }
 {
     if is_one(s, t) {
