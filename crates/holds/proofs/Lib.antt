@@ -3,3 +3,4 @@ pub mod Totals
 pub mod Weighing
 pub mod Judging
 pub mod Applying
+pub mod Laws

@@ -106,6 +106,9 @@ counted n (Leaves v) q = split (λ b. length (cond b [] (q .account ∷ [])) ≡
 counted n (Reprice p v) q = split (λ b. length (cond b [] (q .account ∷ [])) ≡ cond b 0 1) (is-zero (hold-after (change-of n (Reprice p v)) q -ℤ order-hold q)) (λ _. refl) (λ _. refl)
 counted n Retire q = split (λ b. length (cond b [] (q .account ∷ [])) ≡ cond b 0 1) (is-zero (pos 0 -ℤ order-hold q)) (λ _. refl) (λ _. refl)
 
+pub notices-two : (n : ℕ) (x : Move) (q : Order) → length (order-notices (change-of n x) q) ≤ 2
+notices-two n x q = rw (counted n x q) (split (λ b. cond b (settles x) (settles x + 1) ≤ 2) (is-zero (hold-after (change-of n x) q -ℤ order-hold q)) (λ _. omega (arith, settles-small x)) (λ _. omega (arith, settles-small x)))
+
 pub notices-by : (n : ℕ) (x : Move) (l : Ledger) {w : Option Order} → find n (l .orders) ≡ w →
     change-notices (change-of n x) l ≡ option [] (λ q. cond (is-some (wallet-of (l .wallets) q)) (order-notices (change-of n x) q) []) w
 notices-by n x l e = ap (option [] (λ q. cond (is-some (wallet-of (l .wallets) q)) (order-notices (change-of n x) q) [])) (names (of n x) (l .orders) ∙ e)
