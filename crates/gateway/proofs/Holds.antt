@@ -1,18 +1,21 @@
 -- Hold totals of all wallets are in range where those of each are. Assumes nothing.
-use mathlib.Core.Path.{_≡_, refl, sym, ap, _∙_}
-use mathlib.Core.Bool.{Bool, true, false, and-eq-true-iff, false≢true}
+use mathlib.Core.Path.{_≡_, refl, sym, ap, ap₂, _∙_}
+use mathlib.Core.Bool.{Bool, true, false, _&&_, _||_, and-eq-true-iff, false≢true}
 use mathlib.Core.Logic.{⊎-elim}
 use mathlib.Core.Option.{Option, none, some}
 use mathlib.Core.List.{List, [], _∷_}
 use Prim.Native.Nat.{ℕ, zero, suc, _+_}
 use native.Mathlib.Omega.{arith}
+use borrow.Author.Tests.{eqb-true}
 use lib.ListN.{getD}
+use lib.Dec.{eqb}
 use Rattle.accounts.specs.declared.Funds.{Funds}
 use Rattle.orderbook.specs.declared.Side.{Side}
 use Rattle.orderbook.specs.declared.Side.the-variants.{Buy, Sell}
+use Rattle.table.specs.Live.{Each}
 use Rattle.table.proofs.Live.{same?}
 use Rattle.gateway.specs.Basics.{is-some}
-use Rattle.gateway.specs.Ledger.{Order, Ledger, held, fits, wallet-fits, wallets-fit, holds-fit}
+use Rattle.gateway.specs.Ledger.{Order, Ledger, same-side, held, fits, wallet-fits, wallets-fit, holds-fit}
 use Rattle.gateway.proofs.Base.{split}
 
 -- ---- all wallets, one by one
@@ -57,3 +60,75 @@ pub side-fits : (a : ℕ) (w : Option Funds) (os : List Order) → is-some w ≡
 side-fits a none os e h z = absurd (false≢true e)
 side-fits a (some f) os e h Buy = and-eq-true-iff (fits (held a Buy os)) (fits (held a Sell os)) .0 h .0
 side-fits a (some f) os e h Sell = and-eq-true-iff (fits (held a Buy os)) (fits (held a Sell os)) .0 h .1
+
+-- ---- some totals change, and the others stay
+
+-- a total: an account and a side
+abbrev pub Total : Type 0
+Total = ℕ × Side
+
+abbrev is-in : ℕ → Side → List Total → Bool
+is-in a z [] = false
+is-in a z (t ∷ ts) = (eqb (t .0) a && same-side z (t .1)) || is-in a z ts
+
+abbrev pub totals-fit : List Total → List Order → Bool
+totals-fit [] os = true
+totals-fit (t ∷ ts) os = fits (held (t .0) (t .1) os) && totals-fit ts os
+
+-- t is another total
+abbrev pub Other : ℕ → Side → Total → Type 0
+Other a z t = (eqb (t .0) a && same-side z (t .1)) ≡ false
+
+pub side-is : (z w : Side) → same-side z w ≡ true → z ≡ w
+side-is Buy Buy e = refl
+side-is Buy Sell e = absurd (false≢true e)
+side-is Sell Buy e = absurd (false≢true e)
+side-is Sell Sell e = refl
+
+listed-fits : (a : ℕ) (z : Side) (ts : List Total) (os : List Order) → totals-fit ts os ≡ true → is-in a z ts ≡ true → fits (held a z os) ≡ true
+listed-fits a z [] os h e = absurd (false≢true e)
+listed-fits a z (t ∷ ts) os h e =
+    let u = and-eq-true-iff (fits (held (t .0) (t .1) os)) (totals-fit ts os) .0 h in
+    split (λ b. ((eqb (t .0) a && same-side z (t .1)) ≡ b) → b || is-in a z ts ≡ true → fits (held a z os) ≡ true) (eqb (t .0) a && same-side z (t .1))
+    (λ _ q _.
+    let v = and-eq-true-iff (eqb (t .0) a) (same-side z (t .1)) .0 q in
+    ap₂ (λ b w. fits (held b w os)) (sym (eqb-true (t .0) a (v .0))) (side-is z (t .1) (v .1)) ∙ u .0)
+    (λ _ _ k. listed-fits a z ts os (u .1) k) refl e
+
+not-listed : (a : ℕ) (z : Side) (ts : List Total) → is-in a z ts ≡ false → Each (Other a z) ts
+not-listed a z [] e = tt
+not-listed a z (t ∷ ts) e =
+    split (λ b. ((eqb (t .0) a && same-side z (t .1)) ≡ b) → b || is-in a z ts ≡ false → Each (Other a z) (t ∷ ts)) (eqb (t .0) a && same-side z (t .1))
+    (λ _ _ k. absurd (false≢true (sym k))) (λ _ q k. (q, not-listed a z ts k)) refl e
+
+both-ways : (b c : Bool) → (b ≡ true → c ≡ true) → (c ≡ true → b ≡ true) → b ≡ c
+both-ways true c f g = sym (f refl)
+both-ways false true f g = g refl
+both-ways false false f g = refl
+
+-- where every total fitted, those that changed decide
+pub holds-listed : (l k : Ledger) (ts : List Total) → holds-fit l ≡ true → ((a : ℕ) → is-some (getD (k .wallets) a none) ≡ is-some (getD (l .wallets) a none)) →
+    Each (λ t. is-some (getD (l .wallets) (t .0) none) ≡ true) ts →
+    ((a : ℕ) (z : Side) → is-some (getD (l .wallets) a none) ≡ true → Each (Other a z) ts → held a z (k .orders) ≡ held a z (l .orders)) →
+    holds-fit k ≡ totals-fit ts (k .orders)
+holds-listed l k ts h same mine stay = both-ways (holds-fit k) (totals-fit ts (k .orders)) (λ e. down e ts mine) (λ e. each-holds k (up e))
+  where
+    down : holds-fit k ≡ true → (us : List Total) → Each (λ t. is-some (getD (l .wallets) (t .0) none) ≡ true) us → totals-fit us (k .orders) ≡ true
+    down e [] m = refl
+    down e (t ∷ us) m =
+        and-eq-true-iff (fits (held (t .0) (t .1) (k .orders))) (totals-fit us (k .orders)) .1
+        (side-fits (t .0) (getD (k .wallets) (t .0) none) (k .orders) (same (t .0) ∙ m .0) (holds-each k e (t .0)) (t .1), down e us (m .1))
+
+    total : totals-fit ts (k .orders) ≡ true → (a : ℕ) → is-some (getD (l .wallets) a none) ≡ true → (z : Side) → fits (held a z (k .orders)) ≡ true
+    total e a w z =
+        split (λ b. (is-in a z ts ≡ b) → fits (held a z (k .orders)) ≡ true) (is-in a z ts) (λ _ i. listed-fits a z ts (k .orders) e i)
+        (λ _ i. ap fits (stay a z w (not-listed a z ts i)) ∙ side-fits a (getD (l .wallets) a none) (l .orders) w (holds-each l h a) z) refl
+
+    up : totals-fit ts (k .orders) ≡ true → (a : ℕ) → fits-at a k ≡ true
+    up e a = by (getD (k .wallets) a none) refl
+      where
+        by : (w : Option Funds) → getD (k .wallets) a none ≡ w → wallet-fits a w (k .orders) ≡ true
+        by none q = refl
+        by (some f) q =
+            let v = sym (same a) ∙ ap is-some q in
+            and-eq-true-iff (fits (held a Buy (k .orders))) (fits (held a Sell (k .orders))) .1 (total e a v Buy, total e a v Sell)

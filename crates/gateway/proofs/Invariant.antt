@@ -309,10 +309,13 @@ still-some (w ∷ ws) zero v h (suc j) = refl
 still-some (w ∷ ws) (suc i) v h zero = refl
 still-some (w ∷ ws) (suc i) v h (suc j) = still-some ws i v h j
 
-pay-owned : (t : List (Option Account)) (p : ℤ) (q : ℕ) (o : Option Order) (ws : List (Option Funds)) → Owned t ws → Owned t (pay p q o ws)
+pub pay-some : (p : ℤ) (q : ℕ) (o : Option Order) (ws : List (Option Funds)) (j : ℕ) → is-some (getD (pay p q o ws) j none) ≡ is-some (getD ws j none)
 unfolding pay
-pay-owned t p q none ws h = h
-pay-owned t p q (some o) ws h = λ j. still-some ws (o .account) _ (some-map (settle (o .side) p q) (getD ws (o .account) none)) j ∙ h j
+pay-some p q none ws j = refl
+pay-some p q (some o) ws j = still-some ws (o .account) _ (some-map (settle (o .side) p q) (getD ws (o .account) none)) j
+
+pay-owned : (t : List (Option Account)) (p : ℤ) (q : ℕ) (o : Option Order) (ws : List (Option Funds)) → Owned t ws → Owned t (pay p q o ws)
+pay-owned t p q o ws h j = pay-some p q o ws j ∙ h j
 
 -- a new account's wallet
 owned-set : (a : Account) (t : List (Option Account)) (ws : List (Option Funds)) → a .id < length t → length t ≤ length ws → Owned t ws →

@@ -18,6 +18,7 @@ pub mod Examples
 pub mod FromRust
 pub mod Rejected
 pub mod Roomy
+pub mod Moves
 pub mod Settled
 pub mod Counted
 pub mod Levels

@@ -65,6 +65,14 @@ reports n (PhaseChanged p) c r = each-session (λ s x. report s (about n 0 0 (Ki
 abbrev pub hold-notice : ℕ → ℤ → ℤ → List ℕ
 hold-notice a old new = cond (is-zero (new -ℤ old)) [] (a ∷ [])
 
+-- what order o holds once x has happened to it: a fill leaves it its own price
+abbrev pub hold-after : Change → Order → ℤ
+hold-after (mark-by t m p) o = order-hold o
+hold-after (fill n p q v) o = hold (o .side) (o .price) v
+hold-after (set-leaves n v) o = hold (o .side) (o .price) v
+hold-after (reprice n p v) o = hold (o .side) (Some p) v
+hold-after (retire n) o = pos 0
+
 -- what is noticed of order o, whose account has a wallet: settling, and a hold that changes
 abbrev pub order-notices : Change → Order → List ℕ
 order-notices (mark-by t m p) o = []

@@ -3,7 +3,7 @@ use mathlib.Core.Path.{_≡_, refl, sym, ap, _∙_}
 use mathlib.Core.Bool.{Bool, true, false, cond, _&&_, and-eq-true-iff}
 use mathlib.Core.Option.{Option, none, some}
 use mathlib.Core.List.{List, [], _∷_, _++_}
-use Prim.Native.Nat.{ℕ}
+use Prim.Native.Nat.{ℕ, _<_}
 use lib.ListN.{getD}
 use lib.IntN.{ℤ, pos, _+ℤ_, _-ℤ_, +ℤ-idr}
 use Rattle.accounts.specs.declared.Funds.{Funds}
@@ -11,10 +11,15 @@ use Rattle.orderbook.specs.declared.Side.{Side}
 use Rattle.orderbook.specs.declared.Side.the-variants.{Buy, Sell}
 use Rattle.table.specs.Live.{Each}
 use Rattle.table.proofs.Lists.{each-map}
+use Rattle.words.specs.Words.{int}
 use Rattle.gateway.specs.Basics.{is-some}
+use Rattle.gateway.specs.Limits.{owner-slots}
 use Rattle.gateway.specs.Ledger.{Order, Ledger, with-orders, same-side, held, fits, wallet-fits, holds-fit}
-use Rattle.gateway.proofs.Holds.{holds-each, holds-touched}
-use Rattle.sound.proofs.Totals.{held-parts, held-foreign, held-opposite}
+use Rattle.gateway.proofs.Holds.{holds-each, holds-touched, side-fits}
+use Rattle.store.specs.Cells as C
+use Rattle.store.specs.View.{Store, ledger}
+use Rattle.sound.specs.Sound.{held-cell, Held}
+use Rattle.sound.proofs.Totals.{held-parts, held-foreign, held-opposite, total-exact}
 
 -- ---- orders of one account and side give way to others
 
@@ -70,3 +75,9 @@ pub holds-swap : (l : Ledger) {a : ℕ} {z : Side} {old new ps : List Order} →
 holds-swap l {a} {z} {old} {new} {ps} s h =
     holds-touched (with-orders ps l) a (λ b n. wallet-same b (getD (l .wallets) b none) (l .orders) ps (others-stay s b n) ∙ holds-each l h b)
     ∙ touched-fits a z (getD (l .wallets) a none) (l .orders) ps _ (swap-held s a z) (side-stays s) (holds-each l h a)
+
+-- ---- the stored total is exact
+
+pub held-exact : (s : Store) (a : ℕ) → Held s → holds-fit (ledger s) ≡ true → a < owner-slots → is-some (getD (ledger s .wallets) a none) ≡ true → (z : Side) →
+    int (s C.accounts a (held-cell z)) ≡ held a z (ledger s .orders)
+held-exact s a d h l w z = total-exact s a z d l (side-fits a (getD (ledger s .wallets) a none) (ledger s .orders) w (holds-each (ledger s) h a) z)

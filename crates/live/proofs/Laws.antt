@@ -13,13 +13,14 @@ use Rattle.orderbook.specs.declared.Side.{Side}
 use Rattle.orderbook.specs.declared.Side.the-variants.{Buy, Sell}
 use Rattle.orderbook.specs.declared.MaybePrice.the-variants.{None, Some}
 use Rattle.protocol.specs.declared.Balance.{Balance}
-use Rattle.words.specs.Words.{int, wrap, modulus}
+use Rattle.words.specs.declared.Amount.{Amount}
+use Rattle.words.specs.Words.{int, fit, amount, wrap, modulus}
 use Rattle.words.proofs.Wrap.{wrap-int}
 use Rattle.wallet.specs.declared.Wallet.{Wallet}
 use Rattle.wallet.specs.Wallet as W
 use Rattle.gateway.specs.Basics.{is-some}
 use Rattle.gateway.specs.Limits.{owner-slots}
-use Rattle.gateway.specs.Ledger.{hold, price-option}
+use Rattle.gateway.specs.Ledger.{hold, price-option, fits}
 use Rattle.gateway.proofs.Base.{split}
 use Rattle.store.specs.Cells as C
 use Rattle.store.specs.Layout.{cell, Holds, Set}
@@ -116,5 +117,20 @@ place-is xs n o h c w l e f g p q r t =
     (then-shift (o .account) w 0 h l
     (then-set (then-append n o′ p q)
     (account-cell (o .account) C.account-open-orders l (omega arith)) r) t)
+
+-- ---- totals in range
+
+pub held-at-is : (s : Store) (a : ℕ) (z : Side) (k r : ℕ) → k ≡ held-cell z → r ≡ s C.accounts a k → r ≡ s C.accounts a (held-cell z)
+held-at-is s a z k r e h = h ∙ ap (s C.accounts a) e
+
+module _ (s : Store) (a : ℕ) (z : Side) (t : ℕ) (t-is : t ≡ s C.accounts a (held-cell z)) (m : Amount) (r : Bool) (r-is : r ≡ is-some (amount m)) where
+  pub one-fits : (old new : ℕ) → amount m ≡ fit (int t -ℤ int old +ℤ int new) → r ≡ fits (int (s C.accounts a (held-cell z)) -ℤ int old +ℤ int new)
+  unfolding fits
+  one-fits old new e = r-is ∙ ap is-some e ∙ ap (λ h. is-some (fit (int h -ℤ int old +ℤ int new))) t-is
+
+  pub both-fit : (old new old2 new2 : ℕ) → amount m ≡ fit (int t -ℤ int old +ℤ int new -ℤ int old2 +ℤ int new2) →
+      r ≡ fits (int (s C.accounts a (held-cell z)) -ℤ int old +ℤ int new -ℤ int old2 +ℤ int new2)
+  unfolding fits
+  both-fit old new old2 new2 e = r-is ∙ ap is-some e ∙ ap (λ h. is-some (fit (int h -ℤ int old +ℤ int new -ℤ int old2 +ℤ int new2))) t-is
 
 pub ruleset laws = (hold-of-is, shift-is, revise-is, retire-is, left-done, left-open, settle-is, pay-none, pay-some, arith)

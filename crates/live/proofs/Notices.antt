@@ -48,18 +48,22 @@ a-wallet s a b e f = ap (λ c. cond c (a ∷ []) []) (sym e ∙ f)
 abbrev nobody : List ℕ
 nobody = []
 
-pub same-hold : (s : Store) (a old new : ℕ) → old ≡ new → hold-notice a (int old) (int new) s ≡ []
-same-hold s a old new e =
-    let z : is-zero (int new -ℤ int old) ≡ true = ap is-zero (ap (λ x. int new -ℤ int x) e ∙ +ℤ-invr (int new)) in
-    rw z (split (λ b. cond b nobody nobody ≡ nobody) (is-some (wallet (s C.accounts a))) (λ e. refl) (λ e. refl))
+pub stays : (old new : ℕ) → old ≡ new → is-zero (int new -ℤ int old) ≡ true
+stays old new e = ap is-zero (ap (λ x. int new -ℤ int x) e ∙ +ℤ-invr (int new))
 
-pub other-hold : (s : Store) (a old new : ℕ) → old < modulus → new < modulus → (old ≡ new → ⊥) → hold-notice a (int old) (int new) s ≡ wallet-notice a s
-other-hold s a old new f g n =
-    split (λ b. (is-zero (int new -ℤ int old) ≡ b) → hold-notice a (int old) (int new) s ≡ wallet-notice a s) (is-zero (int new -ℤ int old))
+pub differs : (old new : ℕ) → old < modulus → new < modulus → (old ≡ new → ⊥) → is-zero (int new -ℤ int old) ≡ false
+differs old new f g n =
+    split (λ b. (is-zero (int new -ℤ int old) ≡ b) → b ≡ false) (is-zero (int new -ℤ int old))
     (λ _ e.
     let d = same-is (int new -ℤ int old) (pos 0) e in
     absurd (n (sym (int-injective new old g f (sym (-ℤ-+ℤ-cancel (int new) (int old)) ∙ ap (λ (x : ℤ). x +ℤ int old) d ∙ +ℤ-idl (int old))))))
-    (λ _ e. rw e refl) refl
+    (λ _ e. refl) refl
+
+pub same-hold : (s : Store) (a old new : ℕ) → old ≡ new → hold-notice a (int old) (int new) s ≡ []
+same-hold s a old new e = rw (stays old new e) (split (λ b. cond b nobody nobody ≡ nobody) (is-some (wallet (s C.accounts a))) (λ e. refl) (λ e. refl))
+
+pub other-hold : (s : Store) (a old new : ℕ) → old < modulus → new < modulus → (old ≡ new → ⊥) → hold-notice a (int old) (int new) s ≡ wallet-notice a s
+other-hold s a old new f g n = rw (differs old new f g n) refl
 
 -- one is pushed
 pub push-becomes : {xs ys : List ℕ} → State xs → (a : ℕ) (b : Bool) → b ≡ is-some (wallet (cell xs C.accounts a)) → b ≡ true → length (wallet-notice a (cell xs)) + word (cell xs) C.notice-rows ≤ most-notices →

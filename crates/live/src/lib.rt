@@ -3,10 +3,13 @@
 use orderbook::Side;
 use orders::Live;
 use store::cells;
+use words::Amount;
 ghost use mathlib.Core.Path.{_≡_};
 ghost use Prim.Native.Nat.{_+_, _≤_, _<_};
 ghost use lib.ListN.{length};
-ghost use Rattle.words.specs.Words.{int};
+ghost use lib.IntN.{_+ℤ_, _-ℤ_};
+ghost use Rattle.words.specs.Words.{int, amount};
+ghost use Rattle.gateway.specs.Basics.{is-some};
 ghost use Rattle.gateway.specs.Limits.{owner-slots, most-notices};
 ghost use Rattle.gateway.specs.Ledger as Ledger;
 ghost use Rattle.store.specs.Cells as C;
@@ -31,6 +34,50 @@ pub fn hold_of(side: u64, priced: u64, price: u64, leaves: u64) -> u64
     ensures { λ r. ⌜ r ≡ P.hold-word side priced price leaves ⌝ }
 {
     wallet::held(store::side_of(side), priced != 0, price, leaves)
+}
+
+fn held_at(m: &[u8], account: usize, side: Side) -> u64
+    requires { ⌜ Holds (now m) × (account < owner-slots) ⌝ }
+    ensures { λ r. ⌜ r ≡ cell (now (m .entry)) C.accounts account (held-cell side) ⌝ }
+{
+    store::get(m, store::ACCOUNTS, account, held_cell(side))
+}
+
+fn is_fit(a: Amount) -> bool
+    ensures { λ r. ⌜ r ≡ is-some (amount a) ⌝ }
+{
+    match a {
+        Amount::Fits(_) => true,
+        Amount::TooBig => false,
+    }
+}
+
+// Code 7 for what the account's orders of a side hold, where a part of it goes from `old` to `new`.
+pub fn total_fits(m: &[u8], account: usize, side: Side, old: u64, new: u64) -> bool
+    requires { ⌜ Holds (now m) × (account < owner-slots) ⌝ }
+    ensures { λ r. ⌜ r ≡ Ledger.fits (int (cell (now (m .entry)) C.accounts account (held-cell side)) -ℤ int old +ℤ int new) ⌝ }
+{
+    let held = held_at(m, account, side);
+    let total = words::total(held, old, new);
+    is_fit(total)
+}
+
+// And where two parts of it change.
+pub fn two_fit(
+    m: &[u8],
+    account: usize,
+    side: Side,
+    old: u64,
+    new: u64,
+    old2: u64,
+    new2: u64,
+) -> bool
+    requires { ⌜ Holds (now m) × (account < owner-slots) ⌝ }
+    ensures { λ r. ⌜ r ≡ Ledger.fits (int (cell (now (m .entry)) C.accounts account (held-cell side)) -ℤ int old +ℤ int new -ℤ int old2 +ℤ int new2) ⌝ }
+{
+    let held = held_at(m, account, side);
+    let total = words::total_of_two(held, old, new, old2, new2);
+    is_fit(total)
 }
 
 fn shift(m: &mut [u8], account: usize, side: Side, old: u64, new: u64)

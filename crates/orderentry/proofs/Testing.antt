@@ -52,12 +52,10 @@ use Rattle.pending.specs.Pending.{MaybeFits}
 use Rattle.pending.proofs.Commands.{side-back, price-back}
 use Rattle.orders.specs.declared.Live.{Live}
 use Rattle.sound.specs.Sound.{held-cell}
-use Rattle.sound.proofs.Totals.{total-exact}
 use Rattle.live.specs.Live.{hold-word, hold-notice}
 use Rattle.live.proofs.Accounts.{hold-is, held-one}
 use Rattle.live.proofs.Notices.{same-hold, other-hold, no-wallet, a-wallet}
-use Rattle.gateway.proofs.Holds.{holds-each, side-fits}
-use Rattle.live.proofs.Fits.{Swap, holds-swap}
+use Rattle.live.proofs.Fits.{Swap, holds-swap, held-exact}
 use Rattle.outcome.specs.Parts.{rest-of}
 use Rattle.commands.specs.Commands.{can-number}
 use Rattle.orderentry.specs.OrderEntry.{first, or-else, Exists, is-free, is-covered, limit-tests, paper, hold-fits, the-command, has-place, has-room, new-order-tests, Stands}
@@ -110,9 +108,7 @@ module _ {a : ℕ} {xs : List ℕ} (h : Exists a xs) (w-is : is-some (wallet-at 
       e ∙ there (flag (cell xs C.accounts a C.account-funded)) its-funds (ap is-some (sym e) ∙ w-is)
 
   exact : (z : Side) → int (cell xs C.accounts a (held-cell z)) ≡ held a z (g .core .ledger .orders)
-  exact z =
-      total-exact (cell xs) a z (h .between .state .sound .held) (slot h)
-      (side-fits a (wallet-at a (g .core)) (g .core .ledger .orders) w-is (holds-each (g .core .ledger) (h .between .ok .core-is .holds) a) z)
+  exact = held-exact (cell xs) a (h .between .state .sound .held) (h .between .ok .core-is .holds) (slot h) w-is
 
   balance-is : W.balance-of (Clients.wallet-words (cell xs C.accounts a)) ≡ balance-with a (g .core .ledger .orders) its-funds
   balance-is = λ i. record { cash = its-funds .cash; position = its-funds .position; «cash_held» = exact Buy i; «position_held» = exact Sell i }
@@ -171,17 +167,10 @@ module _ {a : ℕ} {xs : List ℕ} (h : Exists a xs) (f : Bool) (f-is : f ≡ is
   pub total-any : (z : Side) (n : ℕ) → f ≡ false → true ≡ hold-fits a z (int n) (gateway (cell xs))
   total-any z n e = rw (funded ∙ e) refl
 
-  pub total-is : (z : Side) (n t : ℕ) (m : Amount) (r : Bool) → f ≡ true → t ≡ cell xs C.accounts a (held-cell z) → amount m ≡ fit (int t -ℤ int 0 +ℤ int n) → r ≡ is-some (amount m) → r ≡ hold-fits a z (int n) (gateway (cell xs))
-  unfolding fits
-  total-is z n t m r e t-is m-is r-is =
-      r-is ∙ ap is-some (m-is ∙ ap₂ (λ x y. fit (x -ℤ y +ℤ int n)) (ap int t-is ∙ exact h (funded ∙ e) z) int-zero)
+  pub total-is : (z : Side) (n : ℕ) (r : Bool) → f ≡ true → r ≡ fits (int (cell xs C.accounts a (held-cell z)) -ℤ int 0 +ℤ int n) → r ≡ hold-fits a z (int n) (gateway (cell xs))
+  total-is z n r e r-is =
+      r-is ∙ ap₂ (λ x y. fits (x -ℤ y +ℤ int n)) (exact h (funded ∙ e) z) int-zero
       ∙ sym (ap (λ (c : Bool). cond c (fits (held a z (gateway (cell xs) .core .ledger .orders) -ℤ pos 0 +ℤ int n)) true) (funded ∙ e))
-
-pub held-buy : (s : Store) (a : ℕ) (z : Side) (r : ℕ) → z ≡ Buy → r ≡ s C.accounts a C.account-cash-held → r ≡ s C.accounts a (held-cell z)
-held-buy s a z r e h = rw e h
-
-pub held-sell : (s : Store) (a : ℕ) (z : Side) (r : ℕ) → z ≡ Sell → r ≡ s C.accounts a C.account-position-held → r ≡ s C.accounts a (held-cell z)
-held-sell s a z r e h = rw e h
 
 -- ---- the notice
 

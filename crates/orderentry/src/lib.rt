@@ -27,7 +27,7 @@ ghost use lib.ListN.{length};
 ghost use lib.Dec.{ltb, leb};
 ghost use Rattle.protocol.specs.declared.Inbound.the-variants as In;
 ghost use Rattle.protocol.specs.declared.RejectCode.the-variants.{Throttled, TooManyOrders, Unavailable};
-ghost use Rattle.words.specs.Words.{int, amount};
+ghost use Rattle.words.specs.Words.{int};
 ghost use Rattle.risk.specs.Collar.{near-market};
 ghost use Rattle.gateway.specs.Basics.{option, is-some};
 ghost use Rattle.gateway.specs.Limits.{owner-slots, session-slots, most-notices};
@@ -39,7 +39,7 @@ ghost use Rattle.gateway.specs.Calls.{call, receive-from};
 ghost use Rattle.store.specs.Cells as C;
 ghost use Rattle.store.specs.Layout.{cell};
 ghost use Rattle.store.specs.View.{word, gateway};
-ghost use Rattle.sound.specs.Sound.{held-cell, State, Becomes};
+ghost use Rattle.sound.specs.Sound.{State, Becomes};
 ghost use Rattle.live.specs.Live.{hold-notice};
 ghost use Rattle.mailbox.specs.Mailbox.{places};
 ghost use Rattle.outcome.specs.Parts.{with-rest, rest-of, Speaks};
@@ -389,34 +389,13 @@ fn notice_room(m: &[u8], a: usize, hold: u64) -> bool
     n <= MOST_NOTICES
 }
 
-fn fits(a: Amount) -> bool
-    ensures { λ r. ⌜ r ≡ is-some (amount a) ⌝ }
-{
-    match a {
-        Amount::Fits(_) => true,
-        Amount::TooBig => false,
-    }
-}
-
-fn held_at(m: &[u8], a: usize, side: Side) -> u64
-    requires { ⌜ State (now m) × (a < owner-slots) ⌝ }
-    ensures { λ r. ⌜ r ≡ cell (now (m .entry)) C.accounts a (held-cell side) ⌝ }
-{
-    match side {
-        Side::Buy => store::get(m, store::ACCOUNTS, a, cells::ACCOUNT_CASH_HELD),
-        Side::Sell => store::get(m, store::ACCOUNTS, a, cells::ACCOUNT_POSITION_HELD),
-    }
-}
-
 // The total that the account's orders of this side hold stays in range.
 fn hold_fits(m: &[u8], a: usize, side: Side, hold: u64) -> bool
     requires { ⌜ P.Exists a (now m) ⌝ }
     ensures { λ r. ⌜ r ≡ P.hold-fits a side (int hold) (gateway (cell (now (m .entry)))) ⌝ }
 {
     if clients::is_funded(m, a) {
-        let held = held_at(m, a, side);
-        let total = words::total(held, 0, hold);
-        return fits(total);
+        return live::total_fits(m, a, side, 0, hold);
     }
     true
 }

@@ -15,6 +15,7 @@ use Rattle.orderbook.specs.declared.Side.the-variants.{Buy, Sell}
 use Rattle.words.specs.Words.{int, word-of, modulus}
 use Rattle.words.proofs.Int.{of-int}
 use Rattle.table.proofs.Live.{same?}
+use Rattle.gateway.proofs.Holds.{side-is}
 use Rattle.gateway.specs.Depth.{Key, same-key, is-changed}
 use Rattle.gateway.specs.Ledger.{same-side}
 use Rattle.gateway.proofs.Base.{split}
@@ -50,16 +51,10 @@ module _ (x p i : ℕ) (f : p < modulus) (e : i ≡ p % side-slots) where
   unfolding slot
   sell-slot z = (rw (ne-eqb x 0 z, word-slot) refl, omega arith)
 
-pub same-side-is : (z w : Side) → same-side z w ≡ true → z ≡ w
-same-side-is Buy Buy e = refl
-same-side-is Buy Sell e = absurd (true≢false (sym e))
-same-side-is Sell Buy e = absurd (true≢false (sym e))
-same-side-is Sell Sell e = refl
-
 same-slot : (q r : Key) → same-key q r ≡ true → slot q ≡ slot r
 same-slot q r e =
     let (a, b) = and-eq-true-iff _ _ .0 e in
-    ap slot (ap₂ (λ (z : Side) (p : ℤ). (z, p)) (same-side-is (q .0) (r .0) a) (same-is (q .1) (r .1) b))
+    ap slot (ap₂ (λ (z : Side) (p : ℤ). (z, p)) (side-is (q .0) (r .0) a) (same-is (q .1) (r .1) b))
 
 other-slot : (q r : Key) → (slot r ≡ slot q → ⊥) → same-key q r ≡ false
 other-slot q r n = split (λ b. same-key q r ≡ b → b ≡ false) (same-key q r) (λ e _. absurd (n (sym (same-slot q r e)))) (λ _ _. refl) refl

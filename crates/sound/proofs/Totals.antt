@@ -21,9 +21,10 @@ use Rattle.gateway.specs.Basics.{is-some}
 use Rattle.gateway.specs.Limits.{owner-slots}
 use Rattle.gateway.specs.Ledger.{Order, order-hold, same-side, held-by, held, fits, open-of}
 use Rattle.gateway.proofs.Base.{split}
+use Rattle.gateway.proofs.Holds.{side-is}
+use Rattle.gateway.proofs.Moves.{held-append}
 use Rattle.store.specs.Cells as C
 use Rattle.store.specs.View.{Store, word, ledger}
-use Rattle.pending.proofs.Chain.{same-side-is}
 use Rattle.sound.specs.Sound.{Stored, held-cell, Held}
 use Rattle.sound.proofs.Kept.{caches, total-same}
 
@@ -35,10 +36,6 @@ module _ (a : ℕ) where
   open-append (o ∷ l) m =
       split (λ b. cond b (suc (open-of a (l ++ m))) (open-of a (l ++ m)) ≡ cond b (suc (open-of a l)) (open-of a l) + open-of a m) (eqb (o .account) a)
       (λ e. let t = open-append l m in omega arith) (λ e. open-append l m)
-
-  held-append : (z : Side) (l m : List Order) → held a z (l ++ m) ≡ held a z l +ℤ held a z m
-  held-append z [] m = sym (+ℤ-idl (held a z m))
-  held-append z (o ∷ l) m = ap (λ n. held-by a z o +ℤ n) (held-append z l m) ∙ sym (+ℤ-assoc (held-by a z o) (held a z l) (held a z m))
 
   swapped : (l x y h : ℤ) → l +ℤ (y +ℤ h) ≡ l +ℤ (x +ℤ h) -ℤ x +ℤ y
   swapped l x y h =
@@ -58,9 +55,9 @@ module _ (a : ℕ) where
   -- a part of a list changes
   pub held-parts : (z : Side) (l x y h : List Order) → held a z (l ++ (y ++ h)) ≡ held a z (l ++ (x ++ h)) -ℤ held a z x +ℤ held a z y
   held-parts z l x y h =
-      held-append z l (y ++ h) ∙ ap (λ n. held a z l +ℤ n) (held-append z y h)
+      held-append a z l (y ++ h) ∙ ap (λ n. held a z l +ℤ n) (held-append a z y h)
       ∙ swapped (held a z l) (held a z x) (held a z y) (held a z h)
-      ∙ sym (ap (λ n. n -ℤ held a z x +ℤ held a z y) (held-append z l (x ++ h) ∙ ap (λ n. held a z l +ℤ n) (held-append z x h)))
+      ∙ sym (ap (λ n. n -ℤ held a z x +ℤ held a z y) (held-append a z l (x ++ h) ∙ ap (λ n. held a z l +ℤ n) (held-append a z x h)))
 
   pub open-parts : (l x y h : List Order) → open-of a (l ++ (y ++ h)) + open-of a x ≡ open-of a (l ++ (x ++ h)) + open-of a y
   open-parts l x y h =
@@ -139,7 +136,7 @@ module _ {s t : Store} {c : ℕ} {w : Side} {x y : ℤ} {m k : ℕ} {old new : L
       (λ (e : a ≡ c).
       split (λ b. (same-side z w ≡ b) → t C.accounts a (held-cell z) ≡ wrap (held a z (ledger t .orders))) (same-side z w)
       (λ _ q.
-      let i = same-side-is z w q in
+      let i = side-is z w q in
       rw (e, i)
       (n .total ∙ (λ i. wrap (int (d .totals c (rw (← e) l) w i) -ℤ xe i +ℤ ye i))
       ∙ wrap-shift (held c w (ledger s .orders)) (held c w old) (held c w new) ∙ sym (ap wrap (held-is c w))))

@@ -72,6 +72,11 @@ neg-is n = ap negℤ (pos-is n n 0 (omega arith)) ∙ ⊖-neg n 0
 pub sum3 : {x y z : ℤ} (b t o n : ℕ) → x ≡ t ⊖ b → y ≡ o ⊖ b → z ≡ n ⊖ b → x -ℤ y +ℤ z ≡ (t + n) ⊖ (o + b)
 sum3 b t o n p q r = (λ i. p i -ℤ q i +ℤ r i) ∙ ap (λ (v : ℤ). v +ℤ (n ⊖ b)) (⊖-sub t b o b) ∙ ⊖-add (t + b) (b + o) n b ∙ ⊖-same (t + b + n) (b + o + b) (t + n) (o + b) (omega arith)
 
+pub sum5 : {x y z u v : ℤ} (b t o n o2 n2 : ℕ) → x ≡ t ⊖ b → y ≡ o ⊖ b → z ≡ n ⊖ b → u ≡ o2 ⊖ b → v ≡ n2 ⊖ b → x -ℤ y +ℤ z -ℤ u +ℤ v ≡ (t + (n + n2)) ⊖ (o + o2 + b)
+sum5 b t o n o2 n2 p q r d e =
+    (λ i. sum3 b t o n p q r i -ℤ d i +ℤ e i) ∙ ap (λ (w : ℤ). w +ℤ (n2 ⊖ b)) (⊖-sub (t + n) (o + b) o2 b) ∙ ⊖-add (t + n + b) (o + b + o2) n2 b
+    ∙ ⊖-same (t + n + b + n2) (o + b + o2 + b) (t + (n + n2)) (o + o2 + b) (omega arith)
+
 pub diff2 : {x y : ℤ} (b t o : ℕ) → x ≡ t ⊖ b → y ≡ o ⊖ b → x -ℤ y ≡ t ⊖ o
 diff2 b t o p q = (λ i. p i -ℤ q i) ∙ ⊖-sub t b o b ∙ ⊖-same (t + b) (b + o) t o (omega arith)
 

@@ -11,7 +11,7 @@ use lib.IntN.{ℤ, pos, negℤ, natAbs, _+ℤ_, _-ℤ_, +ℤ-idr}
 use borrow.Author.Needs.{needs}
 use borrow.Author.Tests.{le-leb, lt-leb, leb-true, leb-false}
 use Rattle.words.specs.Words.{half, int, _⊖_, signed, Place, place-of, fit-in, fit, modulus}
-use Rattle.words.proofs.Diff.{⊖-ind, pos-is, ⊖-same, leb-same, neg-is, diff2, sum3, within, le-neg-neg, le-neg-pos, le-pos-neg}
+use Rattle.words.proofs.Diff.{⊖-ind, pos-is, ⊖-same, leb-same, neg-is, diff2, sum3, sum5, within, le-neg-neg, le-neg-pos, le-pos-neg}
 use Rattle.words.proofs.Int.{int-zero, low, low-is, high-is}
 use Rattle.words.proofs.Fit.{lies-in, lies-above, lies-below}
 use Rattle.words.proofs.Product.{high-lt, product}
@@ -83,14 +83,12 @@ both m n f r e t p = p ∙ leb-same n 0 (m + n) 0 (omega (arith, leb-true m 0 (s
 pub not-both : (m n : ℕ) (f : Bool) → f ≡ leb m 0 → f ≡ false → f ≡ leb (m + n) 0
 not-both m n f e t = t ∙ sym (lt-leb (m + n) 0 (omega (arith, leb-false m 0 (sym e ∙ t))))
 
-moved : (total old new t o n p q : ℕ) (r : Place) → int total ≡ t ⊖ half → int old ≡ o ⊖ half → int new ≡ n ⊖ half → r ≡ place-of (p ⊖ q) → p + (o + half) ≡ t + n + q → r ≡ place-of (int total -ℤ int old +ℤ int new)
-moved total old new t o n p q r et eo en e h = e ∙ ap place-of (⊖-same p q (t + n) (o + half) (omega arith) ∙ sym (sum3 half t o n et eo en))
+pub one-moved : (total old new t o n : ℕ) (r : Place) → int total ≡ t ⊖ half → int old ≡ o ⊖ half → int new ≡ n ⊖ half → r ≡ place-of ((t + n) ⊖ (o + half)) → r ≡ place-of (int total -ℤ int old +ℤ int new)
+one-moved total old new t o n r et eo en e = e ∙ ap place-of (sym (sum3 half t o n et eo en))
 
-pub moved-up : (total old new t o n : ℕ) (r : Place) → int total ≡ t ⊖ half → int old ≡ o ⊖ half → int new ≡ n ⊖ half → o ≤ n → r ≡ place-of ((t + (n - o)) ⊖ half) → r ≡ place-of (int total -ℤ int old +ℤ int new)
-moved-up total old new t o n r et eo en h e = moved total old new t o n (t + (n - o)) half r et eo en e (omega arith)
-
-pub moved-down : (total old new t o n : ℕ) (r : Place) → int total ≡ t ⊖ half → int old ≡ o ⊖ half → int new ≡ n ⊖ half → n < o → r ≡ place-of (t ⊖ (half + (o - n))) → r ≡ place-of (int total -ℤ int old +ℤ int new)
-moved-down total old new t o n r et eo en h e = moved total old new t o n t (half + (o - n)) r et eo en e (omega arith)
+pub two-moved : (total old new old2 new2 t o n o2 n2 : ℕ) (r : Place) → int total ≡ t ⊖ half → int old ≡ o ⊖ half → int new ≡ n ⊖ half → int old2 ≡ o2 ⊖ half → int new2 ≡ n2 ⊖ half →
+    r ≡ place-of ((t + (n + n2)) ⊖ (o + o2 + half)) → fit-in r ≡ fit (int total -ℤ int old +ℤ int new -ℤ int old2 +ℤ int new2)
+two-moved total old new old2 new2 t o n o2 n2 r et eo en fo fn e = ap fit-in (e ∙ ap place-of (sym (sum5 half t o n o2 n2 et eo en fo fn)))
 
 pub less-zero : (a b : ℕ) → int a -ℤ int 0 +ℤ int b ≡ int a +ℤ int b
 less-zero a b = rw int-zero (ap (λ (z : ℤ). z +ℤ int b) (+ℤ-idr (int a)))
@@ -98,4 +96,4 @@ less-zero a b = rw int-zero (ap (λ (z : ℤ). z +ℤ int b) (+ℤ-idr (int a)))
 pub plus-zero : (a b : ℕ) → int a -ℤ int b +ℤ int 0 ≡ int a -ℤ int b
 plus-zero a b = rw int-zero (+ℤ-idr (int a -ℤ int b))
 
-pub ruleset laws = (needs, low, apart-less, apart-more, moved-up, moved-down, fits-pos, not-pos, fits-neg, not-neg, not-wide, one-word, hi-less, hi-more, hi-same, sums-le, product, both-neg, neg-pos, pos-neg, both-pos, both, not-both)
+pub ruleset laws = (needs, low, apart-less, apart-more, one-moved, fits-pos, not-pos, fits-neg, not-neg, not-wide, one-word, hi-less, hi-more, hi-same, sums-le, product, both-neg, neg-pos, pos-neg, both-pos, both, not-both)

@@ -6,7 +6,7 @@ ghost use Prim.Native.Nat.{_+_, _-_, _*_, _%_, _<_, _≤_};
 ghost use lib.Dec.{leb};
 ghost use lib.IntN.{ℤ, pos, negℤ, natAbs, _+ℤ_, _-ℤ_, _*ℤ_};
 ghost use lib.Signed.{leZ};
-ghost use Rattle.words.specs.Words.{base, half, int, _⊖_, signed, wide, value, place-of, placed, nearest-to, amount, fit, clamp, wrap, modulus};
+ghost use Rattle.words.specs.Words.{base, half, int, _⊖_, signed, wide, value, place-of, placed, nearest-to, amount, fit-in, fit, clamp, wrap, modulus};
 
 // 2^32, 2^63 and 2^64 - 1.
 const BASE: u64 = 4294967296;
@@ -251,16 +251,33 @@ fn shrunk(t: u64, d: u64) -> Place
     }
 }
 
+// t - old + new, of a raised number.
+fn moved(t: u64, old: u64, new: u64) -> Place
+    ensures { λ r. ⌜ placed r ≡ place-of ((t + new) ⊖ (old + half)) ⌝ }
+{
+    if old <= new {
+        grown(t, new - old)
+    } else {
+        shrunk(t, old - new)
+    }
+}
+
 fn place_of(total: u64, old: u64, new: u64) -> Place
     ensures { λ r. ⌜ placed r ≡ place-of (int total -ℤ int old +ℤ int new) ⌝ }
 {
     let t = raised(total);
     let o = raised(old);
     let n = raised(new);
-    if o <= n {
-        grown(t, n - o)
-    } else {
-        shrunk(t, o - n)
+    moved(t, o, n)
+}
+
+fn amount_at(p: Place) -> Amount
+    ensures { λ r. ⌜ amount r ≡ fit-in (placed p) ⌝ }
+{
+    match p {
+        Place::In(w) => Amount::Fits(w),
+        Place::Above => Amount::TooBig,
+        Place::Below => Amount::TooBig,
     }
 }
 
@@ -268,11 +285,59 @@ fn place_of(total: u64, old: u64, new: u64) -> Place
 pub fn total(total: u64, old: u64, new: u64) -> Amount
     ensures { λ r. ⌜ amount r ≡ fit (int total -ℤ int old +ℤ int new) ⌝ }
 {
-    match place_of(total, old, new) {
-        Place::In(w) => Amount::Fits(w),
-        Place::Above => Amount::TooBig,
-        Place::Below => Amount::TooBig,
+    amount_at(place_of(total, old, new))
+}
+
+// t + a + b and t - a - b.
+fn grown_twice(t: u64, a: u64, b: u64) -> Place
+    ensures { λ r. ⌜ placed r ≡ place-of ((t + (a + b)) ⊖ half) ⌝ }
+{
+    if a <= MAX - b {
+        grown(t, a + b)
+    } else {
+        Place::Above
     }
+}
+
+fn shrunk_twice(t: u64, a: u64, b: u64) -> Place
+    ensures { λ r. ⌜ placed r ≡ place-of (t ⊖ (half + (a + b))) ⌝ }
+{
+    if a <= MAX - b {
+        shrunk(t, a + b)
+    } else {
+        Place::Below
+    }
+}
+
+// t - old + new - old2 + new2, of a raised number.
+fn moved_twice(t: u64, old: u64, new: u64, old2: u64, new2: u64) -> Place
+    ensures { λ r. ⌜ placed r ≡ place-of ((t + (new + new2)) ⊖ (old + old2 + half)) ⌝ }
+{
+    if old <= new {
+        if old2 <= new2 {
+            grown_twice(t, new - old, new2 - old2)
+        } else {
+            moved(t, old2 - new2, new - old)
+        }
+    } else {
+        if old2 <= new2 {
+            moved(t, old - new, new2 - old2)
+        } else {
+            shrunk_twice(t, old - new, old2 - new2)
+        }
+    }
+}
+
+// The exact total after two of its parts change: what one change alone gives need not fit.
+pub fn total_of_two(total: u64, old: u64, new: u64, old2: u64, new2: u64) -> Amount
+    ensures { λ r. ⌜ amount r ≡ fit (int total -ℤ int old +ℤ int new -ℤ int old2 +ℤ int new2) ⌝ }
+{
+    let t = raised(total);
+    let o = raised(old);
+    let n = raised(new);
+    let o2 = raised(old2);
+    let n2 = raised(new2);
+    amount_at(moved_twice(t, o, n, o2, n2))
 }
 
 fn nearest(p: Place) -> u64

@@ -1,0 +1,196 @@
+-- A change of one order: what its account's orders then hold, and that the other orders and the set of wallets stay. Assumes nothing.
+use Prim.Native.Nat.{ℕ, suc, _<_}
+use mathlib.Core.Bool.{Bool, true, false, cond, _&&_}
+use mathlib.Core.Path.{_≡_, refl, ap, ap₂, sym, _∙_}
+use mathlib.Core.Option.{Option, none, some}
+use mathlib.Core.List.{List, [], _∷_, _++_}
+use native.Mathlib.Omega.{arith}
+use borrow.Author.Tests.{eqb-true, ne-eqb}
+use lib.IntN.{ℤ, pos, negℤ, _+ℤ_, _-ℤ_, +ℤ-idl, +ℤ-idr, +ℤ-assoc, +ℤ-comm, +ℤ-invl, *ℤ-zero}
+use lib.ListN.{getD}
+use lib.Dec.{eqb}
+use Rattle.orderbook.specs.declared.Side.{Side}
+use Rattle.orderbook.specs.declared.Side.the-variants.{Buy, Sell}
+use Rattle.orderbook.specs.declared.MaybePrice.{MaybePrice}
+use Rattle.orderbook.specs.declared.MaybePrice.the-variants.{None, Some}
+use Rattle.words.specs.Words.{place-of}
+use Rattle.table.specs.Live.{Each, look, without}
+use Rattle.gateway.specs.Basics.{option, is-some}
+use Rattle.gateway.specs.Table.{update}
+use Rattle.gateway.specs.Ledger.{Order, Ledger, Change, mark-by, fill, set-leaves, reprice, retire, number-of, find, remove, with-leaves, with-price, left, change, same-side, hold, order-hold, held-by, held}
+use Rattle.gateway.specs.Deliver.{hold-after, named}
+use Rattle.gateway.proofs.Base.{split}
+use Rattle.gateway.proofs.Sorted.{Absent}
+use Rattle.gateway.proofs.Invariant.{Rise, shrunk, rise-shrinks, pay-some, paid}
+
+-- ---- orders of one number give way to others
+
+-- os, where g o stands for each order o of the number n
+unfoldable pub turned : ℕ → (Order → List Order) → List Order → List Order
+turned n g [] = []
+turned n g (o ∷ os) = cond (eqb (o .number) n) (g o ++ turned n g os) (o ∷ turned n g os)
+
+remove-turned : (n : ℕ) (os : List Order) → remove n os ≡ turned n (λ o. []) os
+unfolding without turned
+remove-turned n [] = refl
+remove-turned n (o ∷ os) = ap (λ r. cond (eqb (o .number) n) r (o ∷ r)) (remove-turned n os)
+
+update-turned : (n : ℕ) (f : Order → Order) (os : List Order) → update number-of n f os ≡ turned n (λ o. f o ∷ []) os
+unfolding update turned
+update-turned n f [] = refl
+update-turned n f (o ∷ os) =
+    ap (λ r. cond (eqb (o .number) n) (f o) o ∷ r) (update-turned n f os)
+    ∙ split (λ b. cond b (f o) o ∷ turned n (λ p. f p ∷ []) os ≡ cond b (f o ∷ turned n (λ p. f p ∷ []) os) (o ∷ turned n (λ p. f p ∷ []) os)) (eqb (o .number) n) (λ _. refl) (λ _. refl)
+
+-- an order with nothing left is done
+abbrev leaves : (Order → Order) → ℕ → Order → List Order
+leaves f v o = cond (eqb v 0) [] (with-leaves v (f o) ∷ [])
+
+left-turned : (n : ℕ) (f : Order → Order) (v : ℕ) (os : List Order) → left n f v os ≡ turned n (leaves f v) os
+left-turned n f v os =
+    split (λ b. cond b (remove n os) (update number-of n (λ o. with-leaves v (f o)) os) ≡ turned n (λ o. cond b [] (with-leaves v (f o) ∷ [])) os) (eqb v 0)
+    (λ _. remove-turned n os) (λ _. update-turned n (λ o. with-leaves v (f o)) os)
+
+-- the changes of the order n
+pub data Of (n : ℕ) : Change → Type 0 where
+  fills : (p : ℤ) (q v : ℕ) → Of n (fill n p q v)
+  sets : (v : ℕ) → Of n (set-leaves n v)
+  reprices : (p : ℤ) (v : ℕ) → Of n (reprice n p v)
+  retires : Of n (retire n)
+
+-- what an order gives way to
+abbrev pub becomes : Change → Order → List Order
+becomes (mark-by t m p) o = o ∷ []
+becomes (fill n p q v) o = leaves (λ r. r) v o
+becomes (set-leaves n v) o = with-leaves v o ∷ []
+becomes (reprice n p v) o = leaves (with-price p) v o
+becomes (retire n) o = []
+
+module _ {n : ℕ} where
+  pub names : {x : Change} → Of n x → (os : List Order) → named x os ≡ find n os
+  names (fills p q v) os = refl
+  names (sets v) os = refl
+  names (reprices p v) os = refl
+  names retires os = refl
+
+  orders-turned : {x : Change} → Of n x → (l : Ledger) → change x l .orders ≡ turned n (becomes x) (l .orders)
+  unfolding change
+  orders-turned (fills p q v) l = left-turned n (λ o. o) v (l .orders)
+  orders-turned (sets v) l = update-turned n (with-leaves v) (l .orders)
+  orders-turned (reprices p v) l = left-turned n (with-price p) v (l .orders)
+  orders-turned retires l = remove-turned n (l .orders)
+
+-- ---- another order is not touched
+
+abbrev Keeps : (Order → List Order) → Type 0
+Keeps g = (o : Order) → Each (λ p. p .number ≡ o .number) (g o)
+
+leaves-keeps : (f : Order → Order) → ((o : Order) → f o .number ≡ o .number) → (v : ℕ) → Keeps (leaves f v)
+leaves-keeps f h v o = split (λ b. Each (λ p. p .number ≡ o .number) (cond b [] (with-leaves v (f o) ∷ []))) (eqb v 0) (λ _. tt) (λ _. (h o, tt))
+
+becomes-keeps : (x : Change) → Keeps (becomes x)
+becomes-keeps (mark-by t m p) o = (refl, tt)
+becomes-keeps (fill n p q v) o = leaves-keeps (λ r. r) (λ r. refl) v o
+becomes-keeps (set-leaves n v) o = (refl, tt)
+becomes-keeps (reprice n p v) o = leaves-keeps (with-price p) (λ r. refl) v o
+becomes-keeps (retire n) o = tt
+
+module _ (i j : ℕ) (ne : i ≡ j → ⊥) where
+  find-past : (k : ℕ) (ps os : List Order) → k ≡ i → Each (λ p. p .number ≡ k) ps → find j (ps ++ os) ≡ find j os
+  unfolding look
+  find-past k [] os e h = refl
+  find-past k (p ∷ ps) os e h = rw (ne-eqb (p .number) j (λ q. ne (sym e ∙ sym (h .0) ∙ q))) (find-past k ps os e (h .1))
+
+  find-turned : (g : Order → List Order) → Keeps g → (os : List Order) → find j (turned i g os) ≡ find j os
+  unfolding look turned
+  find-turned g h [] = refl
+  find-turned g h (o ∷ os) =
+      let u = find-turned g h os in
+      split (λ b. (eqb (o .number) i ≡ b) → find j (cond b (g o ++ turned i g os) (o ∷ turned i g os)) ≡ find j (o ∷ os)) (eqb (o .number) i)
+      (λ _ e. let q = eqb-true (o .number) i e in find-past (o .number) (g o) (turned i g os) q (h o) ∙ u ∙ sym (find-past (o .number) (o ∷ []) os q (refl, tt)))
+      (λ _ e. ap (cond (eqb (o .number) j) (some o)) u) refl
+
+  pub find-changed : {x : Change} → Of i x → (l : Ledger) → find j (change x l .orders) ≡ find j (l .orders)
+  find-changed {x} c l = ap (find j) (orders-turned c l) ∙ find-turned (becomes x) (becomes-keeps x) (l .orders)
+
+pub rise-changed : (x : Change) (l : Ledger) → Rise 0 (l .orders) → Rise 0 (change x l .orders)
+rise-changed x l = rise-shrinks 0 (shrunk (x ∷ []) l)
+
+-- nor is it changed who has a wallet
+pub wallets-changed : (x : Change) (l : Ledger) (a : ℕ) → is-some (getD (change x l .wallets) a none) ≡ is-some (getD (l .wallets) a none)
+wallets-changed x l =
+    paid (λ ws. (a : ℕ) → is-some (getD ws a none) ≡ is-some (getD (l .wallets) a none)) (λ p q o ws h a. pay-some p q o ws a ∙ h a) (x ∷ []) l (λ a. refl) .1
+
+-- ---- holds
+
+pub held-append : (a : ℕ) (z : Side) (l m : List Order) → held a z (l ++ m) ≡ held a z l +ℤ held a z m
+held-append a z [] m = sym (+ℤ-idl (held a z m))
+held-append a z (o ∷ l) m = ap (λ n. held-by a z o +ℤ n) (held-append a z l m) ∙ sym (+ℤ-assoc (held-by a z o) (held a z l) (held a z m))
+
+swap : (x y h : ℤ) → y +ℤ h ≡ x +ℤ h +ℤ (y -ℤ x)
+swap x y h =
+    sym (
+    +ℤ-comm (x +ℤ h) (y -ℤ x)
+    ∙ +ℤ-assoc y (negℤ x) (x +ℤ h)
+    ∙ ap (λ t. y +ℤ t) (sym (+ℤ-assoc (negℤ x) x h) ∙ ap (λ t. t +ℤ h) (+ℤ-invl x) ∙ +ℤ-idl h)
+    )
+
+-- an order with nothing left holds nothing
+nothing-left : (b : Side) (p : MaybePrice) → hold b p 0 ≡ pos 0
+unfolding hold place-of
+nothing-left b None = refl
+nothing-left Buy (Some p) = rw *ℤ-zero refl
+nothing-left Sell (Some p) = refl
+
+absent-rises : (n k : ℕ) (os : List Order) → n < k → Rise k os → Absent number-of n os
+unfolding look
+absent-rises n k [] h t = refl
+absent-rises n k (o ∷ os) h t = rw (ne-eqb (o .number) n (λ e. omega (arith, t .0, e))) (absent-rises n (suc (o .number)) os (omega (arith, t .0)) (t .1))
+
+module _ (a : ℕ) (z : Side) where
+  held-turned : (n : ℕ) (g : Order → List Order) (k : ℕ) (os : List Order) → Rise k os →
+      held a z (turned n g os) ≡ held a z os +ℤ option (pos 0) (λ o. held a z (g o) -ℤ held-by a z o) (find n os)
+  unfolding look turned
+  held-turned n g k [] t = refl
+  held-turned n g k (o ∷ os) t =
+      let rest = turned n g os in
+      let x = held-by a z o in
+      let m : Option Order → ℤ = option (pos 0) (λ r. held a z (g r) -ℤ held-by a z r) in
+      let u = held-turned n g (suc (o .number)) os (t .1) in
+      split (λ b. (eqb (o .number) n ≡ b) → held a z (cond b (g o ++ rest) (o ∷ rest)) ≡ x +ℤ held a z os +ℤ m (cond b (some o) (find n os))) (eqb (o .number) n)
+      (λ _ e.
+      let same : held a z rest ≡ held a z os =
+      u ∙ ap (λ w. held a z os +ℤ m w) (absent-rises n (suc (o .number)) os (let q = eqb-true (o .number) n e in omega arith) (t .1)) ∙ +ℤ-idr (held a z os) in
+      held-append a z (g o) rest ∙ ap (λ w. held a z (g o) +ℤ w) same ∙ swap x (held a z (g o)) (held a z os))
+      (λ _ e. ap (λ w. x +ℤ w) u ∙ sym (+ℤ-assoc x (held a z os) _)) refl
+
+  -- an order of the account and the side
+  abbrev pub mine : Order → Bool
+  mine o = eqb (o .account) a && same-side z (o .side)
+
+  held-leaves : (f : Order → Order) (v : ℕ) (o : Order) → (f o .account ≡ o .account) × (f o .side ≡ o .side) → held a z (leaves f v o) ≡ cond (mine o) (hold (o .side) (f o .price) v) (pos 0)
+  held-leaves f v o h =
+      split (λ b. (eqb v 0 ≡ b) → held a z (cond b [] (with-leaves v (f o) ∷ [])) ≡ cond (mine o) (hold (o .side) (f o .price) v) (pos 0)) (eqb v 0)
+      (λ _ e. split (λ b. pos 0 ≡ cond b (hold (o .side) (f o .price) v) (pos 0)) (mine o) (λ _. sym (ap (hold (o .side) (f o .price)) (eqb-true v 0 e) ∙ nothing-left (o .side) (f o .price))) (λ _. refl))
+      (λ _ e. +ℤ-idr _ ∙ ap₂ (λ b s. cond (eqb b a && same-side z s) (hold s (f o .price) v) (pos 0)) (h .0) (h .1)) refl
+
+  -- what it holds afterwards
+  held-becomes : {n : ℕ} {x : Change} → Of n x → (o : Order) → held a z (becomes x o) ≡ cond (mine o) (hold-after x o) (pos 0)
+  held-becomes (fills p q v) o = held-leaves (λ r. r) v o (refl, refl)
+  held-becomes (sets v) o = +ℤ-idr _
+  held-becomes (reprices p v) o = held-leaves (with-price p) v o (refl, refl)
+  held-becomes retires o = split (λ b. pos 0 ≡ cond b (pos 0) (pos 0)) (mine o) (λ _. refl) (λ _. refl)
+
+  -- what the account's orders of the side hold more, where x is a change of the order
+  abbrev pub hold-move : Change → Option Order → ℤ
+  hold-move x w = option (pos 0) (λ o. cond (mine o) (hold-after x o -ℤ order-hold o) (pos 0)) w
+
+  moves-by : {n : ℕ} {x : Change} → Of n x → (w : Option Order) → option (pos 0) (λ o. held a z (becomes x o) -ℤ held-by a z o) w ≡ hold-move x w
+  moves-by c none = refl
+  moves-by {x = x} c (some o) =
+      ap (λ h. h -ℤ held-by a z o) (held-becomes c o)
+      ∙ split (λ b. cond b (hold-after x o) (pos 0) -ℤ cond b (order-hold o) (pos 0) ≡ cond b (hold-after x o -ℤ order-hold o) (pos 0)) (mine o) (λ _. refl) (λ _. refl)
+
+  pub held-changed : {n : ℕ} {x : Change} → Of n x → (l : Ledger) → Rise 0 (l .orders) → held a z (change x l .orders) ≡ held a z (l .orders) +ℤ hold-move x (find n (l .orders))
+  held-changed {n} {x} c l r =
+      ap (held a z) (orders-turned c l) ∙ held-turned n (becomes x) 0 (l .orders) r ∙ ap (λ m. held a z (l .orders) +ℤ m) (moves-by c (find n (l .orders)))

@@ -1,0 +1,92 @@
+-- Codes 7 and 5 as the code judges them are the definitions' tests. Assumes nothing.
+use mathlib.Core.Path.{_≡_, refl, sym, ap, ap₂, _∙_}
+use mathlib.Core.Bool.{Bool, true, false, cond, not, _&&_, and-eq-true-iff}
+use mathlib.Core.List.{List}
+use Prim.Native.Nat.{ℕ, _+_, _<_}
+use native.Mathlib.Omega.{arith}
+use borrow.Author.Tests.{eq-eqb, ne-eqb}
+use lib.Dec.{eqb, leb}
+use lib.IntN.{ℤ, _+ℤ_, _-ℤ_}
+use Rattle.orderbook.specs.declared.Side.{Side}
+use Rattle.words.specs.Words.{int}
+use Rattle.gateway.specs.Limits.{owner-slots, most-notices}
+use Rattle.gateway.specs.Ledger.{same-side, held, fits}
+use Rattle.gateway.proofs.Base.{split}
+use Rattle.store.specs.Cells as C
+use Rattle.store.specs.Layout.{cell}
+use Rattle.store.specs.View.{Store, word, side, ledger}
+use Rattle.sound.specs.Sound.{held-cell}
+use Rattle.live.proofs.Fits.{held-exact}
+use Rattle.outcome.specs.Between.{Between}
+use Rattle.holds.specs.declared.Shift.{Shift}
+use Rattle.holds.specs.Holds.{Owned, shift-fits, is-one, pair-fits}
+
+-- ---- both are parts of one total
+
+pub meet-buy : (a b : ℕ) → a ≡ 0 → eqb b 0 ≡ same-side (side a) (side b)
+meet-buy a b e = rw (eq-eqb a 0 e) (split (λ c. c ≡ same-side (side 0) (cond (not c) (side 1) (side 0))) (eqb b 0) (λ _. refl) (λ _. refl))
+
+pub meet-sell : (a b : ℕ) → (a ≡ 0 → ⊥) → not (eqb b 0) ≡ same-side (side a) (side b)
+meet-sell a b e = rw (ne-eqb a 0 e) (split (λ c. not c ≡ same-side (side 1) (cond (not c) (side 1) (side 0))) (eqb b 0) (λ _. refl) (λ _. refl))
+
+module _ (s t : Shift) where
+  pub one-by-side : (r : Bool) → s .funded ≡ true → t .funded ≡ true → s .account ≡ t .account → r ≡ same-side (side (s .side)) (side (t .side)) → r ≡ is-one s t
+  one-by-side r f g e h = h ∙ sym (rw (f, g, eq-eqb (s .account) (t .account) e) refl)
+
+  pub other-account : s .funded ≡ true → t .funded ≡ true → (s .account ≡ t .account → ⊥) → false ≡ is-one s t
+  other-account f g e = sym (rw (f, g, ne-eqb (s .account) (t .account) e) refl)
+
+  pub second-without : s .funded ≡ true → t .funded ≡ false → false ≡ is-one s t
+  second-without f g = sym (rw (f, g) refl)
+
+  pub first-without : s .funded ≡ false → false ≡ is-one s t
+  first-without f = sym (rw f refl)
+
+-- ---- code 7
+
+module _ {xs : List ℕ} (b : Between xs) (s : Shift) (o : Owned s (ledger (cell xs))) where
+  pub fits-none : s .funded ≡ false → true ≡ shift-fits s (ledger (cell xs))
+  fits-none f = sym (rw f refl)
+
+  exact : s .funded ≡ true → (z : Side) → int (cell xs C.accounts (s .account) (held-cell z)) ≡ held (s .account) z (ledger (cell xs) .orders)
+  exact f = held-exact (cell xs) (s .account) (b .state .sound .held) (b .ok .core-is .holds) (o .inside) (o .has-wallet f)
+
+  pub fits-some : s .funded ≡ true → (z : Side) → z ≡ side (s .side) → (r : Bool) → r ≡ fits (int (cell xs C.accounts (s .account) (held-cell z)) -ℤ int (s .old) +ℤ int (s .new)) →
+      r ≡ shift-fits s (ledger (cell xs))
+  fits-some f z e r h =
+      h ∙ ap (λ v. fits (v -ℤ int (s .old) +ℤ int (s .new))) (exact f z ∙ ap (λ w. held (s .account) w (ledger (cell xs) .orders)) e)
+      ∙ sym (ap (λ (c : Bool). cond c (fits (held (s .account) (side (s .side)) (ledger (cell xs) .orders) -ℤ int (s .old) +ℤ int (s .new))) true) f)
+
+  module _ (t : Shift) (one : Bool) (one-is : one ≡ is-one s t) where
+    pub pair-one : one ≡ true → (z : Side) → z ≡ side (s .side) → (r : Bool) →
+        r ≡ fits (int (cell xs C.accounts (s .account) (held-cell z)) -ℤ int (s .old) +ℤ int (s .new) -ℤ int (t .old) +ℤ int (t .new)) → r ≡ pair-fits s t (ledger (cell xs))
+    pair-one p z e r h =
+        let f = and-eq-true-iff (s .funded) (t .funded && (eqb (s .account) (t .account) && same-side (side (s .side)) (side (t .side)))) .0 (sym one-is ∙ p) .0 in
+        h ∙ ap (λ v. fits (v -ℤ int (s .old) +ℤ int (s .new) -ℤ int (t .old) +ℤ int (t .new))) (exact f z ∙ ap (λ w. held (s .account) w (ledger (cell xs) .orders)) e)
+        ∙ sym (ap (λ (c : Bool). judged c) (sym one-is ∙ p))
+      where
+        judged : Bool → Bool
+        judged c =
+            cond c (fits (held (s .account) (side (s .side)) (ledger (cell xs) .orders) -ℤ int (s .old) +ℤ int (s .new) -ℤ int (t .old) +ℤ int (t .new)))
+            (shift-fits s (ledger (cell xs)) && shift-fits t (ledger (cell xs)))
+
+    apart : one ≡ false → shift-fits s (ledger (cell xs)) && shift-fits t (ledger (cell xs)) ≡ pair-fits s t (ledger (cell xs))
+    apart p =
+        sym
+        (ap (λ (c : Bool).
+        cond c (fits (held (s .account) (side (s .side)) (ledger (cell xs) .orders) -ℤ int (s .old) +ℤ int (s .new) -ℤ int (t .old) +ℤ int (t .new)))
+        (shift-fits s (ledger (cell xs)) && shift-fits t (ledger (cell xs)))) (sym one-is ∙ p))
+
+    module _ (p : one ≡ false) (first : Bool) (first-is : first ≡ shift-fits s (ledger (cell xs))) where
+      pub pair-second : first ≡ true → (second : Bool) → second ≡ shift-fits t (ledger (cell xs)) → second ≡ pair-fits s t (ledger (cell xs))
+      pair-second e second second-is = ap₂ (λ u v. u && v) (sym e ∙ first-is) second-is ∙ apart p
+
+      pub pair-first : first ≡ false → first ≡ pair-fits s t (ledger (cell xs))
+      pair-first e = e ∙ ap (λ u. u && shift-fits t (ledger (cell xs))) (sym e ∙ first-is) ∙ apart p
+
+-- ---- code 5
+
+pub few-is : (s : Store) (k n : ℕ) → n ≡ word s C.notice-rows → leb (k + n) most-notices ≡ leb (k + word s C.notice-rows) most-notices
+few-is s k n e = ap (λ m. leb (k + m) most-notices) e
+
+pub ruleset judging = (meet-buy, meet-sell, one-by-side, other-account, second-without, first-without, fits-none, fits-some, pair-one, pair-second, pair-first, few-is, arith)

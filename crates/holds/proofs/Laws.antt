@@ -1,0 +1,145 @@
+-- What a caller uses: what was weighed is the definitions' test, for one order and for two, also behind a new mark. Assumes nothing.
+use mathlib.Core.Path.{_≡_, refl, sym, ap, ap₂, _∙_}
+use mathlib.Core.Bool.{Bool, true, false, cond, _&&_}
+use mathlib.Core.Option.{Option, none, some, Option·map}
+use mathlib.Core.List.{List, [], _∷_, _++_}
+use Prim.Native.Nat.{ℕ, _+_, _≤_}
+use native.Mathlib.Omega.{arith}
+use lib.Dec.{eqb}
+use lib.IntN.{ℤ, _+ℤ_, _-ℤ_}
+use lib.ListN.{length, length-append, getD}
+use Rattle.words.specs.Words.{int}
+use Rattle.gateway.specs.Basics.{option, is-some}
+use Rattle.gateway.specs.Ledger.{Order, Ledger, Change, mark-by, find, paper, wallet-of, change, same-side, held, fits, holds-fit}
+use Rattle.gateway.specs.Deliver.{order-notices, change-notices, notices-of}
+use Rattle.gateway.specs.Calls.{Gateway}
+use Rattle.gateway.specs.Invariant.{Ok}
+use Rattle.gateway.proofs.Base.{split}
+use Rattle.gateway.proofs.Moves.{Of, names, wallets-changed}
+use Rattle.store.specs.View.{side}
+use Rattle.live.specs.Live.{with-ledger}
+use Rattle.holds.specs.declared.Move.{Move}
+use Rattle.holds.specs.declared.Shift.{Shift}
+use Rattle.holds.specs.Holds.{change-of, moved, Part, part-of, paper-order, part, Weighs, shift-fits, is-one, pair-fits}
+use Rattle.holds.proofs.Totals as Totals
+use Rattle.holds.proofs.Totals.{part-fits, both-fit, paper-changed}
+use Rattle.holds.proofs.Weighing.{of, notices-two}
+use Rattle.holds.proofs.Pure.{marked-alike, changed-alike, holds-alike, notices-alike}
+
+-- ---- the tests, by what a shift says
+
+shift-is : (s : Shift) (l : Ledger) → shift-fits s l ≡ part-fits (part s) l
+shift-is s l =
+    split (λ b. cond b (fits h) true ≡ part-fits (cond b (some p) none) l) (s .funded) (λ _. refl) (λ _. refl)
+  where
+    p : Part
+    p = record { account = s .account; side = side (s .side); old = int (s .old); new = int (s .new) }
+
+    h : ℤ
+    h = held (p .account) (p .side) (l .orders) -ℤ p .old +ℤ p .new
+
+pair-is : (s t : Shift) (l : Ledger) → pair-fits s t l ≡ both-fit (part s) (part t) l
+pair-is s t l =
+    split
+    (λ b. cond (b && (t .funded && same)) both (cond b (fits h) true && shift-fits t l) ≡ both-fit (cond b (some p) none) (part t) l)
+    (s .funded)
+    (λ _. split (λ c. cond (c && same) both (fits h && cond c (fits k) true) ≡ both-fit (some p) (cond c (some q) none) l) (t .funded) (λ _. refl) (λ _. refl))
+    (λ _. shift-is t l)
+  where
+    p : Part
+    p = record { account = s .account; side = side (s .side); old = int (s .old); new = int (s .new) }
+
+    q : Part
+    q = record { account = t .account; side = side (t .side); old = int (t .old); new = int (t .new) }
+
+    same : Bool
+    same = eqb (s .account) (t .account) && same-side (side (s .side)) (side (t .side))
+
+    h : ℤ
+    h = held (p .account) (p .side) (l .orders) -ℤ p .old +ℤ p .new
+
+    k : ℤ
+    k = held (q .account) (q .side) (l .orders) -ℤ q .old +ℤ q .new
+
+    both : Bool
+    both = fits (h -ℤ q .old +ℤ q .new)
+
+-- ---- what was weighed holds of every ledger in which the order and the wallets are as they were
+
+paper-some : (n : ℕ) (l : Ledger) → paper n l ≡ is-some (paper-order n l)
+unfolding paper
+paper-some n l = go (find n (l .orders))
+  where
+    go : (w : Option Order) → option false (λ o. is-some (wallet-of (l .wallets) o)) w ≡ is-some (option none (λ o. cond (is-some (wallet-of (l .wallets) o)) (some o) none) w)
+    go none = refl
+    go (some o) = split (λ b. b ≡ is-some (cond b (some o) none)) (is-some (wallet-of (l .wallets) o)) (λ _. refl) (λ _. refl)
+
+notices-paper : {n : ℕ} {c : Change} → Of n c → (l : Ledger) → change-notices c l ≡ option [] (order-notices c) (paper-order n l)
+notices-paper {n} {c} h l = ap (option [] (λ o. cond (is-some (wallet-of (l .wallets) o)) (order-notices c o) [])) (names h (l .orders)) ∙ go (find n (l .orders))
+  where
+    go : (w : Option Order) → option [] (λ o. cond (is-some (wallet-of (l .wallets) o)) (order-notices c o) []) w ≡ option [] (order-notices c) (option none (λ o. cond (is-some (wallet-of (l .wallets) o)) (some o) none) w)
+    go none = refl
+    go (some o) = split (λ b. cond b (order-notices c o) [] ≡ option [] (order-notices c) (cond b (some o) none)) (is-some (wallet-of (l .wallets) o)) (λ _. refl) (λ _. refl)
+
+pub weighs-same : {n : ℕ} {x : Move} {s : Shift} {g : Gateway} → Weighs n x s g → (h : Gateway) → paper-order n (h .core .ledger) ≡ paper-order n (g .core .ledger) →
+    ((a : ℕ) → is-some (getD (h .core .ledger .wallets) a none) ≡ is-some (getD (g .core .ledger .wallets) a none)) → Weighs n x s h
+weighs-same {n} {x} {s} {g} w h e f =
+    record {
+      owned = record { inside = w .owned .inside; has-wallet = λ q. f (s .account) ∙ w .owned .has-wallet q };
+      paper-is = paper-some n (h .core .ledger) ∙ ap is-some e ∙ sym (paper-some n (g .core .ledger)) ∙ w .paper-is;
+      noticed =
+          ap length (notices-paper (of n x) (h .core .ledger) ∙ ap (option [] (order-notices (change-of n x))) e ∙ sym (notices-paper (of n x) (g .core .ledger))) ∙ w .noticed;
+      is = w .is ∙ ap (Option·map (part-of (change-of n x))) (sym e);
+    }
+
+-- where another order has changed, and where the mark has moved
+pub weighs-after : {j : ℕ} {y : Move} {t : Shift} {g : Gateway} → Weighs j y t g → (i : ℕ) (x : Move) → (i ≡ j → ⊥) → Weighs j y t (moved (change-of i x) g)
+weighs-after {j} {g = g} w i x ne =
+    weighs-same w (moved (change-of i x) g) (paper-changed (of i x) j ne (g .core .ledger)) (wallets-changed (change-of i x) (g .core .ledger))
+
+pub weighs-marked : {n : ℕ} {x : Move} {s : Shift} {g : Gateway} → Weighs n x s g → (a b : ℕ) (p : ℤ) → Weighs n x s (with-ledger (change (mark-by a b p)) g)
+unfolding change
+weighs-marked {g = g} w a b p = weighs-same w (with-ledger (change (mark-by a b p)) g) refl (λ i. refl)
+
+-- at most two notices
+pub weighs-few : {n : ℕ} {x : Move} {s : Shift} {g : Gateway} → Weighs n x s g → s .notices ≤ 2
+weighs-few {n} {x} {s} {g} w = let e = w .noticed in omega (arith, ap length (notices-paper (of n x) (g .core .ledger)), go (paper-order n (g .core .ledger)))
+  where
+    go : (o : Option Order) → length (option [] (order-notices (change-of n x)) o) ≤ 2
+    go none = omega arith
+    go (some o) = notices-two n x o
+
+-- ---- code 7
+
+pub one-fits : {n : ℕ} {x : Move} {s : Shift} {g : Gateway} → Weighs n x s g → Ok g → shift-fits s (g .core .ledger) ≡ holds-fit (change (change-of n x) (g .core .ledger))
+one-fits {n} {x} {s} {g} w ok = shift-is s (g .core .ledger) ∙ Totals.one-fits (g .core .ledger) (ok .core-is .rise) (ok .core-is .holds) (of n x) (part s) (w .is)
+
+module _ {i j : ℕ} {x y : Move} {s t : Shift} {g : Gateway} (w : Weighs i x s g) (v : Weighs j y t g) (ne : i ≡ j → ⊥) where
+  abbrev l : Ledger
+  l = g .core .ledger
+
+  pub two-fit : Ok g → pair-fits s t l ≡ holds-fit (change (change-of j y) (change (change-of i x) l))
+  two-fit ok = pair-is s t l ∙ Totals.two-fit l (ok .core-is .rise) (ok .core-is .holds) (of i x) (of j y) ne (part s) (part t) (w .is) (v .is)
+
+  pub two-noticed : length (change-notices (change-of j y) (change (change-of i x) l)) ≡ t .notices
+  two-noticed = weighs-after v i x ne .noticed
+
+  -- behind a new mark, as in a trade
+  module _ (a b : ℕ) (p : ℤ) where
+    pub trade-fits : Ok g → pair-fits s t l ≡ holds-fit (change (change-of j y) (change (change-of i x) (change (mark-by a b p) l)))
+    trade-fits ok = two-fit ok ∙ sym (holds-alike (changed-alike (change-of j y) (changed-alike (change-of i x) (marked-alike a b p l))))
+
+    pub trade-noticed : length (notices-of (mark-by a b p ∷ change-of i x ∷ change-of j y ∷ []) l) ≡ s .notices + t .notices
+    trade-noticed =
+        let first = change-notices (change-of i x) (change (mark-by a b p) l) in
+        let second = change-notices (change-of j y) (change (change-of i x) (change (mark-by a b p) l)) in
+        let e = ap length (notices-alike (change-of i x) (marked-alike a b p l)) in
+        let f = ap length (notices-alike (change-of j y) (changed-alike (change-of i x) (marked-alike a b p l))) in
+        omega (arith, length-append first (second ++ []), length-append second [], e, f, w .noticed, two-noticed)
+
+-- the mark alone changes neither the totals nor what is noticed
+pub marked-fits : (a b : ℕ) (p : ℤ) (l : Ledger) → holds-fit (change (mark-by a b p) l) ≡ holds-fit l
+marked-fits a b p l = holds-alike (marked-alike a b p l)
+
+pub marked-notices : (a b : ℕ) (p : ℤ) (x : Change) (l : Ledger) → change-notices x (change (mark-by a b p) l) ≡ change-notices x l
+marked-notices a b p x l = notices-alike x (marked-alike a b p l)

@@ -1,0 +1,6 @@
+pub mod Pure
+pub mod Totals
+pub mod Weighing
+pub mod Judging
+pub mod Applying
+pub mod Laws

@@ -1,0 +1,221 @@
+-- What `weigh` finds: the part of the order that x would change, and its notices. Assumes nothing.
+use mathlib.Core.Path.{_≡_, refl, sym, ap, ap₂, subst, _∙_}
+use mathlib.Core.Bool.{Bool, true, false, cond, false≢true}
+use mathlib.Core.Option.{Option, none, some, Option·map}
+use mathlib.Core.List.{List, [], _∷_, _++_}
+use Prim.Native.Nat.{ℕ, _+_, _≤_, _<_}
+use native.Mathlib.Omega.{arith}
+use lib.IntN.{ℤ, pos, _-ℤ_}
+use lib.Dec.{eqb}
+use lib.ListN.{length, getD}
+use Rattle.words.specs.Words.{int, modulus}
+use Rattle.words.proofs.Int.{int-zero}
+use Rattle.table.specs.declared.Found.{Found}
+use Rattle.table.specs.declared.Found.the-variants.{At, Nothing}
+use Rattle.gateway.specs.Basics.{option, is-some}
+use Rattle.gateway.specs.Limits.{owner-slots}
+use Rattle.gateway.specs.Ledger.{Order, Ledger, Change, number-of, find, paper, wallet-of, hold, order-hold}
+use Rattle.gateway.specs.Deliver.{hold-after, order-notices, change-notices}
+use Rattle.gateway.specs.Deliver as Deliver
+use Rattle.gateway.specs.Entry.{is-zero}
+use Rattle.gateway.specs.Calls.{Gateway}
+use Rattle.gateway.proofs.Base.{split}
+use Rattle.gateway.proofs.Moves.{Of, fills, sets, reprices, retires, names}
+use Rattle.store.specs.Cells as C
+use Rattle.store.specs.Layout.{cell}
+use Rattle.store.specs.View.{Store, word, side, maybe-price, order, wallet, ledger, gateway, order-room}
+use Rattle.clients.proofs.Views.{wallet-at-row}
+use Rattle.orders.specs.declared.Live.{Live}
+use Rattle.orders.specs.Orders.{Sees, live-row}
+use Rattle.sound.specs.Sound.{State}
+use Rattle.live.specs.Live as L
+use Rattle.live.proofs.Accounts.{hold-is}
+use Rattle.live.proofs.Notices.{stays, differs}
+use Rattle.holds.specs.declared.Move.{Move}
+use Rattle.holds.specs.declared.Move.the-variants.{Fill, Leaves, Reprice, Retire}
+use Rattle.holds.specs.declared.Shift.{Shift}
+use Rattle.holds.specs.Holds.{change-of, part-of, paper-order, part, Weighs, nothing, hold-after-word, settles, notice-count, row-shift}
+
+pub of : (n : ℕ) (x : Move) → Of n (change-of n x)
+of n (Fill p q v) = fills (int p) q v
+of n (Leaves v) = sets v
+of n (Reprice p v) = reprices (int p) v
+of n Retire = retires
+
+-- ---- in the arms of a match
+
+pub after-fill : (x : Move) (o : Live) (p q v r : ℕ) → x ≡ Fill p q v → r ≡ L.hold-word (o .side) (o .priced) (o .price) v → r ≡ hold-after-word x o
+after-fill x o p q v r e h = h ∙ ap (λ y. hold-after-word y o) (sym e)
+
+pub after-leaves : (x : Move) (o : Live) (v r : ℕ) → x ≡ Leaves v → r ≡ L.hold-word (o .side) (o .priced) (o .price) v → r ≡ hold-after-word x o
+after-leaves x o v r e h = h ∙ ap (λ y. hold-after-word y o) (sym e)
+
+pub after-reprice : (x : Move) (o : Live) (p v r : ℕ) → x ≡ Reprice p v → r ≡ L.hold-word (o .side) 1 p v → r ≡ hold-after-word x o
+after-reprice x o p v r e h = h ∙ ap (λ y. hold-after-word y o) (sym e)
+
+pub after-retire : (x : Move) (o : Live) → x ≡ Retire → 0 ≡ hold-after-word x o
+after-retire x o e = ap (λ y. hold-after-word y o) (sym e)
+
+pub settles-as : (x y : Move) → x ≡ y → settles y ≡ settles x
+settles-as x y e = ap settles (sym e)
+
+pub settles-small : (x : Move) → settles x ≤ 1
+settles-small (Fill p q v) = omega arith
+settles-small (Leaves v) = omega arith
+settles-small (Reprice p v) = omega arith
+settles-small Retire = omega arith
+
+pub count-same : (x : Move) (old new n : ℕ) → n ≡ settles x → old ≡ new → n ≡ notice-count x old new
+count-same x old new n h e = h ∙ sym (ap (λ b. cond b (settles x) (settles x + 1)) (stays old new e))
+
+pub count-other : (x : Move) (old new n : ℕ) → n ≡ settles x → old < modulus → new < modulus → (old ≡ new → ⊥) → n + 1 ≡ notice-count x old new
+count-other x old new n h f g e = ap (λ k. k + 1) h ∙ sym (ap (λ b. cond b (settles x) (settles x + 1)) (differs old new f g e))
+
+-- ---- a row
+
+pub row-funded : (x : Move) (o : Live) (s : Store) (b : Bool) (h k : ℕ) → b ≡ is-some (wallet (s C.accounts (o .account))) → b ≡ true → h ≡ hold-after-word x o → k ≡ notice-count x (o .hold) h →
+    record { account = o .account; side = o .side; old = o .hold; new = h; notices = k; funded = true } ≡ row-shift x o s
+row-funded x o s b h k e f p q =
+    let known : is-some (wallet (s C.accounts (o .account))) ≡ true = sym e ∙ f in
+    (λ i. record { account = o .account; side = o .side; old = o .hold; new = p i; notices = (q ∙ ap (notice-count x (o .hold)) p) i; funded = true })
+    ∙ sym
+    (ap (λ (c : Bool).
+    cond c (record { account = o .account; side = o .side; old = o .hold; new = hold-after-word x o; notices = notice-count x (o .hold) (hold-after-word x o); funded = true }) nothing) known)
+
+pub row-unfunded : (x : Move) (o : Live) (s : Store) (b : Bool) (r : Shift) → b ≡ is-some (wallet (s C.accounts (o .account))) → b ≡ false → r ≡ nothing → r ≡ row-shift x o s
+row-unfunded x o s b r e f h =
+    h
+    ∙ sym
+    (ap (λ (c : Bool).
+    cond c (record { account = o .account; side = o .side; old = o .hold; new = hold-after-word x o; notices = notice-count x (o .hold) (hold-after-word x o); funded = true }) nothing) (sym e ∙ f))
+
+-- ---- notices, by the order
+
+abbrev pub settled : ℕ → Move → List ℕ
+settled a x = cond (eqb (settles x) 0) [] (a ∷ [])
+
+pub notices-are : (n : ℕ) (x : Move) (q : Order) → order-notices (change-of n x) q ≡ settled (q .account) x ++ Deliver.hold-notice (q .account) (order-hold q) (hold-after (change-of n x) q)
+notices-are n (Fill p q v) o = refl
+notices-are n (Leaves v) o = refl
+notices-are n (Reprice p v) o = refl
+notices-are n Retire o = refl
+
+counted : (n : ℕ) (x : Move) (q : Order) → length (order-notices (change-of n x) q) ≡ cond (is-zero (hold-after (change-of n x) q -ℤ order-hold q)) (settles x) (settles x + 1)
+counted n (Fill p m v) q = split (λ b. length (q .account ∷ cond b [] (q .account ∷ [])) ≡ cond b 1 2) (is-zero (hold (q .side) (q .price) v -ℤ order-hold q)) (λ _. refl) (λ _. refl)
+counted n (Leaves v) q = split (λ b. length (cond b [] (q .account ∷ [])) ≡ cond b 0 1) (is-zero (hold (q .side) (q .price) v -ℤ order-hold q)) (λ _. refl) (λ _. refl)
+counted n (Reprice p v) q = split (λ b. length (cond b [] (q .account ∷ [])) ≡ cond b 0 1) (is-zero (hold-after (change-of n (Reprice p v)) q -ℤ order-hold q)) (λ _. refl) (λ _. refl)
+counted n Retire q = split (λ b. length (cond b [] (q .account ∷ [])) ≡ cond b 0 1) (is-zero (pos 0 -ℤ order-hold q)) (λ _. refl) (λ _. refl)
+
+pub notices-two : (n : ℕ) (x : Move) (q : Order) → length (order-notices (change-of n x) q) ≤ 2
+notices-two n x q = rw (counted n x q) (split (λ b. cond b (settles x) (settles x + 1) ≤ 2) (is-zero (hold-after (change-of n x) q -ℤ order-hold q)) (λ _. omega (arith, settles-small x)) (λ _. omega (arith, settles-small x)))
+
+pub notices-by : (n : ℕ) (x : Move) (l : Ledger) {w : Option Order} → find n (l .orders) ≡ w →
+    change-notices (change-of n x) l ≡ option [] (λ q. cond (is-some (wallet-of (l .wallets) q)) (order-notices (change-of n x) q) []) w
+notices-by n x l e = ap (option [] (λ q. cond (is-some (wallet-of (l .wallets) q)) (order-notices (change-of n x) q) [])) (names (of n x) (l .orders) ∙ e)
+
+-- ---- the order that x changes
+
+pub new-is : (n : ℕ) (x : Move) (r : _) → int (hold-after-word x (live-row r)) ≡ hold-after (change-of n x) (order r)
+new-is n (Fill p q v) r = hold-is (r C.order-side) (r C.order-priced) (r C.order-price) v
+new-is n (Leaves v) r = hold-is (r C.order-side) (r C.order-priced) (r C.order-price) v
+new-is n (Reprice p v) r = hold-is (r C.order-side) 1 p v
+new-is n Retire r = int-zero
+
+-- none, or one whose account has no wallet
+nothing-weighs : (n : ℕ) (x : Move) (g : Gateway) → paper n (g .core .ledger) ≡ false → change-notices (change-of n x) (g .core .ledger) ≡ [] → paper-order n (g .core .ledger) ≡ none → Weighs n x nothing g
+nothing-weighs n x g p e f = record { owned = record { inside = omega arith; has-wallet = λ q. absurd (false≢true q) }; paper-is = p; noticed = ap length e; is = sym (ap (Option·map (part-of (change-of n x))) f) }
+
+module _ (xs : List ℕ) (st : State xs) (n : ℕ) (x : Move) (at : Found) (sees : Sees C.order-live order number-of (cell xs) n at) where
+  abbrev s : Store
+  s = cell xs
+
+  pub weighs-nothing : at ≡ Nothing → (r : Shift) → r ≡ nothing → Weighs n x r (gateway s)
+  unfolding paper
+  weighs-nothing absent r e =
+      let none-there : find n (ledger s .orders) ≡ none = (let u : Sees C.order-live order number-of s n Nothing = rw absent at sees in u .order) in
+      subst (λ t. Weighs n x t (gateway s)) (sym e)
+      (nothing-weighs n x (gateway s) (ap (option false (λ o. is-some (wallet-of (ledger s .wallets) o))) none-there) (notices-by n x (ledger s) none-there)
+      (ap (option none (λ o. cond (is-some (wallet-of (ledger s .wallets) o)) (some o) none)) none-there))
+
+  module _ (i : ℕ) (found : at ≡ At i) where
+    there : Sees C.order-live order number-of s n (At i)
+    there = rw found at sees
+
+    pub row-small : i < order-room
+    row-small = omega (arith, there .row .0, st .sound .tables .ordered .bounds .orders-fit)
+
+    abbrev was : Order
+    was = order (s C.orders i)
+
+    small : was .account < owner-slots
+    small = st .sound .held .rows i (there .row .0) (there .row .2) .owner-is
+
+    module _ (o : Live) (o-is : o ≡ live-row (s C.orders i)) where
+      pub owner-small : o .account < owner-slots
+      owner-small = rw o-is small
+
+      pub live-at : L.At i o s
+      live-at = record { inside = there .row .0; live = there .row .2; is = o-is }
+
+      pub weighs-row : (r : Shift) → r ≡ row-shift x o s → Weighs n x r (gateway s)
+      unfolding paper
+      weighs-row r e =
+          subst (λ t. Weighs n x t (gateway s)) (sym (e ∙ ap (λ (w : Live). row-shift x w s) o-is))
+          (split
+          (λ b. (is-some (wallet (s C.accounts (was .account))) ≡ b) →
+          Weighs n x
+          (cond b
+          (record {
+            account = was .account;
+            side = s C.orders i C.order-side;
+            old = s C.orders i C.order-hold;
+            new = hold-after-word x (live-row (s C.orders i));
+            notices = notice-count x (s C.orders i C.order-hold) (hold-after-word x (live-row (s C.orders i)));
+            funded = true;
+          })
+          nothing)
+          (gateway s))
+          (is-some (wallet (s C.accounts (was .account)))) (λ _ b. some-weighs b) (λ _ b. none-weighs b) refl)
+        where
+          wallet-is : {b : Bool} → is-some (wallet (s C.accounts (was .account))) ≡ b → is-some (wallet-of (ledger s .wallets) was) ≡ b
+          wallet-is b = ap is-some (wallet-at-row (was .account) s small) ∙ b
+
+          paper-is : {b : Bool} → is-some (wallet (s C.accounts (was .account))) ≡ b → paper n (ledger s) ≡ b
+          paper-is b = ap (option false (λ q. is-some (wallet-of (ledger s .wallets) q))) (there .order) ∙ wallet-is b
+
+          notices-is : {b : Bool} → is-some (wallet (s C.accounts (was .account))) ≡ b → change-notices (change-of n x) (ledger s) ≡ cond b (order-notices (change-of n x) was) []
+          notices-is b = notices-by n x (ledger s) (there .order) ∙ ap (λ c. cond c (order-notices (change-of n x) was) []) (wallet-is b)
+
+          order-is : {b : Bool} → is-some (wallet (s C.accounts (was .account))) ≡ b → paper-order n (ledger s) ≡ cond b (some was) none
+          order-is b = ap (option none (λ q. cond (is-some (wallet-of (ledger s .wallets) q)) (some q) none)) (there .order) ∙ ap (λ c. cond c (some was) none) (wallet-is b)
+
+          old-is : int (s C.orders i C.order-hold) ≡ order-hold was
+          old-is = st .sound .held .rows i (there .row .0) (there .row .2) .hold-is
+
+          none-weighs : is-some (wallet (s C.accounts (was .account))) ≡ false → Weighs n x nothing (gateway s)
+          none-weighs b = nothing-weighs n x (gateway s) (paper-is b) (notices-is b) (order-is b)
+
+          some-weighs : is-some (wallet (s C.accounts (was .account))) ≡ true →
+              Weighs n x
+              (record {
+                account = was .account;
+                side = s C.orders i C.order-side;
+                old = s C.orders i C.order-hold;
+                new = hold-after-word x (live-row (s C.orders i));
+                notices = notice-count x (s C.orders i C.order-hold) (hold-after-word x (live-row (s C.orders i)));
+                funded = true;
+              })
+              (gateway s)
+          some-weighs b =
+              record {
+                owned = record { inside = small; has-wallet = λ _. wallet-is b };
+                paper-is = paper-is b;
+                noticed =
+                    ap length (notices-is b) ∙ counted n x was
+                    ∙ ap₂ (λ new old. cond (is-zero (new -ℤ old)) (settles x) (settles x + 1)) (sym (new-is n x (s C.orders i))) (sym old-is);
+                is =
+                    (λ j. some (record { account = was .account; side = was .side; old = old-is j; new = new-is n x (s C.orders i) j }))
+                    ∙ sym (ap (Option·map (part-of (change-of n x))) (order-is b));
+              }
+
+pub ruleset weighing = (after-fill, after-leaves, after-reprice, after-retire, settles-as, count-same, count-other, row-funded, row-unfunded, weighs-nothing, row-small, owner-small, live-at, weighs-row, arith)

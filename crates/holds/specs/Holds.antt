@@ -1,0 +1,124 @@
+-- What an event does to a live order that it names: what the order held and holds, the tests, and the change with its notices.
+use Prim.Native.Nat.{ℕ, _+_, _<_}
+use mathlib.Core.Path.{_≡_}
+use mathlib.Core.Bool.{Bool, true, false, cond, _&&_}
+use mathlib.Core.Option.{Option, none, some, Option·map}
+use mathlib.Core.List.{List, []}
+use lib.Dec.{eqb}
+use lib.IntN.{ℤ, _+ℤ_, _-ℤ_}
+use lib.ListN.{length, getD}
+use Rattle.orderbook.specs.declared.Side.{Side}
+use Rattle.words.specs.Words.{int}
+use Rattle.gateway.specs.Basics.{option, is-some}
+use Rattle.gateway.specs.Limits.{owner-slots}
+use Rattle.gateway.specs.Ledger.{Order, Ledger, Change, fill, set-leaves, reprice, retire, find, wallet-of, paper, change, order-hold, same-side, held, fits}
+use Rattle.gateway.specs.Deliver.{hold-after, change-notices}
+use Rattle.gateway.specs.Entry.{is-zero}
+use Rattle.gateway.specs.Calls.{Gateway}
+use Rattle.store.specs.Cells as C
+use Rattle.store.specs.View.{Store, side, wallet}
+use Rattle.orders.specs.declared.Live.{Live}
+use Rattle.live.specs.Live.{with-ledger, with-notices, hold-word, wallet-notice}
+use Rattle.holds.specs.declared.Move.{Move}
+use Rattle.holds.specs.declared.Move.the-variants.{Fill, Leaves, Reprice, Retire}
+use Rattle.holds.specs.declared.Shift.{Shift}
+
+-- ---- the change
+
+-- of the order n
+abbrev pub change-of : ℕ → Move → Change
+change-of n (Fill p q v) = fill n (int p) q v
+change-of n (Leaves v) = set-leaves n v
+change-of n (Reprice p v) = reprice n (int p) v
+change-of n Retire = retire n
+
+-- a change of the ledger, with its notices
+abbrev pub moved : Change → Gateway → Gateway
+moved x g = with-notices (change-notices x (g .core .ledger)) (with-ledger (change x) g)
+
+-- ---- what is weighed
+
+-- a part of what an account's orders of a side hold, before and after
+pub record Part : Type 0 where
+  pub account : ℕ
+  pub side : Side
+  pub old : ℤ
+  pub new : ℤ
+
+abbrev pub part-of : Change → Order → Part
+part-of x o = record { account = o .account; side = o .side; old = order-hold o; new = hold-after x o }
+
+-- the live order n, where its account has a wallet
+abbrev pub paper-order : ℕ → Ledger → Option Order
+paper-order n l = option none (λ o. cond (is-some (wallet-of (l .wallets) o)) (some o) none) (find n (l .orders))
+
+-- what a shift says: nothing without a wallet
+abbrev pub part : Shift → Option Part
+part s = cond (s .funded) (some (record { account = s .account; side = side (s .side); old = int (s .old); new = int (s .new) })) none
+
+-- its account has a row, and a wallet where it says so
+pub record Owned (s : Shift) (l : Ledger) : Type 0 where
+  pub inside : s .account < owner-slots
+  pub has-wallet : s .funded ≡ true → is-some (getD (l .wallets) (s .account) none) ≡ true
+
+-- s is what x would do to the order n
+pub record Weighs (n : ℕ) (x : Move) (s : Shift) (g : Gateway) : Type 0 where
+  pub owned : Owned s (g .core .ledger)
+  pub paper-is : paper n (g .core .ledger) ≡ s .funded
+  pub noticed : length (change-notices (change-of n x) (g .core .ledger)) ≡ s .notices
+  pub is : part s ≡ Option·map (part-of (change-of n x)) (paper-order n (g .core .ledger))
+
+-- ---- the tests
+
+-- code 7 for the total that s is a part of
+abbrev pub shift-fits : Shift → Ledger → Bool
+shift-fits s l = cond (s .funded) (fits (held (s .account) (side (s .side)) (l .orders) -ℤ int (s .old) +ℤ int (s .new))) true
+
+-- both are parts of one total
+abbrev pub is-one : Shift → Shift → Bool
+is-one s t = s .funded && (t .funded && (eqb (s .account) (t .account) && same-side (side (s .side)) (side (t .side))))
+
+-- code 7 for both: one total is judged once, as one sum
+abbrev pub pair-fits : Shift → Shift → Ledger → Bool
+pair-fits s t l =
+    cond (is-one s t)
+    (fits (held (s .account) (side (s .side)) (l .orders) -ℤ int (s .old) +ℤ int (s .new) -ℤ int (t .old) +ℤ int (t .new)))
+    (shift-fits s l && shift-fits t l)
+
+-- ---- in words
+
+abbrev pub nothing : Shift
+nothing = record { account = 0; side = 0; old = 0; new = 0; notices = 0; funded = false }
+
+abbrev pub hold-after-word : Move → Live → ℕ
+hold-after-word (Fill p q v) o = hold-word (o .side) (o .priced) (o .price) v
+hold-after-word (Leaves v) o = hold-word (o .side) (o .priced) (o .price) v
+hold-after-word (Reprice p v) o = hold-word (o .side) 1 p v
+hold-after-word Retire o = 0
+
+-- 1 where money moves
+abbrev pub settles : Move → ℕ
+settles (Fill p q v) = 1
+settles (Leaves v) = 0
+settles (Reprice p v) = 0
+settles Retire = 0
+
+-- and one notice more where the hold changes
+abbrev pub notice-count : Move → ℕ → ℕ → ℕ
+notice-count x old new = cond (is-zero (int new -ℤ int old)) (settles x) (settles x + 1)
+
+abbrev pub row-shift : Move → Live → Store → Shift
+row-shift x o s =
+    cond (is-some (wallet (s C.accounts (o .account))))
+    (record {
+      account = o .account;
+      side = o .side;
+      old = o .hold;
+      new = hold-after-word x o;
+      notices = notice-count x (o .hold) (hold-after-word x o);
+      funded = true;
+    })
+    nothing
+
+abbrev pub settled-notice : ℕ → Move → Store → List ℕ
+settled-notice a x s = cond (eqb (settles x) 0) [] (wallet-notice a s)

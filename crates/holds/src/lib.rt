@@ -1,0 +1,227 @@
+// What an event does to a live order that it names: judged on the state as it is, then applied (`deliver` of exchange.rs).
+use orders::Live;
+use store::cells;
+use table::Found;
+ghost use mathlib.Core.Path.{_≡_};
+ghost use Prim.Native.Nat.{_+_, _≤_, _<_};
+ghost use lib.ListN.{length};
+ghost use lib.Dec.{leb};
+ghost use Rattle.gateway.specs.Limits.{owner-slots, most-notices};
+ghost use Rattle.gateway.specs.Ledger.{number-of, change, same-side};
+ghost use Rattle.gateway.specs.Deliver.{change-notices};
+ghost use Rattle.store.specs.Cells as C;
+ghost use Rattle.store.specs.Layout.{cell};
+ghost use Rattle.store.specs.View.{word, side, order, ledger, gateway};
+ghost use Rattle.orders.specs.Orders.{Sees, number-at};
+ghost use Rattle.sound.specs.Sound.{State, Becomes};
+ghost use Rattle.live.specs.Live.{At, with-ledger, with-notices};
+ghost use Rattle.outcome.specs.Between.{Between};
+ghost use Rattle.holds.specs.Holds as P;
+
+// What happens to the order. Prices are words, in two's complement.
+pub enum Move {
+    Fill { price: u64, qty: u64, leaves: u64 },
+    Leaves { leaves: u64 },
+    Reprice { price: u64, leaves: u64 },
+    Retire,
+}
+
+// Of a live order whose account has a wallet: what it holds before and after, and how many notices there are. Otherwise all 0.
+pub struct Shift {
+    pub account: u64,
+    pub side: u64,
+    pub old: u64,
+    pub new: u64,
+    pub notices: u64,
+    pub funded: bool,
+}
+
+const MOST_NOTICES: u64 = 2048;
+
+// What the order holds afterwards: a fill leaves it its own price.
+fn hold_after(o: Live, x: Move) -> u64
+    ensures { λ r. ⌜ r ≡ P.hold-after-word x o ⌝ }
+{
+    match x {
+        Move::Fill {
+            price: _,
+            qty: _,
+            leaves,
+        } => live::hold_of(o.side, o.priced, o.price, leaves),
+        Move::Leaves { leaves } => live::hold_of(o.side, o.priced, o.price, leaves),
+        Move::Reprice { price, leaves } => live::hold_of(o.side, 1, price, leaves),
+        Move::Retire => 0,
+    }
+}
+
+// Whether money moves, as 0 or 1.
+fn settles(x: Move) -> u64
+    ensures { λ r. ⌜ r ≡ P.settles x ⌝ }
+{
+    match x {
+        Move::Fill {
+            price: _,
+            qty: _,
+            leaves: _,
+        } => 1,
+        Move::Leaves { leaves: _ } => 0,
+        Move::Reprice {
+            price: _,
+            leaves: _,
+        } => 0,
+        Move::Retire => 0,
+    }
+}
+
+// A wallet's notices: one where money moves, one where what is held changes.
+fn count_notices(x: Move, old: u64, new: u64) -> u64
+    ensures { λ r. ⌜ r ≡ P.notice-count x old new ⌝ }
+{
+    let n = settles(x);
+    if old == new {
+        return n;
+    }
+    n + 1
+}
+
+fn nothing() -> Shift
+    ensures { λ r. ⌜ r ≡ P.nothing ⌝ }
+{
+    Shift {
+        account: 0,
+        side: 0,
+        old: 0,
+        new: 0,
+        notices: 0,
+        funded: false,
+    }
+}
+
+fn weigh_row(m: &[u8], o: Live, x: Move) -> Shift
+    requires { ⌜ State (now m) × (o .account < owner-slots) ⌝ }
+    ensures { λ r. ⌜ r ≡ P.row-shift x o (cell (now (m .entry))) ⌝ }
+{
+    if clients::is_funded(m, o.account as usize) {
+        let new = hold_after(o, x);
+        let notices = count_notices(x, o.hold, new);
+        return Shift {
+            account: o.account,
+            side: o.side,
+            old: o.hold,
+            new,
+            notices,
+            funded: true,
+        };
+    }
+    nothing()
+}
+
+// What x would do to the order `id`, which is at `at`.
+pub fn weigh(m: &[u8], id: u64, at: Found, x: Move) -> Shift
+    requires { ⌜ State (now m) × Sees C.order-live order number-of (cell (now m)) id at ⌝ }
+    ensures { λ r. ⌜ P.Weighs id x r (gateway (cell (now (m .entry)))) ⌝ }
+{
+    if let Found::At(i) = at {
+        let o = orders::live_at(m, i);
+        return weigh_row(m, o, x);
+    }
+    nothing()
+}
+
+// Code 7: the total that the order is a part of.
+pub fn fits(m: &[u8], s: Shift) -> bool
+    requires { ⌜ Between (now m) × P.Owned s (ledger (cell (now m))) ⌝ }
+    ensures { λ r. ⌜ r ≡ P.shift-fits s (ledger (cell (now (m .entry)))) ⌝ }
+{
+    if s.funded {
+        let side = store::side_of(s.side);
+        return live::total_fits(m, s.account as usize, side, s.old, s.new);
+    }
+    true
+}
+
+fn same_side(a: u64, b: u64) -> bool
+    ensures { λ r. ⌜ r ≡ same-side (side a) (side b) ⌝ }
+{
+    if a == 0 { b == 0 } else { b != 0 }
+}
+
+// Both are parts of one total.
+fn is_one(s: Shift, t: Shift) -> bool
+    ensures { λ r. ⌜ r ≡ P.is-one s t ⌝ }
+{
+    if s.funded {
+        if t.funded {
+            if s.account == t.account {
+                return same_side(s.side, t.side);
+            }
+        }
+    }
+    false
+}
+
+// Code 7 for two orders: one total that both are parts of is judged once, whatever either change alone gives.
+pub fn pair_fits(m: &[u8], s: Shift, t: Shift) -> bool
+    requires { ⌜ Between (now m) × P.Owned s (ledger (cell (now m))) × P.Owned t (ledger (cell (now m))) ⌝ }
+    ensures { λ r. ⌜ r ≡ P.pair-fits s t (ledger (cell (now (m .entry)))) ⌝ }
+{
+    if is_one(s, t) {
+        let side = store::side_of(s.side);
+        return live::two_fit(m, s.account as usize, side, s.old, s.new, t.old, t.new);
+    }
+    let first = fits(m, s);
+    let second = fits(m, t);
+    first && second
+}
+
+// Code 5: there is room for this many notices.
+pub fn few(m: &[u8], notices: u64) -> bool
+    requires { ⌜ State (now m) × (notices ≤ 4) ⌝ }
+    ensures { λ r. ⌜ r ≡ leb (notices + word (cell (now (m .entry))) C.notice-rows) most-notices ⌝ }
+{
+    let n = pending::header::word_at(m, cells::NOTICE_ROWS);
+    notices + n <= MOST_NOTICES
+}
+
+fn change(m: &mut [u8], i: usize, o: Live, x: Move)
+    requires { ⌜ State (now m) × At i o (cell (now m)) ⌝ }
+    ensures { λ r. ⌜ Becomes (now (m .exit)) (with-ledger (change (P.change-of (number-at i (cell (now (m .entry)))) x)) (gateway (cell (now (m .entry))))) ⌝ }
+{
+    match x {
+        Move::Fill { price, qty, leaves } => live::traded(m, i, o, price, qty, leaves),
+        Move::Leaves { leaves } => live::set_leaves(m, i, o, leaves),
+        Move::Reprice { price, leaves } => live::reprice(m, i, o, price, leaves),
+        Move::Retire => live::retire(m, i, o),
+    }
+}
+
+// The notice that money moved, where it did.
+fn notice_settled(m: &mut [u8], account: u64, x: Move)
+    requires { ⌜ State (now m) × (account < owner-slots) × (length (P.settled-notice account x (cell (now m))) + word (cell (now m)) C.notice-rows ≤ most-notices) ⌝ }
+    ensures { λ r. ⌜ Becomes (now (m .exit)) (with-notices (P.settled-notice account x (cell (now (m .entry)))) (gateway (cell (now (m .entry))))) ⌝ }
+{
+    if settles(x) != 0 {
+        live::notice(m, account);
+    }
+}
+
+fn apply_row(m: &mut [u8], i: usize, o: Live, x: Move)
+    requires { ⌜ State (now m) × At i o (cell (now m)) × (length (change-notices (P.change-of (number-at i (cell (now m))) x) (ledger (cell (now m)))) + word (cell (now m)) C.notice-rows ≤ most-notices) ⌝ }
+    ensures { λ r. ⌜ Becomes (now (m .exit)) (P.moved (P.change-of (number-at i (cell (now (m .entry)))) x) (gateway (cell (now (m .entry))))) ⌝ }
+{
+    let new = hold_after(o, x);
+    change(m, i, o, x);
+    notice_settled(m, o.account, x);
+    live::notice_hold(m, o.account, o.hold, new);
+}
+
+// x happens to the order `id`, which is at `at`: the change and its notices.
+pub fn apply(m: &mut [u8], id: u64, at: Found, x: Move)
+    requires { ⌜ State (now m) × Sees C.order-live order number-of (cell (now m)) id at × (length (change-notices (P.change-of id x) (ledger (cell (now m)))) + word (cell (now m)) C.notice-rows ≤ most-notices) ⌝ }
+    ensures { λ r. ⌜ Becomes (now (m .exit)) (P.moved (P.change-of id x) (gateway (cell (now (m .entry))))) ⌝ }
+{
+    if let Found::At(i) = at {
+        let o = orders::live_at(m, i);
+        apply_row(m, i, o, x);
+    }
+}
