@@ -12,13 +12,13 @@ ghost use Rattle.store.specs.Layout.{cell, Holds};
 ghost use Rattle.store.specs.View.{side, changed-key, depth, Is, Ready};
 ghost use Rattle.pending.specs.Pending as P;
 
-fn same_side(a: u64, b: u64) -> bool
+pub fn same_side(a: u64, b: u64) -> bool
     ensures { λ r. ⌜ r ≡ same-side (side a) (side b) ⌝ }
 {
     if a == 0 { b == 0 } else { b != 0 }
 }
 
-fn same_price(a: u64, b: u64) -> bool
+pub fn same_price(a: u64, b: u64) -> bool
     ensures { λ r. ⌜ r ≡ D.same-price (int a) (int b) ⌝ }
 {
     a == b
