@@ -21,3 +21,6 @@ pub mod Roomy
 pub mod Settled
 pub mod Counted
 pub mod Levels
+pub mod AtPrice
+pub mod Depths
+pub mod Joins

@@ -30,7 +30,7 @@ use Rattle.sound.proofs.Kept.{becomes}
 use Rattle.marketdata.specs.Marketdata.{At, Free, resting-at, with-depth, with-resting, remembering, Roomy, Fits, CanShow, Judged, CanAdd, CanOpen, Opens, replenished, stays}
 use Rattle.orders.specs.Orders.{number-at, resting-of}
 use Rattle.pending.specs.Pending.{key}
-use Rattle.marketdata.proofs.Fits.{level-fits, few-parts}
+use Rattle.gateway.proofs.AtPrice.{level-fits, few-parts}
 use Rattle.marketdata.proofs.Steps.{side-table, remember-sound}
 use Rattle.marketdata.proofs.Resting.{level-can, gone-can, gone-done, show-can, showed-can, showed-done}
 use Rattle.marketdata.proofs.Rests.{add-can, rest-can, rest-done}

@@ -14,19 +14,19 @@ use Rattle.orderbook.specs.declared.Side.{Side}
 use Rattle.orderbook.specs.declared.Side.the-variants.{Buy, Sell}
 use Rattle.table.specs.Live.{Each}
 use Rattle.table.proofs.Lists.{each-map}
 use Rattle.gateway.specs.Limits.{most-orders, most-levels, most-changed}
 use Rattle.gateway.specs.Ledger.{same-side}
 use Rattle.gateway.specs.Depth.{Resting, Level, Depth, same-price, better, joined, levels, level-in, quantities-fit, levels-fit, levels-few, depth-few}
 use Rattle.gateway.proofs.Base.{split}
 use Rattle.gateway.proofs.Counted.{Best, better-trans, joins}
 use Rattle.gateway.proofs.Levels.{Peopled, reshown, same-itself, better-apart, better-differs, one, more, at-level, before-level, after-level, compared}
 use Rattle.words.specs.Words.{modulus}
 
 pub same-mine : (z : Side) → same-side z z ≡ true
 same-mine Buy = refl
 same-mine Sell = refl
 
-fits-at : (p : ℤ) (ls : List Level) → quantities-fit ls ≡ true → level-in p ls .qty < modulus
+pub fits-at : (p : ℤ) (ls : List Level) → quantities-fit ls ≡ true → level-in p ls .qty < modulus
 fits-at p [] h = omega arith
 fits-at p (l ∷ ls) h =
     let t = and-eq-true-iff (ltb (l .qty) modulus) (quantities-fit ls) .0 h in
@@ -50,7 +50,7 @@ reshown-at p v w (l ∷ ls) h =
 
 module _ (s : Side) (p : ℤ) where
   -- no level that is worse than the price is at it
-  worse-none : (ls : List Level) → Each (λ m. better s p (m .price) ≡ true) ls → level-in p ls ≡ level-in p []
+  pub worse-none : (ls : List Level) → Each (λ m. better s p (m .price) ≡ true) ls → level-in p ls ≡ level-in p []
   worse-none [] t = refl
   worse-none (l ∷ ls) t = rw (better-differs s p (l .price) (t .0)) (worse-none ls (t .1))
 
