@@ -68,7 +68,7 @@ or-swap true false c = refl
 or-swap false true c = refl
 or-swap false false c = refl
 
-last-first : (k x : Key) (xs : List Key) → is-changed k (xs ++ (x ∷ [])) ≡ (same-key k x || is-changed k xs)
+pub last-first : (k x : Key) (xs : List Key) → is-changed k (xs ++ (x ∷ [])) ≡ (same-key k x || is-changed k xs)
 last-first k x [] = refl
 last-first k x (y ∷ xs) = ap (λ t. same-key k y || t) (last-first k x xs) ∙ or-swap (same-key k y) (same-key k x) (is-changed k xs)
 

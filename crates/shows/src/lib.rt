@@ -92,8 +92,8 @@ fn adds(m: &[u8], side: u64, price: u64) -> u64
 fn same_level(o: Resting, p: Resting) -> bool
     ensures { λ r. ⌜ r ≡ D.same-key (Pending.key (o .side) (o .price)) (Pending.key (p .side) (p .price)) ⌝ }
 {
-    if pending::changed::same_side(o.side, p.side) {
-        pending::changed::same_price(o.price, p.price)
+    if pending::changed::same_price(o.price, p.price) {
+        pending::changed::same_side(o.side, p.side)
     } else {
         false
     }
