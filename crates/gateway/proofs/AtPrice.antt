@@ -26,17 +26,20 @@ pub same-mine : (z : Side) → same-side z z ≡ true
 same-mine Buy = refl
 same-mine Sell = refl
 
-pub fits-at : (p : ℤ) (ls : List Level) → quantities-fit ls ≡ true → level-in p ls .qty < modulus
+fits-at : (p : ℤ) (ls : List Level) → quantities-fit ls ≡ true → level-in p ls .qty < modulus
 fits-at p [] h = omega arith
 fits-at p (l ∷ ls) h =
     let t = and-eq-true-iff (ltb (l .qty) modulus) (quantities-fit ls) .0 h in
     let u = fits-at p ls (t .1) in
     split (λ b. cond b l (level-in p ls) .qty < modulus) (same-price p (l .price)) (λ _. ltb-true (l .qty) modulus (t .0)) (λ _. u)
 
-pub level-fits : (z : Side) (p : ℤ) (os : List Resting) → levels-fit os ≡ true → level-in p (levels z os) .qty < modulus
+pub side-fits : (os : List Resting) → levels-fit os ≡ true → (z : Side) → quantities-fit (levels z os) ≡ true
 unfolding levels-fit
-level-fits Buy p os h = fits-at p (levels Buy os) (and-eq-true-iff (quantities-fit (levels Buy os)) (quantities-fit (levels Sell os)) .0 h .0)
-level-fits Sell p os h = fits-at p (levels Sell os) (and-eq-true-iff (quantities-fit (levels Buy os)) (quantities-fit (levels Sell os)) .0 h .1)
+side-fits os h Buy = and-eq-true-iff (quantities-fit (levels Buy os)) (quantities-fit (levels Sell os)) .0 h .0
+side-fits os h Sell = and-eq-true-iff (quantities-fit (levels Buy os)) (quantities-fit (levels Sell os)) .0 h .1
+
+pub level-fits : (z : Side) (p : ℤ) (os : List Resting) → levels-fit os ≡ true → level-in p (levels z os) .qty < modulus
+level-fits z p os h = fits-at p (levels z os) (side-fits os h z)
 
 pub reshown-at : (p : ℤ) (v w : ℕ) (ls : List Level) → 0 < level-in p ls .orders → level-in p (reshown p v w ls) .qty ≡ level-in p ls .qty - v + w
 reshown-at p v w [] h = absurd (omega arith)

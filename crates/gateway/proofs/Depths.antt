@@ -2,34 +2,29 @@
 -- can put only its own level out of range, and only by showing more; and of the tables only that of the changed levels can grow.
 -- Assumes nothing.
 use mathlib.Core.Path.{_≡_, refl, sym, ap, ap₂, _∙_}
-use mathlib.Core.Bool.{Bool, true, false, cond, _&&_, and-eq-true-iff}
+use mathlib.Core.Bool.{Bool, true, false, cond, _&&_, and-true, and-eq-true-iff}
 use mathlib.Core.Option.{Option, none, some}
 use mathlib.Core.List.{List, [], _∷_}
 use Prim.Native.Nat.{ℕ, suc, _+_, _-_, _≤_, _<_}
 use native.Mathlib.Omega.{arith}
-use borrow.Author.Tests.{ltb-true, lt-ltb, le-leb, leb-false, eqb-true, ne-eqb}
+use borrow.Author.Tests.{ltb-true, lt-ltb, le-leb, leb-false}
 use lib.ListN.{length}
 use lib.Dec.{eqb, ltb, leb}
 use lib.IntN.{ℤ}
 use Rattle.orderbook.specs.declared.Side.{Side}
 use Rattle.orderbook.specs.declared.Side.the-variants.{Buy, Sell}
 use Rattle.words.specs.Words.{modulus}
-use Rattle.table.specs.Live.{look, without, replace}
 use Rattle.gateway.specs.Basics.{option}
 use Rattle.gateway.specs.Limits.{most-orders, most-levels, most-changed}
-use Rattle.gateway.specs.Table.{Rises}
 use Rattle.gateway.specs.Ledger.{same-side}
 use Rattle.gateway.specs.Depth.{Resting, Level, Depth, same-price, levels, level-in, key-of, remember, resting-number, find-resting, showing, show, take-off, where-resting, filled, modified, lesser, quantities-fit, levels-fit, levels-few, depth-few}
 use Rattle.gateway.proofs.Base.{split}
-use Rattle.gateway.proofs.Sorted.{rises-without, rises-replace}
+use Rattle.gateway.proofs.Sorted.{look-key, look-without, look-replace, length-without, length-replace}
+use Rattle.gateway.proofs.Feed.{Ascending, Alters, goes, shows, Acts, where-rises}
 use Rattle.gateway.proofs.Levels.{parted, reshown, on, level-shows, take-off-levels, show-levels}
-use Rattle.gateway.proofs.AtPrice.{same-mine, fits-at, few-levels, few-parts}
+use Rattle.gateway.proofs.AtPrice.{same-mine, side-fits, level-fits, few-levels, few-parts}
 
 -- ---- one order less in a side's levels, or one that shows something else
-
-pub and-true : (b : Bool) → (b && true) ≡ b
-and-true true = refl
-and-true false = refl
 
 parted-fits : (p : ℤ) (v : ℕ) (ls : List Level) → quantities-fit ls ≡ true → quantities-fit (parted p v ls) ≡ true
 parted-fits p v [] h = refl
@@ -75,11 +70,6 @@ reshown-length p v w (l ∷ ls) =
 
 -- ---- the tests, by their parts
 
-pub side-fits : (os : List Resting) → levels-fit os ≡ true → (z : Side) → quantities-fit (levels z os) ≡ true
-unfolding levels-fit
-side-fits os h Buy = and-eq-true-iff (quantities-fit (levels Buy os)) (quantities-fit (levels Sell os)) .0 h .0
-side-fits os h Sell = and-eq-true-iff (quantities-fit (levels Buy os)) (quantities-fit (levels Sell os)) .0 h .1
-
 -- a test of both sides, where the other side than z passes as it did
 sides : (test : List Level → Bool) (z : Side) (os rs : List Resting) → ((w : Side) → test (levels w os) ≡ true) → ((w : Side) → same-side w z ≡ false → levels w rs ≡ levels w os) →
     (test (levels Buy rs) && test (levels Sell rs)) ≡ test (levels z rs)
@@ -104,6 +94,11 @@ module _ (o : Resting) (os rs : List Resting) (f : Side → List Level → List 
   unfolding levels-few
   own-few h = decides (λ ls. leb (length ls) most-levels) (λ z. le-leb (length (levels z os)) most-levels (h z))
 
+  own-most : ((z : Side) (ls : List Level) → length (f z ls) ≤ length ls) → (z : Side) → length (levels z rs) ≤ length (levels z os)
+  own-most h z =
+      rw (are z)
+      (split (λ b. length (cond b (f z (levels z os)) (levels z os)) ≤ length (levels z os)) (same-side z (o .side)) (λ _. h z (levels z os)) (λ _. omega arith))
+
 -- the orders and the levels of each side are few
 pub record Few (d : Depth) : Type 0 where
   pub orders : length (d .resting) ≤ most-orders
@@ -119,41 +114,7 @@ changed-decides d f = rw (le-leb _ _ (f .orders), le-leb _ _ (f .sides Buy), le-
 
 -- ---- an order that rests goes, or shows something else
 
-pub data Alters (o : Resting) (d : Depth) : Depth → Type 0 where
-  goes : Alters o d (take-off o d)
-  shows : (v w : ℕ) → Alters o d (show (showing v w o) d)
-
--- whatever the order and the depth
-abbrev pub Acts : (Resting → Depth → Depth) → Type 0
-Acts f = (o : Resting) (d : Depth) → Alters o d (f o d)
-
-pub off-acts : Acts take-off
-off-acts o d = goes
-
-pub shown-acts : (v : ℕ) → Acts (λ o. show (showing v (o .leaves) o))
-shown-acts v o d = shows v (o .leaves)
-
-pub filled-acts : (q v : ℕ) → Acts (filled q v)
-filled-acts q v o d = split (λ b. Alters o d (cond b (take-off o d) (show (showing (o .visible - q) v o) d))) (eqb v 0) (λ _. goes) (λ _. shows (o .visible - q) v)
-
-pub modified-acts : (p : ℤ) (v : ℕ) → Acts (modified p v)
-modified-acts p v o d =
-    split (λ b. Alters o d (cond b (show (showing (lesser (o .visible) v) v o) d) (take-off o d))) (ltb 0 v && (same-price p (o .price) && leb v (o .leaves)))
-    (λ _. shows (lesser (o .visible) v) v) (λ _. goes)
-
-without-length : (n : ℕ) (os : List Resting) → length (without resting-number n os) ≤ length os
-unfolding without
-without-length n [] = omega arith
-without-length n (o ∷ os) =
-    let u = without-length n os in
-    split (λ b. length (cond b (without resting-number n os) (o ∷ without resting-number n os)) ≤ suc (length os)) (eqb (o .number) n) (λ _. omega arith) (λ _. omega arith)
-
-replace-length : (r : Resting) (os : List Resting) → length (replace resting-number r os) ≡ length os
-unfolding replace
-replace-length r [] = refl
-replace-length r (o ∷ os) = ap suc (replace-length r os)
-
-module _ (o : Resting) (d : Depth) (asc : Rises resting-number 0 (d .resting)) (there : find-resting (o .number) (d .resting) ≡ some o) where
+module _ (o : Resting) (d : Depth) (asc : Ascending d) (there : find-resting (o .number) (d .resting) ≡ some o) where
   -- code 7
   module _ (fit : levels-fit (d .resting) ≡ true) where
     pub off-fits : levels-fit (take-off o d .resting) ≡ true
@@ -169,108 +130,61 @@ module _ (o : Resting) (d : Depth) (asc : Rises resting-number 0 (d .resting)) (
     -- it shows no more than before
     pub lowered-fits : (v w : ℕ) → v ≤ o .visible → levels-fit (show (showing v w o) d .resting) ≡ true
     lowered-fits v w h =
-        let l = fits-at (o .price) (levels (o .side) (d .resting)) (side-fits (d .resting) fit (o .side)) in
+        let l = level-fits (o .side) (o .price) (d .resting) fit in
         let m = level-shows (o .side) o (d .resting) asc there (same-mine (o .side)) .0 in
         shown-fits v w ∙ lt-ltb (level-in (o .price) (levels (o .side) (d .resting)) .qty - o .visible + v) modulus (omega (arith, l, m, h))
 
-  off-counts : Few d → Few (take-off o d)
-  unfolding take-off
-  off-counts f =
-      record {
-        orders = omega (arith, without-length (o .number) (d .resting), f .orders);
-        sides = λ z.
-            rw (take-off-levels z o d asc there)
-            (split (λ b. length (cond b (parted (o .price) (o .visible) (levels z (d .resting))) (levels z (d .resting))) ≤ most-levels) (same-side z (o .side))
-            (λ _. omega (arith, parted-length (o .price) (o .visible) (levels z (d .resting)), f .sides z)) (λ _. f .sides z));
-      }
+  -- ---- whichever it does
 
-  shown-counts : (v w : ℕ) → Few d → Few (show (showing v w o) d)
-  unfolding show
-  shown-counts v w f =
-      record {
-        orders = omega (arith, replace-length (showing v w o) (d .resting), f .orders);
-        sides = λ z.
-            rw (show-levels z o d asc there (showing v w o) refl refl refl)
-            (split (λ b. length (cond b (reshown (o .price) (o .visible) v (levels z (d .resting))) (levels z (d .resting))) ≤ most-levels) (same-side z (o .side))
-            (λ _. omega (arith, reshown-length (o .price) (o .visible) v (levels z (d .resting)), f .sides z)) (λ _. f .sides z));
-      }
+  alters-sides : {e : Depth} → Alters o d e → (z : Side) → length (levels z (e .resting)) ≤ length (levels z (d .resting))
+  alters-sides goes =
+      own-most o (d .resting) (take-off o d .resting) (λ z. parted (o .price) (o .visible)) (λ z. take-off-levels z o d asc there) (λ z. parted-length (o .price) (o .visible))
+  alters-sides (shows v w) =
+      own-most o (d .resting) (show (showing v w o) d .resting) (λ z. reshown (o .price) (o .visible) v) (λ z. show-levels z o d asc there (showing v w o) refl refl refl)
+      (λ z ls. omega (arith, reshown-length (o .price) (o .visible) v ls))
 
-  -- ---- whatever happens to it
-
-  abbrev Ascending : Depth → Type 0
-  Ascending e = Rises resting-number 0 (e .resting)
-
-  alters-rises : {e : Depth} → Alters o d e → Ascending e
+  alters-orders : {e : Depth} → Alters o d e → length (e .resting) ≤ length (d .resting)
   unfolding take-off show
-  alters-rises goes = rises-without resting-number (o .number) 0 (d .resting) asc
-  alters-rises (shows v w) = rises-replace resting-number (showing v w o) 0 (d .resting) asc
+  alters-orders goes = length-without resting-number (o .number) (d .resting)
+  alters-orders (shows v w) = omega (arith, length-replace resting-number (showing v w o) (d .resting))
 
   alters-counts : {e : Depth} → Alters o d e → Few d → Few e
-  alters-counts goes = off-counts
-  alters-counts (shows v w) = shown-counts v w
+  alters-counts a f = record { orders = omega (arith, alters-orders a, f .orders); sides = λ z. omega (arith, alters-sides a z, f .sides z) }
 
   alters-changed : {e : Depth} → Alters o d e → e .changed ≡ remember (key-of o) (d .changed)
   unfolding take-off show
   alters-changed goes = refl
   alters-changed (shows v w) = refl
 
--- another order is found as before
-module _ {A : Type 0} (key : A → ℕ) (k : ℕ) where
-  pub look-without : (n : ℕ) → (k ≡ n → ⊥) → (l : List A) → look key k (without key n l) ≡ look key k l
-  unfolding look without
-  look-without n h [] = refl
-  look-without n h (x ∷ l) =
-      let u = look-without n h l in
-      split (λ b. (eqb (key x) n ≡ b) → look key k (cond b (without key n l) (x ∷ without key n l)) ≡ cond (eqb (key x) k) (some x) (look key k l)) (eqb (key x) n)
-      (λ _ e. let q = eqb-true (key x) n e in u ∙ sym (rw (ne-eqb (key x) k (λ w. h (sym w ∙ q))) refl)) (λ _ e. ap (cond (eqb (key x) k) (some x)) u) refl
-
-  pub look-replace : (r : A) → (k ≡ key r → ⊥) → (l : List A) → look key k (replace key r l) ≡ look key k l
-  unfolding look replace
-  look-replace r h [] = refl
-  look-replace r h (x ∷ l) =
-      let u = look-replace r h l in
-      split (λ b. (eqb (key x) (key r) ≡ b) → cond (eqb (key (cond b r x)) k) (some (cond b r x)) (look key k (replace key r l)) ≡ cond (eqb (key x) k) (some x) (look key k l)) (eqb (key x) (key r))
-      (λ _ e.
-      let q = eqb-true (key x) (key r) e in
-      rw (ne-eqb (key r) k (λ w. h (sym w)), ne-eqb (key x) k (λ w. h (sym w ∙ q))) u)
-      (λ _ e. ap (cond (eqb (key x) k) (some x)) u) refl
-
-pub look-number : (n : ℕ) (o : Resting) (l : List Resting) → find-resting n l ≡ some o → o .number ≡ n
-unfolding look
-look-number n o [] h = let z : _≡_ {A = ℕ} 0 1 = cc in absurd (omega (arith, z))
-look-number n o (x ∷ l) h =
-    split (λ b. (eqb (x .number) n ≡ b) → cond b (some x) (find-resting n l) ≡ some o → o .number ≡ n) (eqb (x .number) n)
-    (λ _ e w. let q : x ≡ o = cc in ap resting-number (sym q) ∙ eqb-true (x .number) n e) (λ _ e w. look-number n o l w) refl h
-
-alters-others : {o : Resting} {d e : Depth} → Alters o d e → (k : ℕ) → (k ≡ o .number → ⊥) → find-resting k (e .resting) ≡ find-resting k (d .resting)
-unfolding take-off show
-alters-others {o} {d} goes k h = look-without resting-number k (o .number) h (d .resting)
-alters-others {o} {d} (shows v w) k h = look-replace resting-number k (showing v w o) h (d .resting)
+  alters-others : {e : Depth} → Alters o d e → (k : ℕ) → (k ≡ o .number → ⊥) → find-resting k (e .resting) ≡ find-resting k (d .resting)
+  unfolding take-off show
+  alters-others goes k h = look-without resting-number k (o .number) h (d .resting)
+  alters-others (shows v w) k h = look-replace resting-number k (showing v w o) h (d .resting)
 
 -- ---- where the order n rests
 
 -- the depth e is d after something has happened to the order n: its level is changed, where it rests, and the others are found as before
 pub record After (n : ℕ) (d e : Depth) : Type 0 where
-  pub ascending : Rises resting-number 0 (e .resting)
+  pub ascending : Ascending e
   pub counts : Few d → Few e
   pub changed-is : e .changed ≡ option (d .changed) (λ o. remember (key-of o) (d .changed)) (find-resting n (d .resting))
   pub others : (k : ℕ) → (k ≡ n → ⊥) → find-resting k (e .resting) ≡ find-resting k (d .resting)
 
-module _ (n : ℕ) (f : Resting → Depth → Depth) (d : Depth) (asc : Rises resting-number 0 (d .resting)) where
+module _ (n : ℕ) (f : Resting → Depth → Depth) (d : Depth) (asc : Ascending d) where
   there : (o : Resting) → find-resting n (d .resting) ≡ some o → find-resting (o .number) (d .resting) ≡ some o
-  there o e = ap (λ k. find-resting k (d .resting)) (look-number n o (d .resting) e) ∙ e
+  there o e = ap (λ k. find-resting k (d .resting)) (look-key resting-number n o (d .resting) e) ∙ e
 
   pub after : Acts f → After n d (where-resting n f d)
-  after acts = go (find-resting n (d .resting)) refl
+  after acts = go (find-resting n (d .resting)) refl (where-rises n f acts d asc)
     where
-      go : (x : Option Resting) → find-resting n (d .resting) ≡ x → After n d (option d (λ o. f o d) x)
-      go none e = record { ascending = asc; counts = λ h. h; changed-is = sym (ap (option (d .changed) (λ o. remember (key-of o) (d .changed))) e); others = λ k h. refl }
-      go (some o) e =
+      go : (x : Option Resting) → find-resting n (d .resting) ≡ x → Ascending (option d (λ o. f o d) x) → After n d (option d (λ o. f o d) x)
+      go none e r = record { ascending = r; counts = λ h. h; changed-is = sym (ap (option (d .changed) (λ o. remember (key-of o) (d .changed))) e); others = λ k h. refl }
+      go (some o) e r =
           record {
-            ascending = alters-rises o d asc (there o e) (acts o d);
+            ascending = r;
             counts = alters-counts o d asc (there o e) (acts o d);
             changed-is = alters-changed o d asc (there o e) (acts o d) ∙ sym (ap (option (d .changed) (λ o. remember (key-of o) (d .changed))) e);
-            others = λ k h. alters-others (acts o d) k (λ q. h (q ∙ look-number n o (d .resting) e));
+            others = λ k h. alters-others o d asc (there o e) (acts o d) k (λ q. h (q ∙ look-key resting-number n o (d .resting) e));
           }
 
   -- code 7, from what it is for an order that rests
@@ -281,7 +195,10 @@ module _ (n : ℕ) (f : Resting → Depth → Depth) (d : Depth) (asc : Rises re
       go none e = fit
       go (some o) e = h o (there o e)
 
-module _ (n : ℕ) (d : Depth) (asc : Rises resting-number 0 (d .resting)) (fit : levels-fit (d .resting) ≡ true) where
+pub lesser-le : (a b : ℕ) → lesser a b ≤ a
+lesser-le a b = split (λ c. (leb a b ≡ c) → cond c a b ≤ a) (leb a b) (λ _ e. omega arith) (λ _ e. let h = leb-false a b e in omega arith) refl
+
+module _ (n : ℕ) (d : Depth) (asc : Ascending d) (fit : levels-fit (d .resting) ≡ true) where
   pub cancelled-fits : levels-fit (where-resting n take-off d .resting) ≡ true
   cancelled-fits = where-fits n take-off d asc fit (λ o t. off-fits o d asc t fit)
 
@@ -299,9 +216,6 @@ module _ (n : ℕ) (d : Depth) (asc : Rises resting-number 0 (d .resting)) (fit 
       (λ o t.
       split (λ b. levels-fit (cond b (show (showing (lesser (o .visible) v) v o) d) (take-off o d) .resting) ≡ true) (ltb 0 v && (same-price p (o .price) && leb v (o .leaves)))
       (λ _. lowered-fits o d asc t fit (lesser (o .visible) v) v (lesser-le (o .visible) v)) (λ _. off-fits o d asc t fit))
-    where
-      lesser-le : (a b : ℕ) → lesser a b ≤ a
-      lesser-le a b = split (λ c. (leb a b ≡ c) → cond c a b ≤ a) (leb a b) (λ _ e. omega arith) (λ _ e. let h = leb-false a b e in omega arith) refl
 
 -- code 5 is then the room for its level
 pub after-few : (n : ℕ) (d e : Depth) → After n d e → depth-few d ≡ true →

@@ -1,7 +1,7 @@
 -- Codes 7 and 5 for an order that comes to rest: where every level is in range, its own level decides; the tables by three counts.
 -- Assumes nothing.
-use mathlib.Core.Path.{_≡_, refl, sym, ap, ap₂, _∙_}
-use mathlib.Core.Bool.{Bool, true, cond, _&&_, and-eq-true-iff}
+use mathlib.Core.Path.{_≡_, sym, ap, ap₂, _∙_}
+use mathlib.Core.Bool.{Bool, true, cond, _&&_, and-true, and-eq-true-iff}
 use mathlib.Core.List.{List, [], _∷_}
 use Prim.Native.Nat.{ℕ, suc, _+_, _<_}
 use native.Mathlib.Omega.{arith}
@@ -16,8 +16,8 @@ use Rattle.gateway.specs.Depth.{Resting, Level, Depth, same-price, bette
 use Rattle.gateway.proofs.Sorted.{length-insert}
 use Rattle.gateway.proofs.Counted.{Best, better-trans, levels-best}
 use Rattle.gateway.proofs.Levels.{same-itself, better-apart, at-level, before-level, after-level, compared, add-levels}
-use Rattle.gateway.proofs.AtPrice.{worse-none}
-use Rattle.gateway.proofs.Depths.{and-true, side-fits, Few, own-fits, own-few}
+use Rattle.gateway.proofs.AtPrice.{side-fits, worse-none}
+use Rattle.gateway.proofs.Depths.{Few, own-fits, own-few}
 
 module _ (s : Side) (p : ℤ) (v : ℕ) where
   at-none : (l : Level) (ls : List Level) → Best s (l ∷ ls) → better s p (l .price) ≡ true → level-in p (l ∷ ls) ≡ level-in p []

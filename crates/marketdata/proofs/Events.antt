@@ -18,7 +18,7 @@ use Rattle.table.specs.declared.Found.the-variants.{At, Nothing}
 use Rattle.gateway.specs.Basics.{option}
 use Rattle.gateway.specs.Depth as D
 use Rattle.gateway.proofs.Base.{split}
-use Rattle.gateway.proofs.Depths.{look-without, look-replace, look-number}
+use Rattle.gateway.proofs.Sorted.{look-key, look-without, look-replace}
 use Rattle.store.specs.Cells as C
 use Rattle.store.specs.Layout.{cell, Holds}
 use Rattle.store.specs.View.{Ready, side, resting, depth, gateway, order-room}
@@ -118,7 +118,7 @@ fill-where n q v d = go (D.find-resting n (d .resting)) refl
   where
     go : (x : Option D.Resting) → D.find-resting n (d .resting) ≡ x → Fill n d (option d (λ o. D.filled q v o d) x)
     go none e = record { others = λ k h. refl; grows = omega arith }
-    go (some o) e = fill-is n q v o d (look-number n o (d .resting) e)
+    go (some o) e = fill-is n q v o d (look-key D.resting-number n o (d .resting) e)
 
 module _ {d : D.Depth} (taker maker q tl ml : ℕ) (c : CanTrade taker maker q tl ml d) where
   abbrev half : D.Depth

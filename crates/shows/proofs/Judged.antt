@@ -10,7 +10,8 @@ use Rattle.gateway.specs.Basics.{option}
 use Rattle.gateway.specs.Limits.{most-changed}
 use Rattle.gateway.specs.Depth.{Resting, Depth, Key, key-of, remember, where-resting, filled, levels-fit, depth-few}
 use Rattle.gateway.specs.Invariant.{FeedOk}
-use Rattle.gateway.proofs.Depths.{Acts, filled-acts, After, after, after-few, few-counts, changed-decides, filled-fits}
+use Rattle.gateway.proofs.Feed.{Acts, filled-acts}
+use Rattle.gateway.proofs.Depths.{After, after, after-few, few-counts, changed-decides, filled-fits}
 use Rattle.marketdata.specs.Marketdata.{traded}
 use Rattle.shows.specs.Shows.{touched, touched-few, both-few}
 

@@ -19,10 +19,11 @@ use Rattle.table.specs.declared.Found.the-variants.{At, Nothing}
 use Rattle.gateway.specs.Basics.{option}
 use Rattle.gateway.specs.Limits.{most-orders, most-levels, most-changed}
 use Rattle.gateway.specs.Depth as D
+use Rattle.gateway.proofs.Sorted.{look-key}
 use Rattle.gateway.proofs.Counted.{levels-best}
 use Rattle.gateway.proofs.Levels.{levels-peopled, level-shows}
 use Rattle.gateway.proofs.AtPrice.{same-mine, joined-length}
-use Rattle.gateway.proofs.Depths.{Few, few-counts, look-number, shown-fits}
+use Rattle.gateway.proofs.Depths.{Few, few-counts, shown-fits}
 use Rattle.gateway.proofs.Joins.{joined-there, add-fits, add-few}
 use Rattle.store.specs.Cells as C
 use Rattle.store.specs.Layout.{cell}
@@ -88,7 +89,7 @@ module _ {xs : List ℕ} (b : Between xs) (n : ℕ) (r : Found) (seen : Seen xs 
     found = found-is xs n r seen i e o o-is
 
     there : D.find-resting (mine .number) (before .resting) ≡ some mine
-    there = ap (λ k. D.find-resting k (before .resting)) (look-number n mine (before .resting) found) ∙ found
+    there = ap (λ k. D.find-resting k (before .resting)) (look-key D.resting-number n mine (before .resting) found) ∙ found
 
     -- its level shows it
     pub level-over : o .visible ≤ l .qty
