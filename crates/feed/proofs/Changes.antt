@@ -35,7 +35,7 @@ use Rattle.levels.proofs.Best.{level-of}
 use Rattle.sound.specs.Sound.{State}
 use Rattle.marketdata.proofs.Steps.{side-table}
 use Rattle.marketdata.proofs.Resting.{level-stored}
-use Rattle.marketdata.proofs.Fits.{levels-orders}
+use Rattle.gateway.proofs.AtPrice.{levels-orders}
 use Rattle.mailbox.specs.Mailbox.{places}
 use Rattle.outcome.specs.Parts.{rest-of, Sends, steps, Stepped}
 use Rattle.outcome.proofs.Walk.{slots, sends-none, sends-more}

@@ -1,5 +1,5 @@
 -- The depth's table stays ascending, and what waits to be published stays within its limits. Assumes nothing.
-use Prim.Native.Nat.{ℕ, _-_, _≤_}
+use Prim.Native.Nat.{ℕ, _-_}
 use mathlib.Core.Bool.{Bool, true, false, cond, not, _&&_, and-eq-true-iff}
 use mathlib.Core.Path.{_≡_, refl, sym}
 use mathlib.Core.Option.{Option, none, some}
@@ -11,44 +11,52 @@ use lib.Dec.{eqb, ltb, leb}
 use Rattle.orderbook.specs.declared.Event.{Event}
 use Rattle.orderbook.specs.declared.Event.the-variants.{Accepted, Rejected, Trade, Rested, Replenished, Cancelled, Modified, StopPlaced, Triggered, MassCancelled, PhaseChanged}
 use Rattle.protocol.specs.declared.TradeTick.{TradeTick}
-use Rattle.gateway.specs.Limits.{most-orders, most-trades, most-notices}
+use Rattle.gateway.specs.Limits.{most-orders}
 use Rattle.gateway.specs.Basics.{option}
-use Rattle.gateway.specs.Depth.{Resting, Depth, resting-number, find-resting, add, show, take-off, where-resting, filled, modified, showing, lesser, same-price, apply, depth-agrees, levels-fit, levels-few, depth-few}
+use Rattle.gateway.specs.Depth.{Resting, Depth, resting-number, find-resting, add, show, take-off, where-resting, filled, modified, showing, lesser, same-price, apply, depth-agrees, levels-few, depth-few}
 use Rattle.gateway.specs.Entry.{settled-depth}
 use Rattle.gateway.proofs.Base.{split}
 use Rattle.gateway.proofs.Sorted.{absent-is, rises-insert, rises-replace, rises-without}
 use Rattle.gateway.specs.Table.{Rises}
 use Rattle.gateway.specs.Invariant.{FeedOk}
 
-abbrev Ascending : Depth → Type 0
+abbrev pub Ascending : Depth → Type 0
 Ascending d = Rises resting-number 0 (d .resting)
 
-abbrev Keeps : (Resting → Depth → Depth) → Type 0
-Keeps f = (o : Resting) (d : Depth) → Ascending d → Ascending (f o d)
+-- an order that rests goes, or shows something else
+pub data Alters (o : Resting) (d : Depth) : Depth → Type 0 where
+  goes : Alters o d (take-off o d)
+  shows : (v w : ℕ) → Alters o d (show (showing v w o) d)
 
-show-rises : Keeps show
-unfolding show
-show-rises o d h = rises-replace resting-number o 0 (d .resting) h
+-- f does so, whatever the order and the depth
+abbrev pub Acts : (Resting → Depth → Depth) → Type 0
+Acts f = (o : Resting) (d : Depth) → Alters o d (f o d)
 
-off-rises : Keeps take-off
-unfolding take-off
-off-rises o d h = rises-without resting-number (o .number) 0 (d .resting) h
+pub off-acts : Acts take-off
+off-acts o d = goes
 
-where-rises : (n : ℕ) (f : Resting → Depth → Depth) → Keeps f → (d : Depth) → Ascending d → Ascending (where-resting n f d)
-where-rises n f k d h = go (find-resting n (d .resting))
+pub shown-acts : (v : ℕ) → Acts (λ o. show (showing v (o .leaves) o))
+shown-acts v o d = shows v (o .leaves)
+
+pub filled-acts : (q v : ℕ) → Acts (filled q v)
+filled-acts q v o d = split (λ b. Alters o d (cond b (take-off o d) (show (showing (o .visible - q) v o) d))) (eqb v 0) (λ _. goes) (λ _. shows (o .visible - q) v)
+
+pub modified-acts : (p : ℤ) (v : ℕ) → Acts (modified p v)
+modified-acts p v o d =
+    split (λ b. Alters o d (cond b (show (showing (lesser (o .visible) v) v o) d) (take-off o d))) (ltb 0 v && (same-price p (o .price) && leb v (o .leaves)))
+    (λ _. shows (lesser (o .visible) v) v) (λ _. goes)
+
+alters-rises : {o : Resting} {d e : Depth} → Alters o d e → Ascending d → Ascending e
+unfolding take-off show
+alters-rises {o} {d} goes h = rises-without resting-number (o .number) 0 (d .resting) h
+alters-rises {o} {d} (shows v w) h = rises-replace resting-number (showing v w o) 0 (d .resting) h
+
+pub where-rises : (n : ℕ) (f : Resting → Depth → Depth) → Acts f → (d : Depth) → Ascending d → Ascending (where-resting n f d)
+where-rises n f acts d h = go (find-resting n (d .resting))
   where
     go : (o : Option Resting) → Ascending (option d (λ x. f x d) o)
     go none = h
-    go (some o) = k o d h
-
-filled-rises : (q v : ℕ) → Keeps (filled q v)
-filled-rises q v o d h =
-    split (λ b. Ascending (cond b (take-off o d) (show (showing (o .visible - q) v o) d))) (eqb v 0) (λ e. off-rises o d h) (λ e. show-rises _ d h)
-
-modified-rises : (p : ℤ) (v : ℕ) → Keeps (modified p v)
-modified-rises p v o d h =
-    split (λ b. Ascending (cond b (show (showing (lesser (o .visible) v) v o) d) (take-off o d))) (ltb 0 v && (same-price p (o .price) && leb v (o .leaves)))
-    (λ e. show-rises _ d h) (λ e. off-rises o d h)
+    go (some o) = alters-rises (acts o d) h
 
 not-true : (b : Bool) → not b ≡ true → b ≡ false
 not-true true e = sym e
@@ -60,10 +68,10 @@ apply-rises (Rested i s p q v) d a h =
     rises-insert resting-number (record { number = i; side = s; price = p; visible = v; leaves = q }) 0 (d .resting) (omega arith)
     (absent-is resting-number i (d .resting) (not-true _ a)) h
 apply-rises (Trade t taker maker s p q tl ml) d a h =
-    where-rises taker (filled q tl) (filled-rises q tl) _ (where-rises maker (filled q ml) (filled-rises q ml) d h)
-apply-rises (Replenished i s p v) d a h = where-rises i (λ o. show (showing v (o .leaves) o)) (λ o d g. show-rises _ d g) d h
-apply-rises (Cancelled i q why) d a h = where-rises i take-off off-rises d h
-apply-rises (Modified i p q v) d a h = where-rises i (modified p v) (modified-rises p v) d h
+    where-rises taker (filled q tl) (filled-acts q tl) _ (where-rises maker (filled q ml) (filled-acts q ml) d h)
+apply-rises (Replenished i s p v) d a h = where-rises i (λ o. show (showing v (o .leaves) o)) (shown-acts v) d h
+apply-rises (Cancelled i q why) d a h = where-rises i take-off off-acts d h
+apply-rises (Modified i p q v) d a h = where-rises i (modified p v) (modified-acts p v) d h
 apply-rises (Accepted i) d a h = h
 apply-rises (Rejected i why) d a h = h
 apply-rises (StopPlaced i s t l q) d a h = h

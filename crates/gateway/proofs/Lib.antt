@@ -22,3 +22,6 @@ pub mod Moves
 pub mod Settled
 pub mod Counted
 pub mod Levels
+pub mod AtPrice
+pub mod Depths
+pub mod Joins

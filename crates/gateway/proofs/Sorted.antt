@@ -1,11 +1,11 @@
 -- Tables ascending by key, over the row's type. Assumes nothing.
 use Prim.Native.Nat.{ℕ, suc, _≤_}
 use mathlib.Core.Bool.{Bool, true, false, cond}
-use mathlib.Core.Path.{_≡_, refl, ap}
+use mathlib.Core.Path.{_≡_, refl, sym, ap, _∙_}
 use mathlib.Core.Option.{Option, none, some}
 use mathlib.Core.List.{List, [], _∷_}
 use native.Mathlib.Omega.{arith}
-use borrow.Author.Tests.{ltb-true, ltb-false, eqb-true, eqb-false}
+use borrow.Author.Tests.{ltb-true, ltb-false, eqb-true, eqb-false, ne-eqb}
 use lib.ListN.{length}
 use lib.Dec.{eqb, ltb}
 use Rattle.table.specs.Live.{Each, look, without, insert, replace}
@@ -96,3 +96,44 @@ module _ {A : Type 0} (key : A → ℕ) where
       go : (o : Option A) → is-some o ≡ false → o ≡ none
       go none e = refl
       go (some x) e = let z : _≡_ {A = ℕ} 0 1 = cc in absurd (omega (arith, z))
+
+  -- ---- what is found, and how many are left
+
+  pub look-key : (k : ℕ) (x : A) (l : List A) → look key k l ≡ some x → key x ≡ k
+  unfolding look
+  look-key k x [] e = let z : _≡_ {A = ℕ} 0 1 = cc in absurd (omega (arith, z))
+  look-key k x (r ∷ l) e =
+      split (λ b. (eqb (key r) k ≡ b) → cond b (some r) (look key k l) ≡ some x → key x ≡ k) (eqb (key r) k)
+      (λ _ q w. let j : r ≡ x = cc in ap key (sym j) ∙ eqb-true (key r) k q) (λ _ q w. look-key k x l w) refl e
+
+  -- another row is found as before
+  pub look-without : (k n : ℕ) → (k ≡ n → ⊥) → (l : List A) → look key k (without key n l) ≡ look key k l
+  unfolding look without
+  look-without k n h [] = refl
+  look-without k n h (x ∷ l) =
+      let u = look-without k n h l in
+      split (λ b. (eqb (key x) n ≡ b) → look key k (cond b (without key n l) (x ∷ without key n l)) ≡ cond (eqb (key x) k) (some x) (look key k l)) (eqb (key x) n)
+      (λ _ e. let q = eqb-true (key x) n e in u ∙ sym (rw (ne-eqb (key x) k (λ w. h (sym w ∙ q))) refl)) (λ _ e. ap (cond (eqb (key x) k) (some x)) u) refl
+
+  pub look-replace : (k : ℕ) (r : A) → (k ≡ key r → ⊥) → (l : List A) → look key k (replace key r l) ≡ look key k l
+  unfolding look replace
+  look-replace k r h [] = refl
+  look-replace k r h (x ∷ l) =
+      let u = look-replace k r h l in
+      split (λ b. (eqb (key x) (key r) ≡ b) → cond (eqb (key (cond b r x)) k) (some (cond b r x)) (look key k (replace key r l)) ≡ cond (eqb (key x) k) (some x) (look key k l)) (eqb (key x) (key r))
+      (λ _ e.
+      let q = eqb-true (key x) (key r) e in
+      rw (ne-eqb (key r) k (λ w. h (sym w)), ne-eqb (key x) k (λ w. h (sym w ∙ q))) u)
+      (λ _ e. ap (cond (eqb (key x) k) (some x)) u) refl
+
+  pub length-without : (k : ℕ) (l : List A) → length (without key k l) ≤ length l
+  unfolding without
+  length-without k [] = omega arith
+  length-without k (x ∷ l) =
+      let u = length-without k l in
+      split (λ b. length (cond b (without key k l) (x ∷ without key k l)) ≤ suc (length l)) (eqb (key x) k) (λ _. omega arith) (λ _. omega arith)
+
+  pub length-replace : (r : A) (l : List A) → length (replace key r l) ≡ length l
+  unfolding replace
+  length-replace r [] = refl
+  length-replace r (x ∷ l) = ap suc (length-replace r l)

@@ -6,7 +6,7 @@ use mathlib.Core.Bool.{true, false, cond, not}
 use mathlib.Core.Option.{Option, none, some}
 use mathlib.Core.List.{List, [], _∷_, _++_, append-assoc, append-nil}
 use native.Mathlib.Omega.{arith}
-use borrow.Author.Tests.{lt-ltb, le-ltb, lt-leb, le-leb, eq-eqb, ne-eqb, eqb-true}
+use borrow.Author.Tests.{lt-ltb, le-ltb, lt-leb, le-leb, eq-eqb, ne-eqb}
 use lib.Dec.{eqb, ltb, leb}
 use lib.ListN.{length, length-append}
 use lib.IntN.{ℤ, pos, negsuc}
@@ -23,6 +23,7 @@ use Rattle.gateway.proofs.Base.{split, if-map}
 use Rattle.le.proofs.Laws.{lt-or-le}
 use Rattle.gateway.specs.Basics.{option}
 use Rattle.gateway.specs.Depth.{Level, same-price, better, joined, level-in}
+use Rattle.gateway.proofs.Sorted.{look-key}
 use Rattle.gateway.proofs.Levels.{same-itself, better-apart, better-differs, one, at-level, before-level, after-level, compared, parted, reshown}
 use Rattle.levels.specs.declared.Row.{Row}
 use Rattle.levels.specs.Levels.{key, price, level, best, opened, one-more, changed, one-less, added, shown, removed}
@@ -49,13 +50,6 @@ others : (k n : ℕ) → k < n → (l : List Row) → Rises key n l → Each (λ
 others k n h [] t = tt
 others k n h (r ∷ l) t = (λ e. omega (arith, t .0), others k (suc (r .key)) (omega (arith, t .0)) l (t .1))
 
-look-key : (k : ℕ) (x : Row) (l : List Row) → look key k l ≡ some x → x .key ≡ k
-unfolding look
-look-key k x [] e = let z : _≡_ {A = ℕ} 0 1 = cc in absurd (omega (arith, z))
-look-key k x (r ∷ l) e =
-    split (λ b. (eqb (r .key) k ≡ b) → cond b (some r) (look key k l) ≡ some x → x .key ≡ k) (eqb (r .key) k)
-    (λ _ q w. let j : r ≡ x = cc in ap key (sym j) ∙ eqb-true (r .key) k q) (λ _ q w. look-key k x l w) refl e
-
 three : {P : Type 0} (a b : ℕ) → (a ≡ b → P) → (a < b → P) → (b < a → P) → P
 three a b f g h = ⊎-elim g (λ l. ⊎-elim (λ e. f (sym e)) h (eq-or-lt-of-le l)) (lt-or-le a b)
 
@@ -78,7 +72,7 @@ module _ (k v : ℕ) (r : Row) (l : List Row) (asc : Rises key (suc (r .key)) l)
       go : r .key < k → (o : Option Row) → look key k l ≡ o →
           option (insert key (opened k v) (r ∷ l)) (λ x. replace key (one-more v x) (r ∷ l)) o ≡ r ∷ option (insert key (opened k v) l) (λ x. replace key (one-more v x) l) o
       go h none e = rw (le-ltb k (r .key) (omega arith)) refl
-      go h (some x) e = let q = look-key k x l e in rw (ne-eqb (r .key) (x .key) (λ w. omega arith)) refl
+      go h (some x) e = let q = look-key key k x l e in rw (ne-eqb (r .key) (x .key) (λ w. omega arith)) refl
 
 -- ---- levels with one more behind
 
@@ -189,7 +183,7 @@ module _ (k v w : ℕ) where
     where
       go : r .key < k → (o : Option Row) → look key k l ≡ o → option (r ∷ l) (λ x. replace key (changed v w x) (r ∷ l)) o ≡ r ∷ option l (λ x. replace key (changed v w x) l) o
       go h none e = refl
-      go h (some x) e = let q = look-key k x l e in rw (ne-eqb (r .key) (x .key) (λ w. omega arith)) refl
+      go h (some x) e = let q = look-key key k x l e in rw (ne-eqb (r .key) (x .key) (λ w. omega arith)) refl
 
   pub best-shown : (s : Side) (x : Row) (n : ℕ) (l : List Row) → Rises key n l → look key k l ≡ some x → best s (shown k v w l) ≡ reshown (price k) v w (best s l)
   best-shown =
@@ -213,7 +207,7 @@ module _ (k v : ℕ) where
           ≡ r ∷ option l (λ x. cond (eqb (x .orders) 1) (without key k l) (replace key (one-less v x) l)) o
       go h none e = refl
       go h (some x) e =
-          let q = look-key k x l e in
+          let q = look-key key k x l e in
           rw (ne-eqb (r .key) (x .key) (λ w. omega arith)) (sym (if-map (λ m. r ∷ m) (eqb (x .orders) 1) refl refl))
 
   pub best-removed : (s : Side) (x : Row) (n : ℕ) (l : List Row) → Rises key n l → look key k l ≡ some x → best s (removed k v l) ≡ parted (price k) v (best s l)

@@ -5,7 +5,7 @@ use mathlib.Core.List.{List, [], _∷_, _++_}
 use mathlib.Core.Option.{Option, none, some}
 use Prim.Native.Nat.{ℕ, _-_, _≤_, _<_}
 use native.Mathlib.Omega.{arith}
-use borrow.Author.Tests.{eqb-true, ne-eqb, leb-true}
+use borrow.Author.Tests.{leb-true}
 use lib.Dec.{eqb, leb}
 use lib.IntN.{ℤ}
 use lib.ListN.{length, length-append}
@@ -13,12 +13,12 @@ use Rattle.orderbook.specs.declared.Side.{Side}
 use Rattle.orderbook.specs.declared.CancelReason.{CancelReason}
 use Rattle.orderbook.specs.declared.Event.the-variants.{Rested, Trade, Replenished, Cancelled, Modified}
 use Rattle.words.specs.Words.{int}
-use Rattle.table.specs.Live.{look, without, replace}
 use Rattle.table.specs.declared.Found.{Found}
 use Rattle.table.specs.declared.Found.the-variants.{At, Nothing}
 use Rattle.gateway.specs.Basics.{option}
 use Rattle.gateway.specs.Depth as D
 use Rattle.gateway.proofs.Base.{split}
+use Rattle.gateway.proofs.Sorted.{look-key, look-without, look-replace}
 use Rattle.store.specs.Cells as C
 use Rattle.store.specs.Layout.{cell, Holds}
 use Rattle.store.specs.View.{Ready, side, resting, depth, gateway, order-room}
@@ -97,27 +97,6 @@ nothing-becomes xs n s r seen absent f =
 
 -- ---- a trade's two fills
 
--- another order is found as before
-module _ {A : Type 0} (key : A → ℕ) (k : ℕ) where
-  look-without : (n : ℕ) → (k ≡ n → ⊥) → (l : List A) → look key k (without key n l) ≡ look key k l
-  unfolding look without
-  look-without n h [] = refl
-  look-without n h (x ∷ l) =
-      let u = look-without n h l in
-      split (λ b. (eqb (key x) n ≡ b) → look key k (cond b (without key n l) (x ∷ without key n l)) ≡ cond (eqb (key x) k) (some x) (look key k l)) (eqb (key x) n)
-      (λ _ e. let q = eqb-true (key x) n e in u ∙ sym (rw (ne-eqb (key x) k (λ w. h (sym w ∙ q))) refl)) (λ _ e. ap (cond (eqb (key x) k) (some x)) u) refl
-
-  look-replace : (r : A) → (k ≡ key r → ⊥) → (l : List A) → look key k (replace key r l) ≡ look key k l
-  unfolding look replace
-  look-replace r h [] = refl
-  look-replace r h (x ∷ l) =
-      let u = look-replace r h l in
-      split (λ b. (eqb (key x) (key r) ≡ b) → cond (eqb (key (cond b r x)) k) (some (cond b r x)) (look key k (replace key r l)) ≡ cond (eqb (key x) k) (some x) (look key k l)) (eqb (key x) (key r))
-      (λ _ e.
-      let q = eqb-true (key x) (key r) e in
-      rw (ne-eqb (key r) k (λ w. h (sym w)), ne-eqb (key x) k (λ w. h (sym w ∙ q))) u)
-      (λ _ e. ap (cond (eqb (key x) k) (some x)) u) refl
-
 remember-grows : (k : D.Key) (ks : List D.Key) → length ks ≤ length (D.remember k ks)
 remember-grows k ks =
     split (λ b. length ks ≤ length (cond b ks (ks ++ (k ∷ [])))) (D.is-changed k ks) (λ _. omega arith) (λ _. omega (arith, length-append ks (k ∷ [])))
@@ -134,19 +113,12 @@ fill-is n q v o d e =
     (λ _. record { others = λ k h. look-without D.resting-number k (o .number) (λ w. h (w ∙ e)) (d .resting); grows = remember-grows (D.key-of o) (d .changed) })
     (λ _. record { others = λ k h. look-replace D.resting-number k (D.showing (o .visible - q) v o) (λ w. h (w ∙ e)) (d .resting); grows = remember-grows (D.key-of o) (d .changed) })
 
-look-number : (n : ℕ) (o : D.Resting) (l : List D.Resting) → D.find-resting n l ≡ some o → o .number ≡ n
-unfolding look
-look-number n o [] h = let z : _≡_ {A = ℕ} 0 1 = cc in absurd (omega (arith, z))
-look-number n o (x ∷ l) h =
-    split (λ b. (eqb (x .number) n ≡ b) → cond b (some x) (D.find-resting n l) ≡ some o → o .number ≡ n) (eqb (x .number) n)
-    (λ _ e w. let q : x ≡ o = cc in ap D.resting-number (sym q) ∙ eqb-true (x .number) n e) (λ _ e w. look-number n o l w) refl h
-
 fill-where : (n q v : ℕ) (d : D.Depth) → Fill n d (D.where-resting n (D.filled q v) d)
 fill-where n q v d = go (D.find-resting n (d .resting)) refl
   where
     go : (x : Option D.Resting) → D.find-resting n (d .resting) ≡ x → Fill n d (option d (λ o. D.filled q v o d) x)
     go none e = record { others = λ k h. refl; grows = omega arith }
-    go (some o) e = fill-is n q v o d (look-number n o (d .resting) e)
+    go (some o) e = fill-is n q v o d (look-key D.resting-number n o (d .resting) e)
 
 module _ {d : D.Depth} (taker maker q tl ml : ℕ) (c : CanTrade taker maker q tl ml d) where
   abbrev half : D.Depth

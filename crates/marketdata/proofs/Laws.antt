@@ -4,7 +4,7 @@ use mathlib.Core.Bool.{Bool, true, false, cond}
 use mathlib.Core.List.{List}
 use Prim.Native.Nat.{ℕ, _-_, _≤_, _<_}
 use native.Mathlib.Omega.{arith}
-use borrow.Author.Tests.{eq-eqb, ne-eqb, lt-ltb, le-leb, lt-leb, leb-false}
+use borrow.Author.Tests.{eq-eqb, ne-eqb, lt-ltb, le-leb, lt-leb}
 use lib.Dec.{leb}
 use lib.ListN.{length}
 use Rattle.orderbook.specs.declared.Side.{Side}
@@ -12,7 +12,6 @@ use Rattle.words.specs.Words.{int, half, _⊖_, modulus}
 use Rattle.table.specs.Live.{look, without, insert, replace}
 use Rattle.gateway.specs.Limits.{most-changed}
 use Rattle.gateway.specs.Depth as D
-use Rattle.gateway.proofs.Base.{split}
 use Rattle.gateway.proofs.Sorted.{length-insert}
 use Rattle.gateway.proofs.Levels.{same-itself}
 use Rattle.store.specs.Cells as C
@@ -30,7 +29,8 @@ use Rattle.sound.proofs.Kept.{becomes}
 use Rattle.marketdata.specs.Marketdata.{At, Free, resting-at, with-depth, with-resting, remembering, Roomy, Fits, CanShow, Judged, CanAdd, CanOpen, Opens, replenished, stays}
 use Rattle.orders.specs.Orders.{number-at, resting-of}
 use Rattle.pending.specs.Pending.{key}
-use Rattle.marketdata.proofs.Fits.{level-fits, few-parts}
+use Rattle.gateway.proofs.AtPrice.{level-fits, few-parts}
+use Rattle.gateway.proofs.Depths.{lesser-le}
 use Rattle.marketdata.proofs.Steps.{side-table, remember-sound}
 use Rattle.marketdata.proofs.Resting.{level-can, gone-can, gone-done, show-can, showed-can, showed-done}
 use Rattle.marketdata.proofs.Rests.{add-can, rest-can, rest-done}
@@ -53,9 +53,6 @@ module _ (xs : List ℕ) {ys : List ℕ} (f : List D.Resting → List D.Resting)
   remembered q c = record { state = c .state; gateway-is = c .gateway-is ∙ ap (with-depth (remembering q)) (b .gateway-is) }
 
 -- ---- a resting order
-
-lesser-le : (a b : ℕ) → D.lesser a b ≤ a
-lesser-le a b = split (λ c. (leb a b ≡ c) → cond c a b ≤ a) (leb a b) (λ _ e. omega arith) (λ _ e. let h = leb-false a b e in omega arith) refl
 
 module _ {xs : List ℕ} (s : State xs) (i : ℕ) (o : Resting) (a : At i o (cell xs)) where
   abbrev r : D.Resting

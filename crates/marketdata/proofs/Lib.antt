@@ -1,5 +1,4 @@
 pub mod Steps
-pub mod Fits
 pub mod Resting
 pub mod Rests
 pub mod Places

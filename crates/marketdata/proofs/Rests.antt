@@ -27,7 +27,7 @@ use Rattle.levels.proofs.Depth.{entries-length, add-view}
 use Rattle.sound.specs.Sound.{State, Becomes}
 use Rattle.marketdata.specs.Marketdata.{with-depth, with-resting, Judged}
 use Rattle.orders.specs.Orders.{resting-of}
-use Rattle.marketdata.proofs.Fits.{same-mine, level-fits, joined-at, joined-length, levels-orders, few-levels, few-parts}
+use Rattle.gateway.proofs.AtPrice.{same-mine, level-fits, joined-at, joined-length, levels-orders, few-levels, few-parts}
 use Rattle.marketdata.proofs.Steps.{beyond-same, Follows, Beyond, side-levels, side-table, levels-step, rows-touched}
 use Rattle.marketdata.proofs.Resting.{list-kept, inside-kept, cell-kept, row-done, level-stored, other-side}
 

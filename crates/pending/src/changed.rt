@@ -15,13 +15,13 @@ ghost use Rattle.pending.specs.Pending as P;
 // A level has the slot of its side and its price's word modulo this.
 const SIDE_SLOTS: u64 = 1024;
 
-fn same_side(a: u64, b: u64) -> bool
+pub fn same_side(a: u64, b: u64) -> bool
     ensures { λ r. ⌜ r ≡ same-side (side a) (side b) ⌝ }
 {
     if a == 0 { b == 0 } else { b != 0 }
 }
 
-fn same_price(a: u64, b: u64) -> bool
+pub fn same_price(a: u64, b: u64) -> bool
     ensures { λ r. ⌜ r ≡ D.same-price (int a) (int b) ⌝ }
 {
     a == b

@@ -33,10 +33,13 @@ fits-at p (l ∷ ls) h =
     let u = fits-at p ls (t .1) in
     split (λ b. cond b l (level-in p ls) .qty < modulus) (same-price p (l .price)) (λ _. ltb-true (l .qty) modulus (t .0)) (λ _. u)
 
-pub level-fits : (z : Side) (p : ℤ) (os : List Resting) → levels-fit os ≡ true → level-in p (levels z os) .qty < modulus
+pub side-fits : (os : List Resting) → levels-fit os ≡ true → (z : Side) → quantities-fit (levels z os) ≡ true
 unfolding levels-fit
-level-fits Buy p os h = fits-at p (levels Buy os) (and-eq-true-iff (quantities-fit (levels Buy os)) (quantities-fit (levels Sell os)) .0 h .0)
-level-fits Sell p os h = fits-at p (levels Sell os) (and-eq-true-iff (quantities-fit (levels Buy os)) (quantities-fit (levels Sell os)) .0 h .1)
+side-fits os h Buy = and-eq-true-iff (quantities-fit (levels Buy os)) (quantities-fit (levels Sell os)) .0 h .0
+side-fits os h Sell = and-eq-true-iff (quantities-fit (levels Buy os)) (quantities-fit (levels Sell os)) .0 h .1
+
+pub level-fits : (z : Side) (p : ℤ) (os : List Resting) → levels-fit os ≡ true → level-in p (levels z os) .qty < modulus
+level-fits z p os h = fits-at p (levels z os) (side-fits os h z)
 
 pub reshown-at : (p : ℤ) (v w : ℕ) (ls : List Level) → 0 < level-in p ls .orders → level-in p (reshown p v w ls) .qty ≡ level-in p ls .qty - v + w
 reshown-at p v w [] h = absurd (omega arith)
@@ -50,7 +53,7 @@ reshown-at p v w (l ∷ ls) h =
 
 module _ (s : Side) (p : ℤ) where
   -- no level that is worse than the price is at it
-  worse-none : (ls : List Level) → Each (λ m. better s p (m .price) ≡ true) ls → level-in p ls ≡ level-in p []
+  pub worse-none : (ls : List Level) → Each (λ m. better s p (m .price) ≡ true) ls → level-in p ls ≡ level-in p []
   worse-none [] t = refl
   worse-none (l ∷ ls) t = rw (better-differs s p (l .price) (t .0)) (worse-none ls (t .1))
 

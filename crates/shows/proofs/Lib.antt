@@ -1,0 +1,4 @@
+pub mod Changed
+pub mod Seen
+pub mod Stored
+pub mod Judged

@@ -1,0 +1,166 @@
+-- What is stored of a level, and the tests that it decides. Assumes nothing.
+use mathlib.Core.Path.{_≡_, refl, sym, ap, ap₂, _∙_}
+use mathlib.Core.Bool.{Bool, true, false, _&&_}
+use mathlib.Core.Logic.{⊎-elim}
+use mathlib.Core.Option.{some}
+use mathlib.Core.List.{List}
+use Prim.Native.Nat.{ℕ, suc, _+_, _-_, _^_, _≤_, _<_}
+use native.Mathlib.Omega.{arith}
+use borrow.Author.Tests.{le-leb, lt-leb, lt-ltb, le-ltb}
+use lib.ListN.{length}
+use lib.Dec.{ltb, leb}
+use lib.IntN.{ℤ}
+use Rattle.le.proofs.Laws.{lt-or-le}
+use Rattle.orderbook.specs.declared.Side.{Side}
+use Rattle.words.specs.Words.{int, half, _⊖_, modulus}
+use Rattle.table.specs.Live.{look}
+use Rattle.table.specs.declared.Found.{Found}
+use Rattle.table.specs.declared.Found.the-variants.{At, Nothing}
+use Rattle.gateway.specs.Basics.{option}
+use Rattle.gateway.specs.Limits.{most-orders, most-levels, most-changed}
+use Rattle.gateway.specs.Depth as D
+use Rattle.gateway.proofs.Sorted.{look-key}
+use Rattle.gateway.proofs.Counted.{levels-best}
+use Rattle.gateway.proofs.Levels.{levels-peopled, level-shows}
+use Rattle.gateway.proofs.AtPrice.{same-mine, joined-length}
+use Rattle.gateway.proofs.Depths.{Few, few-counts, shown-fits}
+use Rattle.gateway.proofs.Joins.{joined-there, add-fits, add-few}
+use Rattle.store.specs.Cells as C
+use Rattle.store.specs.Layout.{cell}
+use Rattle.store.specs.View.{word, side, depth}
+use Rattle.orders.specs.declared.Resting.{Resting}
+use Rattle.orders.specs.Orders.{resting-row, resting-of, number-at}
+use Rattle.levels.specs.declared.Row.{Row}
+use Rattle.levels.specs.Levels as L
+use Rattle.levels.proofs.Best.{level-of}
+use Rattle.pending.specs.Pending as Pending
+use Rattle.sound.specs.Sound.{State}
+use Rattle.sound.proofs.Listed.{size-levels}
+use Rattle.marketdata.specs.Marketdata.{replenished}
+use Rattle.marketdata.proofs.Steps.{side-table}
+use Rattle.marketdata.proofs.Resting.{level-stored}
+use Rattle.marketdata.proofs.Events.{Seen}
+use Rattle.outcome.specs.Between.{Between}
+use Rattle.shows.specs.Shows.{IsLevel}
+use Rattle.shows.proofs.Seen.{found-is}
+
+-- ---- the level of a side and a price
+
+module _ {xs : List ℕ} (st : State xs) (sd pr : ℕ) (z : Side) (z-is : z ≡ side sd) (k : ℕ) (k-is : int pr ≡ k ⊖ half) where
+  pub level-table : L.Table z xs
+  level-table = side-table st z
+
+  module _ (r : Found) (f : L.Finds z xs k r) where
+    level-is : D.level-in (int pr) (D.levels (side sd) (depth (cell xs) .resting)) ≡ level-of k (look L.key k (L.entries z (cell xs)))
+    level-is = ap₂ (λ (p : ℤ) (w : Side). D.level-in p (D.levels w (depth (cell xs) .resting))) k-is (sym z-is) ∙ level-stored st z k
+
+    pub level-small : (i : ℕ) → r ≡ At i → i < most-levels
+    level-small i e = let g : L.Finds z xs k (At i) = rw e at f in omega (arith, g .0, level-table .few)
+
+    pub level-found : (i : ℕ) → r ≡ At i → (q : Row) → q ≡ L.row z (cell xs) i → IsLevel (side sd) (int pr) (depth (cell xs)) q
+    level-found i e q q-is =
+        let g : L.Finds z xs k (At i) = rw e at f in
+        let l = level-is ∙ ap (level-of k) (g .1) in
+        record { qty-is = ap (λ (x : Row). x .qty) q-is ∙ sym (ap (λ (x : D.Level). x .qty) l); orders-is = ap (λ (x : Row). x .orders) q-is ∙ sym (ap (λ (x : D.Level). x .orders) l) }
+
+    pub level-none : r ≡ Nothing → IsLevel (side sd) (int pr) (depth (cell xs)) (record { key = k; qty = 0; orders = 0 })
+    level-none e =
+        let g : L.Finds z xs k Nothing = rw e at f in
+        let l = level-is ∙ ap (level-of k) g in
+        record { qty-is = sym (ap (λ (x : D.Level). x .qty) l); orders-is = sym (ap (λ (x : D.Level). x .orders) l) }
+
+-- a sum of two words is one
+below : (q v : ℕ) → v < 2 ^ 64 → leb q (18446744073709551615 - v) ≡ ltb (q + v) modulus
+below q v l =
+    ⊎-elim (λ (h : q + v < modulus). le-leb q (18446744073709551615 - v) (omega arith) ∙ sym (lt-ltb (q + v) modulus h))
+    (λ h. lt-leb q (18446744073709551615 - v) (omega arith) ∙ sym (le-ltb (q + v) modulus h)) (lt-or-le (q + v) modulus)
+
+-- ---- code 7 for an order that shows its next part
+
+module _ {xs : List ℕ} (b : Between xs) (n : ℕ) (r : Found) (seen : Seen xs n r) where
+  abbrev before : D.Depth
+  before = depth (cell xs)
+
+  module _ (i : ℕ) (e : r ≡ At i) (o : Resting) (o-is : o ≡ resting-row (cell xs C.orders i)) (l : Row) (l-is : IsLevel (side (o .side)) (int (o .price)) before l) where
+    abbrev mine : D.Resting
+    mine = resting-of (number-at i (cell xs)) o
+
+    found : D.find-resting n (before .resting) ≡ some mine
+    found = found-is xs n r seen i e o o-is
+
+    there : D.find-resting (mine .number) (before .resting) ≡ some mine
+    there = ap (λ k. D.find-resting k (before .resting)) (look-key D.resting-number n mine (before .resting) found) ∙ found
+
+    -- its level shows it
+    pub level-over : o .visible ≤ l .qty
+    level-over = omega (arith, level-shows (mine .side) mine (before .resting) (b .ok .rest-is .feed .ascending) there (same-mine (mine .side)) .0, l-is .qty-is)
+
+    pub reshow-found : (v : ℕ) → v < 2 ^ 64 → leb (l .qty - o .visible) (18446744073709551615 - v) ≡ D.levels-fit (D.where-resting n (replenished v) before .resting)
+    reshow-found v h =
+        below (l .qty - o .visible) v h ∙ ap (λ q. ltb (q - o .visible + v) modulus) (l-is .qty-is)
+        ∙ sym (shown-fits mine before (b .ok .rest-is .feed .ascending) there (b .ok .rest-is .feed .fit) v (o .leaves))
+        ∙ sym (ap (λ x. D.levels-fit (option before (λ o. replenished v o before) x .resting)) found)
+
+  pub reshow-none : r ≡ Nothing → (v : ℕ) → true ≡ D.levels-fit (D.where-resting n (replenished v) before .resting)
+  reshow-none e v =
+      let w : Seen xs n Nothing = rw e at seen in
+      sym (ap (λ x. D.levels-fit (option before (λ o. replenished v o before) x .resting)) (w .order) ∙ b .ok .rest-is .feed .fit)
+
+-- ---- codes 7 and 5 for an order that comes to rest
+
+module _ {xs : List ℕ} (b : Between xs) (n : ℕ) (o : Resting) where
+  abbrev d : D.Depth
+  d = depth (cell xs)
+
+  abbrev z : Side
+  z = side (o .side)
+
+  abbrev more : List D.Level
+  more = D.joined z (int (o .price)) (o .visible) (D.levels z (d .resting))
+
+  few : Few d
+  few = few-counts d (b .ok .rest-is .feed .few)
+
+  module _ (l : Row) (l-is : IsLevel (side (o .side)) (int (o .price)) d l) where
+    pub join-fits : o .visible < 2 ^ 64 → leb (l .qty) (18446744073709551615 - o .visible) ≡ D.levels-fit (D.add (resting-of n o) d .resting)
+    join-fits h = below (l .qty) (o .visible) h ∙ ap (λ q. ltb (q + o .visible) modulus) (l-is .qty-is) ∙ sym (add-fits (resting-of n o) d (b .ok .rest-is .feed .fit))
+
+    pub side-there : (l .orders ≡ 0 → ⊥) → true ≡ leb (length (D.joined (side (o .side)) (int (o .price)) (o .visible) (D.levels (side (o .side)) (d .resting)))) most-levels
+    side-there h =
+        sym
+        (le-leb (length more) most-levels
+        (omega (arith, joined-there z (int (o .price)) (o .visible) (D.levels z (d .resting)) (levels-best z (d .resting)) (omega (arith, l-is .orders-is)), few .sides z)))
+
+    pub side-new : l .orders ≡ 0 → (w : Side) → w ≡ side (o .side) → (k : ℕ) → k ≡ L.size w (cell xs) →
+        ltb k most-levels ≡ leb (length (D.joined (side (o .side)) (int (o .price)) (o .visible) (D.levels (side (o .side)) (d .resting)))) most-levels
+    side-new h w w-is k k-is =
+        let count : k ≡ length (D.levels z (d .resting)) = k-is ∙ ap (λ (y : Side). L.size y (cell xs)) w-is ∙ size-levels (b .state .sound) z in
+        let one = joined-length z (int (o .price)) (o .visible) (D.levels z (d .resting)) (levels-peopled z (d .resting)) (sym (l-is .orders-is) ∙ h) in
+        ⊎-elim (λ (q : k < most-levels). lt-ltb k most-levels q ∙ sym (le-leb (length more) most-levels (omega (arith, one, count))))
+        (λ q. le-ltb k most-levels q ∙ sym (lt-leb (length more) most-levels (omega (arith, one, count)))) (lt-or-le k most-levels)
+
+  module _ (k : ℕ) (k-is : k ≡ word (cell xs) C.resting-orders) where
+    count-is : length (d .resting) ≡ k
+    count-is = sym (b .state .sound .tables .ordered .counted .resting-count) ∙ sym k-is
+
+    abbrev Room : Bool → Type 0
+    Room t = t ≡ D.depth-few (D.add (resting-of n o) d)
+
+    parts : (s t u : Bool) → leb (suc (length (d .resting))) most-orders ≡ s → leb (length more) most-levels ≡ t →
+        leb (length (D.remember (Pending.key (o .side) (o .price)) (d .changed))) most-changed ≡ u → Room (s && (t && u))
+    parts s t u p q r = sym (add-few (resting-of n o) d few ∙ (λ i. p i && (q i && r i)))
+
+    pub no-order-room : most-orders ≤ k → Room false
+    no-order-room h = parts false _ _ (lt-leb (suc (length (d .resting))) most-orders (omega (arith, count-is))) refl refl
+
+    module _ (h : k < most-orders) (t : Bool) (t-is : t ≡ leb (length (D.joined (side (o .side)) (int (o .price)) (o .visible) (D.levels (side (o .side)) (d .resting)))) most-levels) where
+      fine : leb (suc (length (d .resting))) most-orders ≡ true
+      fine = le-leb (suc (length (d .resting))) most-orders (omega (arith, count-is))
+
+      pub no-side-room : t ≡ false → Room false
+      no-side-room e = parts true false _ fine (sym t-is ∙ e) refl
+
+      pub changed-room : t ≡ true → (u : Bool) → u ≡ leb (length (D.remember (Pending.key (o .side) (o .price)) (d .changed))) most-changed → Room u
+      changed-room e u u-is = parts true true u fine (sym t-is ∙ e) (sym u-is)
+
+pub ruleset stored = (level-table, level-small, level-found, level-none, level-over, reshow-found, reshow-none, join-fits, side-there, side-new, no-order-room, no-side-room, changed-room, arith)
