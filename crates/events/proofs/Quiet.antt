@@ -1,0 +1,113 @@
+-- Events that move nothing but the run of numbers. Assumes nothing.
+use mathlib.Core.Path.{_≡_, refl, sym, ap, subst, _∙_}
+use mathlib.Core.Bool.{Bool, true}
+use mathlib.Core.List.{List, [], _++_, append-nil}
+use Prim.Native.Nat.{ℕ, _≤_}
+use native.Mathlib.Omega.{arith}
+use lib.Dec.{leb}
+use lib.ListN.{length}
+use Rattle.orderbook.specs.declared.Event.{Event}
+use Rattle.orderbook.specs.declared.Event.the-variants.{Accepted, StopPlaced, Triggered}
+use Rattle.protocol.specs.declared.ReportKind.{ReportKind}
+use Rattle.protocol.specs.declared.ReportKind.the-variants as Kind
+use Rattle.gateway.specs.Ledger.{changes, step}
+use Rattle.gateway.specs.Core.{Core, names-below, numbers-agree, in-flight}
+use Rattle.gateway.specs.Depth.{Depth, apply, depth-agrees}
+use Rattle.gateway.specs.Rest.{Rest}
+use Rattle.gateway.specs.Deliver.{tell-owner, reports, tick-of}
+use Rattle.gateway.specs.Fits.{EventFits}
+use Rattle.gateway.specs.Invariant.{Ok}
+use Rattle.gateway.specs.Calls.{Gateway, call, deliver-event}
+use Rattle.store.specs.Layout.{cell}
+use Rattle.store.specs.View.{gateway}
+use Rattle.sound.specs.Sound.{Becomes}
+use Rattle.mailbox.specs.Mailbox.{places}
+use Rattle.outcome.specs.Between.{Between}
+use Rattle.outcome.specs.Answers.{verdict, Gives}
+use Rattle.outcome.specs.Parts.{Sends}
+use Rattle.reporting.specs.declared.Told.{Told}
+use Rattle.reporting.specs.Reporting.{told-mail, told-rows, Tells}
+use Rattle.reporting.proofs.Laws.{told-length}
+use Rattle.delivery.specs.Delivery.{tests, call-tests, Judges, landed, after}
+use Rattle.delivery.proofs.Calls.{judged-is, deliver-refused, deliver-done}
+use Rattle.events.specs.Events.{quiet-event, Quiet, quiet-tests}
+use Rattle.events.proofs.Parts.{trades-few, notices-stay, rows-are, all-pass}
+
+-- what is true of them all
+record Still (i : ℕ) (k : ReportKind) (e : Event) : Type 0 where
+  names : (m : ℕ) → names-below m e ≡ true
+  numbers : (n : ℕ) (b : Bool) → numbers-agree n b e ≡ leb i n
+  agrees : (d : Depth) → depth-agrees e d ≡ true
+  none-changes : (n : ℕ) → changes n e ≡ []
+  stays : (d : Depth) → apply e d ≡ d
+  no-tick : (n : ℕ) → tick-of n e ≡ []
+  told : (n : ℕ) (c : Core) (r : Rest) → reports n e c r ≡ tell-owner n i k c r
+  fits : EventFits e
+
+still : (i : ℕ) (k : ReportKind) → Quiet k → Still i k (quiet-event i k)
+unfolding names-below numbers-agree depth-agrees changes apply tick-of reports
+still i Kind.Accepted q =
+    record { names = λ m. refl; numbers = λ n b. refl; agrees = λ d. refl; none-changes = λ n. refl; stays = λ d. refl; no-tick = λ n. refl; told = λ n c r. refl; fits = tt }
+still i Kind.Triggered q =
+    record { names = λ m. refl; numbers = λ n b. refl; agrees = λ d. refl; none-changes = λ n. refl; stays = λ d. refl; no-tick = λ n. refl; told = λ n c r. refl; fits = tt }
+still i (Kind.StopPlaced s t l v) q =
+    record { names = λ m. refl; numbers = λ n b. refl; agrees = λ d. refl; none-changes = λ n. refl; stays = λ d. refl; no-tick = λ n. refl; told = λ n c r. refl; fits = tt }
+still i (Kind.Rejected why) q = absurd q
+still i (Kind.Fill t s p v w) q = absurd q
+still i (Kind.Rested s p v w) q = absurd q
+still i (Kind.Replenished s p v) q = absurd q
+still i (Kind.Cancelled v why) q = absurd q
+still i (Kind.Modified p v w) q = absurd q
+still i (Kind.MassCancelled n) q = absurd q
+still i (Kind.PhaseChanged p) q = absurd q
+
+module _ (n i : ℕ) (k : ReportKind) (q : Quiet k) (g : Gateway) where
+  abbrev e : Event
+  e = quiet-event i k
+
+  abbrev s : Still i k e
+  s = still i k q
+
+  quiet-judges : Ok g → (t : Told) → Tells i t g → (room : ℕ) → Judges n e room g (quiet-tests n i t room g)
+  unfolding step
+  quiet-judges ok t tells room =
+      let f = ok .rest-is .feed in
+      record {
+        flying-is = refl;
+        below-is = sym (s .names _);
+        numbers-is = λ _. sym (s .numbers n _);
+        agrees-is = sym (s .agrees (g .rest .depth));
+        holds-is = λ _. rw (s .none-changes n) (sym (ok .core-is .holds));
+        levels-is = λ _. rw (s .stays (g .rest .depth)) (sym (f .fit));
+        depth-is = λ _. rw (s .stays (g .rest .depth)) (sym (f .few));
+        trades-is = rw (s .no-tick n) (trades-few g ok);
+        notices-is = λ _. rw (s .none-changes n) (notices-stay g ok);
+        room-is = λ _. rows-are n i room k t g tells ∙ ap (λ l. leb (length l) room) (sym (s .told n (g .core) (g .rest)));
+      }
+
+  quiet-after : landed n g ≡ after n e g
+  unfolding step
+  quiet-after = rw (s .none-changes n, s .stays (g .rest .depth), s .no-tick n, append-nil (g .rest .trades), append-nil (g .rest .notices)) refl
+
+module _ (xs out : List ℕ) (n i : ℕ) (k : ReportKind) (q : Quiet k) (b : Between xs) (t : Told) (tells : Tells i t (gateway (cell xs))) (p v : ℕ) (room : p ≡ places (length out))
+    (v-is : v ≡ verdict (tests (quiet-tests n i t p (gateway (cell xs))))) where
+  whole : v ≡ verdict (call-tests n (quiet-event i k) (places (length out)) (gateway (cell xs)))
+  whole =
+      v-is ∙ ap (λ r. verdict (tests (quiet-tests n i t r (gateway (cell xs))))) room
+      ∙ judged-is n (quiet-event i k) (places (length out)) (gateway (cell xs)) (quiet-tests n i t (places (length out)) (gateway (cell xs))) (quiet-judges n i k q (gateway (cell xs)) (b .ok) t tells (places (length out)))
+
+  pub quiet-refused : (v ≡ 0 → ⊥) → Gives (call (gateway (cell xs)) (deliver-event n (quiet-event i k) (places (length out)))) (record { code = v; count = 0 }) xs xs out out
+  quiet-refused = deliver-refused xs out n (quiet-event i k) (still i k q .fits) b v whole
+
+  module _ (z : v ≡ 0) where
+    pub quiet-flying : in-flight n (gateway (cell xs) .core) ≡ true
+    quiet-flying = all-pass _ v v-is z .0
+
+    pub quiet-done : {ys zs end : List ℕ} (m : ℕ) → m ≡ told-rows t → Becomes ys (landed n (gateway (cell xs))) → Sends 0 (told-mail n i k t) (λ x. x) ys zs out end →
+        Gives (call (gateway (cell xs)) (deliver-event n (quiet-event i k) (places (length out)))) (record { code = 0; count = m }) xs zs out end
+    quiet-done {ys} m m-is d h =
+        deliver-done xs out n (quiet-event i k) (still i k q .fits) b v whole z (told-mail n i k t)
+        (tells .mail n k ∙ sym (still i k q .told n (gateway (cell xs) .core) (gateway (cell xs) .rest))) m (m-is ∙ told-length n i k t)
+        (subst (Becomes ys) (quiet-after n i k q (gateway (cell xs))) d) h
+
+pub ruleset quiets = (quiet-refused, quiet-flying, quiet-done, arith)
