@@ -116,7 +116,7 @@ pub record Counts (s t : Store) (c : ℕ) (w : Side) (h k : ℤ) (m n : ℕ) : T
 no-change : (v : ℤ) {x y : ℤ} → x ≡ pos 0 → y ≡ pos 0 → v -ℤ x +ℤ y ≡ v
 no-change v p q = (λ i. v -ℤ p i +ℤ q i) ∙ +ℤ-idr (v +ℤ pos 0) ∙ +ℤ-idr v
 
-same-is : (z w : Side) → same-side z w ≡ true → z ≡ w
+pub same-is : (z w : Side) → same-side z w ≡ true → z ≡ w
 same-is Buy Buy e = refl
 same-is Sell Sell e = refl
 same-is Buy Sell e = absurd (true≢false (sym e))
