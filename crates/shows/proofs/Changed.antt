@@ -1,14 +1,12 @@
 -- The changed levels with one more, or two. Assumes nothing.
 use mathlib.Core.Path.{_≡_, refl, sym, ap, ap₂, _∙_}
-use mathlib.Core.Bool.{Bool, true, false, cond, _&&_, _||_, and-eq-true-iff, false≢true}
+use mathlib.Core.Bool.{Bool, true, false, cond, _&&_, _||_, and-eq-true-iff}
 use mathlib.Core.List.{List, [], _∷_, _++_}
 use Prim.Native.Nat.{ℕ, _+_, _≤_, _<_}
 use native.Mathlib.Omega.{arith}
 use borrow.Author.Tests.{le-leb, lt-leb}
 use lib.ListN.{length, length-append}
 use lib.Dec.{leb}
-use Rattle.orderbook.specs.declared.Side.{Side}
-use Rattle.orderbook.specs.declared.Side.the-variants.{Buy, Sell}
 use Rattle.words.specs.Words.{int}
 use Rattle.gateway.specs.Limits.{most-changed}
 use Rattle.gateway.specs.Ledger.{same-side}
@@ -23,6 +21,7 @@ use Rattle.orders.specs.declared.Resting.{Resting}
 use Rattle.pending.specs.Pending.{key}
 use Rattle.pending.proofs.Keys.{last-first}
 use Rattle.sound.specs.Sound.{State}
+use Rattle.gateway.proofs.Holds.{side-is}
 use Rattle.shows.specs.Shows.{Adds}
 
 -- ---- one level
@@ -47,12 +46,6 @@ module _ (o p : Resting) (t : Bool) (t-is : t ≡ same-price (int (o .price)) (i
   level-by-price e = sym (and-comm (same-side (side (o .side)) (side (p .side))) (same-price (int (o .price)) (int (p .price))) ∙ ap (λ (b : Bool). b && same-side (side (o .side)) (side (p .side))) (sym t-is ∙ e))
 
 -- ---- one more, and another
-
-side-is : (a b : Side) → same-side a b ≡ true → a ≡ b
-side-is Buy Buy e = refl
-side-is Buy Sell e = absurd (false≢true e)
-side-is Sell Buy e = absurd (false≢true e)
-side-is Sell Sell e = refl
 
 key-is : (k x : Key) → same-key k x ≡ true → k ≡ x
 key-is k x e =
