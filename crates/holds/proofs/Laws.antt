@@ -15,7 +15,7 @@ use Rattle.gateway.specs.Deliver.{order-notices, change-notices, notices-of}
 use Rattle.gateway.specs.Calls.{Gateway}
 use Rattle.gateway.specs.Invariant.{Ok}
 use Rattle.gateway.proofs.Base.{split}
-use Rattle.gateway.proofs.Moves.{Of, names, wallets-changed}
+use Rattle.gateway.proofs.Moves.{Of, names, wallets-changed, marked-alike, changed-alike, holds-alike, notices-alike}
 use Rattle.store.specs.View.{side}
 use Rattle.live.specs.Live.{with-ledger}
 use Rattle.holds.specs.declared.Move.{Move}
@@ -24,7 +24,6 @@ use Rattle.holds.specs.Holds.{change-of, moved, Part, part-of, paper-ord
 use Rattle.holds.proofs.Totals as Totals
 use Rattle.holds.proofs.Totals.{part-fits, both-fit, paper-changed}
 use Rattle.holds.proofs.Weighing.{of, notices-two}
-use Rattle.holds.proofs.Pure.{marked-alike, changed-alike, holds-alike, notices-alike}
 
 -- ---- the tests, by what a shift says
 
