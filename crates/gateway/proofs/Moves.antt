@@ -17,8 +17,8 @@ use Rattle.words.specs.Words.{place-of}
 use Rattle.table.specs.Live.{Each, look, without}
 use Rattle.gateway.specs.Basics.{option, is-some}
 use Rattle.gateway.specs.Table.{update}
-use Rattle.gateway.specs.Ledger.{Order, Ledger, Change, mark-by, fill, set-leaves, reprice, retire, number-of, find, remove, with-leaves, with-price, left, change, same-side, hold, order-hold, held-by, held}
-use Rattle.gateway.specs.Deliver.{hold-after, named}
+use Rattle.gateway.specs.Ledger.{Order, Ledger, Change, mark-by, fill, set-leaves, reprice, retire, number-of, find, remove, with-leaves, with-price, left, with-orders, wallet-of, pay, change, same-side, hold, order-hold, held-by, held, wallets-fit, holds-fit}
+use Rattle.gateway.specs.Deliver.{hold-after, named, order-notices, change-notices}
 use Rattle.gateway.proofs.Base.{split}
 use Rattle.gateway.proofs.Sorted.{Absent}
 use Rattle.gateway.proofs.Invariant.{Rise, shrunk, rise-shrinks, pay-some, paid}
@@ -51,6 +51,13 @@ left-turned n f v os =
     split (λ b. cond b (remove n os) (update number-of n (λ o. with-leaves v (f o)) os) ≡ turned n (λ o. cond b [] (with-leaves v (f o) ∷ [])) os) (eqb v 0)
     (λ _. remove-turned n os) (λ _. update-turned n (λ o. with-leaves v (f o)) os)
 
+turned-none : (n : ℕ) (g : Order → List Order) (os : List Order) → find n os ≡ none → turned n g os ≡ os
+unfolding look turned
+turned-none n g [] h = refl
+turned-none n g (o ∷ os) h =
+    split (λ b. cond b (some o) (find n os) ≡ none → cond b (g o ++ turned n g os) (o ∷ turned n g os) ≡ o ∷ os) (eqb (o .number) n)
+    (λ _ k. absurd (let z : _≡_ {A = ℕ} 0 1 = cc in omega (arith, z))) (λ _ k. ap (λ r. o ∷ r) (turned-none n g os k)) h
+
 -- the changes of the order n
 pub data Of (n : ℕ) : Change → Type 0 where
   fills : (p : ℤ) (q v : ℕ) → Of n (fill n p q v)
@@ -79,6 +86,15 @@ module _ {n : ℕ} where
   orders-turned (sets v) l = update-turned n (with-leaves v) (l .orders)
   orders-turned (reprices p v) l = left-turned n (with-price p) v (l .orders)
   orders-turned retires l = remove-turned n (l .orders)
+
+  -- where there is no such order, nothing changes
+  pub unchanged : {x : Change} → Of n x → (l : Ledger) → find n (l .orders) ≡ none → change x l ≡ l
+  unfolding change pay
+  unchanged (fills p q v) l e =
+      ap₂ (λ w os. record { last = l .last; wallets = pay p q w (l .wallets); orders = os; mark = l .mark }) e (left-turned n (λ o. o) v (l .orders) ∙ turned-none n (leaves (λ o. o) v) (l .orders) e)
+  unchanged (sets v) l e = ap (λ os. with-orders os l) (update-turned n (with-leaves v) (l .orders) ∙ turned-none n (becomes (set-leaves n v)) (l .orders) e)
+  unchanged (reprices p v) l e = ap (λ os. with-orders os l) (left-turned n (with-price p) v (l .orders) ∙ turned-none n (leaves (with-price p) v) (l .orders) e)
+  unchanged retires l e = ap (λ os. with-orders os l) (remove-turned n (l .orders) ∙ turned-none n (λ o. []) (l .orders) e)
 
 -- ---- another order is not touched
 
@@ -120,6 +136,34 @@ rise-changed x l = rise-shrinks 0 (shrunk (x ∷ []) l)
 pub wallets-changed : (x : Change) (l : Ledger) (a : ℕ) → is-some (getD (change x l .wallets) a none) ≡ is-some (getD (l .wallets) a none)
 wallets-changed x l =
     paid (λ ws. (a : ℕ) → is-some (getD ws a none) ≡ is-some (getD (l .wallets) a none)) (λ p q o ws h a. pay-some p q o ws a ∙ h a) (x ∷ []) l (λ a. refl) .1
+
+-- ---- the mark
+
+-- the orders and the wallets are the same
+pub record Alike (l k : Ledger) : Type 0 where
+  pub orders-are : l .orders ≡ k .orders
+  pub wallets-are : l .wallets ≡ k .wallets
+
+pub marked-alike : (a b : ℕ) (p : ℤ) (l : Ledger) → Alike (change (mark-by a b p) l) l
+unfolding change
+marked-alike a b p l = record { orders-are = refl; wallets-are = refl }
+
+pub changed-alike : (x : Change) {l k : Ledger} → Alike l k → Alike (change x l) (change x k)
+unfolding change
+changed-alike (mark-by a b p) h = record { orders-are = h .orders-are; wallets-are = h .wallets-are }
+changed-alike (fill n p q v) h =
+    record { orders-are = ap (left n (λ o. o) v) (h .orders-are); wallets-are = ap₂ (λ os ws. pay p q (find n os) ws) (h .orders-are) (h .wallets-are) }
+changed-alike (set-leaves n v) h = record { orders-are = ap (update number-of n (with-leaves v)) (h .orders-are); wallets-are = h .wallets-are }
+changed-alike (reprice n p v) h = record { orders-are = ap (left n (with-price p) v) (h .orders-are); wallets-are = h .wallets-are }
+changed-alike (retire n) h = record { orders-are = ap (remove n) (h .orders-are); wallets-are = h .wallets-are }
+
+pub holds-alike : {l k : Ledger} → Alike l k → holds-fit l ≡ holds-fit k
+unfolding holds-fit
+holds-alike h = ap₂ (λ ws os. wallets-fit 0 ws os) (h .wallets-are) (h .orders-are)
+
+pub notices-alike : (x : Change) {l k : Ledger} → Alike l k → change-notices x l ≡ change-notices x k
+notices-alike x h =
+    ap₂ (λ ws os. option [] (λ o. cond (is-some (wallet-of ws o)) (order-notices x o) []) (named x os)) (h .wallets-are) (h .orders-are)
 
 -- ---- holds
 

@@ -20,8 +20,7 @@ use Rattle.gateway.specs.Deliver.{hold-after, order-notices, change-notices}
 use Rattle.gateway.specs.Deliver as Deliver
 use Rattle.gateway.specs.Calls.{Gateway}
 use Rattle.gateway.proofs.Base.{split}
-use Rattle.gateway.proofs.Moves.{wallets-changed}
-use Rattle.holds.proofs.Pure.{unchanged}
+use Rattle.gateway.proofs.Moves.{unchanged, wallets-changed}
 use Rattle.store.specs.Cells as C
 use Rattle.store.specs.Layout.{cell}
 use Rattle.store.specs.View.{Store, word, order, wallet, ledger, gateway, order-room}

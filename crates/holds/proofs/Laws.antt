@@ -1,22 +1,26 @@
 -- What a caller uses: what was weighed is the definitions' test, for one order and for two, also behind a new mark. Assumes nothing.
-use mathlib.Core.Path.{_≡_, refl, sym, ap, ap₂, _∙_}
+use mathlib.Core.Path.{_≡_, refl, sym, ap, ap₂, subst, _∙_}
 use mathlib.Core.Bool.{Bool, true, false, cond, _&&_}
 use mathlib.Core.Option.{Option, none, some, Option·map}
 use mathlib.Core.List.{List, [], _∷_, _++_}
 use Prim.Native.Nat.{ℕ, _+_, _≤_}
 use native.Mathlib.Omega.{arith}
-use lib.Dec.{eqb}
+use lib.Dec.{eqb, leb}
 use lib.IntN.{ℤ, _+ℤ_, _-ℤ_}
 use lib.ListN.{length, length-append, getD}
 use Rattle.words.specs.Words.{int}
 use Rattle.gateway.specs.Basics.{option, is-some}
+use Rattle.gateway.specs.Limits.{most-notices}
 use Rattle.gateway.specs.Ledger.{Order, Ledger, Change, mark-by, find, paper, wallet-of, change, same-side, held, fits, holds-fit}
 use Rattle.gateway.specs.Deliver.{order-notices, change-notices, notices-of}
 use Rattle.gateway.specs.Calls.{Gateway}
 use Rattle.gateway.specs.Invariant.{Ok}
 use Rattle.gateway.proofs.Base.{split}
-use Rattle.gateway.proofs.Moves.{Of, names, wallets-changed}
-use Rattle.store.specs.View.{side}
+use Rattle.gateway.proofs.Moves.{Of, names, wallets-changed, marked-alike, changed-alike, holds-alike, notices-alike}
+use Rattle.store.specs.Cells as C
+use Rattle.store.specs.Layout.{cell}
+use Rattle.store.specs.View.{Store, word, side, ledger, gateway}
+use Rattle.sound.specs.Sound.{Becomes}
 use Rattle.live.specs.Live.{with-ledger}
 use Rattle.holds.specs.declared.Move.{Move}
 use Rattle.holds.specs.declared.Shift.{Shift}
@@ -24,7 +28,7 @@ use Rattle.holds.specs.Holds.{change-of, moved, Part, part-of, paper-ord
 use Rattle.holds.proofs.Totals as Totals
 use Rattle.holds.proofs.Totals.{part-fits, both-fit, paper-changed}
 use Rattle.holds.proofs.Weighing.{of, notices-two}
-use Rattle.holds.proofs.Pure.{marked-alike, changed-alike, holds-alike, notices-alike}
+use Rattle.holds.proofs.Applying.{notices-count}
 
 -- ---- the tests, by what a shift says
 
@@ -108,6 +112,28 @@ weighs-few {n} {x} {s} {g} w = let e = w .noticed in omega (arith, ap length (no
     go : (o : Option Order) → length (option [] (order-notices (change-of n x)) o) ≤ 2
     go none = omega arith
     go (some o) = notices-two n x o
+
+-- in the bytes
+pub weighs-at : {n : ℕ} {x : Move} {s : Shift} {g : Gateway} {ys : List ℕ} → Weighs n x s g → Becomes ys g → Weighs n x s (gateway (cell ys))
+weighs-at {n} {x} {s} w b = subst (λ h. Weighs n x s h) (sym (b .gateway-is)) w
+
+-- ---- code 5
+
+-- k notices more
+pub notices-fit : (s : Store) (ns : List ℕ) (k : ℕ) → length ns ≡ k → leb (k + word s C.notice-rows) most-notices ≡ leb (length (gateway s .rest .notices ++ ns)) most-notices
+notices-fit s ns k e =
+    ap (λ m. leb m most-notices) (let q : k + word s C.notice-rows ≡ length (gateway s .rest .notices ++ ns) = omega (arith, notices-count s, length-append (gateway s .rest .notices) ns) in q)
+
+module _ (xs : List ℕ) {n : ℕ} {x : Move} {s : Shift} (w : Weighs n x s (gateway (cell xs))) where
+  -- what `apply` asks
+  pub apply-room : s .notices + word (cell xs) C.notice-rows ≤ most-notices → length (change-notices (change-of n x) (ledger (cell xs))) + word (cell xs) C.notice-rows ≤ most-notices
+  apply-room h = omega (arith, w .noticed)
+
+  -- and what it leaves
+  pub rows-after : {ys : List ℕ} → Becomes ys (moved (change-of n x) (gateway (cell xs))) → word (cell ys) C.notice-rows ≡ word (cell xs) C.notice-rows + s .notices
+  rows-after {ys} b =
+      sym (notices-count (cell ys)) ∙ ap (λ (g : Gateway). length (g .rest .notices)) (b .gateway-is) ∙ length-append (gateway (cell xs) .rest .notices) (change-notices (change-of n x) (ledger (cell xs)))
+      ∙ ap₂ (λ i j. i + j) (notices-count (cell xs)) (w .noticed)
 
 -- ---- code 7
 

@@ -1,4 +1,3 @@
-pub mod Pure
 pub mod Totals
 pub mod Weighing
 pub mod Judging

@@ -43,11 +43,7 @@ fn hold_after(o: Live, x: Move) -> u64
     ensures { λ r. ⌜ r ≡ P.hold-after-word x o ⌝ }
 {
     match x {
-        Move::Fill {
-            price: _,
-            qty: _,
-            leaves,
-        } => live::hold_of(o.side, o.priced, o.price, leaves),
+        Move::Fill { leaves, .. } => live::hold_of(o.side, o.priced, o.price, leaves),
         Move::Leaves { leaves } => live::hold_of(o.side, o.priced, o.price, leaves),
         Move::Reprice { price, leaves } => live::hold_of(o.side, 1, price, leaves),
         Move::Retire => 0,
@@ -59,16 +55,9 @@ fn settles(x: Move) -> u64
     ensures { λ r. ⌜ r ≡ P.settles x ⌝ }
 {
     match x {
-        Move::Fill {
-            price: _,
-            qty: _,
-            leaves: _,
-        } => 1,
-        Move::Leaves { leaves: _ } => 0,
-        Move::Reprice {
-            price: _,
-            leaves: _,
-        } => 0,
+        Move::Fill { .. } => 1,
+        Move::Leaves { .. } => 0,
+        Move::Reprice { .. } => 0,
         Move::Retire => 0,
     }
 }
