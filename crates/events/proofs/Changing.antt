@@ -129,7 +129,7 @@ module _ {n i : ℕ} {x : Move} {f : D.Resting → Depth → Depth} {k : ReportK
   module _ (z : v ≡ 0) where
     can-change : CanChange n i x f (gateway (cell xs))
     can-change =
-        let a = all-pass _ v v-is z in
+        let a = all-pass (changed-tests n i h t p (gateway (cell xs))) v v-is z in
         record {
           flying = a .0;
           noticed = few-noticed (gateway (cell xs)) w (a .1 .1 .1 .1 .1 .1 .1 .1 .0);
@@ -172,7 +172,7 @@ module _ (xs out : List ℕ) (n i : ℕ) (b : Between xs) (h : Shift) (t : Told)
 
 -- ---- applying
 
-module _ {xs ys : List ℕ} {n i : ℕ} {x : Move} {f : D.Resting → Depth → Depth} (can : CanChange n i x f (gateway (cell xs))) (a : Becomes ys (moved (change-of i x) (gateway (cell xs)))) where
+module _ (xs : List ℕ) {ys : List ℕ} (n i : ℕ) (x : Move) (f : D.Resting → Depth → Depth) (can : CanChange n i x f (gateway (cell xs))) (a : Becomes ys (moved (change-of i x) (gateway (cell xs)))) where
   pub still-roomy : Roomy (where-resting i f (depth (cell ys)))
   still-roomy = subst (λ (d : Depth). Roomy (where-resting i f d)) (sym (ap (λ (g : Gateway). g .rest .depth) (a .gateway-is))) (can .room)
 

@@ -1,5 +1,5 @@
 pub mod Parts
-pub mod Quiet
+pub mod Stills
 pub mod Changing
 pub mod Replenishing
 pub mod Resting

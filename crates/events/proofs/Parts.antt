@@ -38,18 +38,18 @@ use Rattle.holds.specs.declared.Shift.{Shift}
 use Rattle.holds.specs.Holds.{change-of, moved, Weighs}
 use Rattle.holds.proofs.Laws.{weighs-few}
 use Rattle.holds.proofs.Applying.{notices-count}
-use Rattle.shows.specs.Shows.{touched-few}
+use Rattle.shows.specs.Shows.{touched, touched-few}
 use Rattle.events.specs.Events.{few-notices, Weighed}
 
 -- ---- tests
 
 -- no trade is added
 pub trades-few : (g : Gateway) → Ok g → true ≡ leb (length (g .rest .trades ++ [])) most-trades
-trades-few g ok = sym (le-leb _ most-trades (omega (arith, length-append (g .rest .trades) [], ok .rest-is .feed .few-trades)))
+trades-few g ok = sym (le-leb (length (g .rest .trades ++ [])) most-trades (omega (arith, length-append (g .rest .trades) [], ok .rest-is .feed .few-trades)))
 
 -- no notice is added
 pub notices-stay : (g : Gateway) → Ok g → true ≡ leb (length (g .rest .notices ++ [])) most-notices
-notices-stay g ok = sym (le-leb _ most-notices (omega (arith, length-append (g .rest .notices) [], ok .rest-is .feed .few-notices)))
+notices-stay g ok = sym (le-leb (length (g .rest .notices ++ [])) most-notices (omega (arith, length-append (g .rest .notices) [], ok .rest-is .feed .few-notices)))
 
 -- those of one change are
 pub notices-come : {i : ℕ} {x : Move} {h : Shift} (g : Gateway) → Weighs i x h g →
@@ -83,9 +83,9 @@ noticed-room xs x l = omega (arith, notices-count (cell xs), l)
 -- room for the level of an order, where it rests
 pub touched-roomy : (g : Gateway) → Ok g → (i : ℕ) (f : Resting → Depth → Depth) → Acts f → touched-few i (g .rest .depth) ≡ true → Roomy (where-resting i f (g .rest .depth))
 touched-roomy g ok i f acts h =
-    omega (arith, ap length (after i f (g .rest .depth) (ok .rest-is .feed .ascending) acts .changed-is), leb-true _ most-changed h)
+    omega (arith, ap length (after i f (g .rest .depth) (ok .rest-is .feed .ascending) acts .changed-is), leb-true (length (touched i (g .rest .depth .resting) (g .rest .depth .changed))) most-changed h)
 
-few-noticed : {i : ℕ} {x : Move} {h : Shift} (g : Gateway) → Weighs i x h g → few-notices h g ≡ true → length (change-notices (change-of i x) (g .core .ledger)) + length (g .rest .notices) ≤ most-notices
+pub few-noticed : {i : ℕ} {x : Move} {h : Shift} (g : Gateway) → Weighs i x h g → few-notices h g ≡ true → length (change-notices (change-of i x) (g .core .ledger)) + length (g .rest .notices) ≤ most-notices
 few-noticed {h = h} g w e = omega (arith, w .noticed, leb-true (h .notices + length (g .rest .notices)) most-notices e)
 
 pub ruleset parts = (trades-few, notices-stay, notices-come, rows-are, weighed, told-room, noticed-room, arith)

@@ -107,7 +107,7 @@ module _ (xs out : List ℕ) (n : ℕ) (why : RejectReason) (b : Between xs) (h 
 
   module _ (z : v ≡ 0) where
     passed-flying : in-flight n (gateway (cell xs) .core) ≡ true
-    passed-flying = all-pass _ v v-is z .0
+    passed-flying = all-pass (order-refused n h t p (gateway (cell xs))) v v-is z .0
 
     pub order-done : {ys zs end : List ℕ} (m : ℕ) → m ≡ told-rows t → Becomes ys (retired n (gateway (cell xs))) → Sends 0 (told-mail n n (Kind.Rejected why) t) (λ x. x) ys zs out end →
         Gives (call (gateway (cell xs)) (deliver-event n (Rejected n why) (places (length out)))) (record { code = 0; count = m }) xs zs out end
@@ -119,10 +119,10 @@ module _ (xs out : List ℕ) (n : ℕ) (why : RejectReason) (b : Between xs) (h 
 pub can-retire : (xs : List ℕ) (n : ℕ) (h : Shift) → Weighs n Retire h (gateway (cell xs)) → (t : Told) (p v : ℕ) → v ≡ verdict (tests (order-refused n h t p (gateway (cell xs)))) → v ≡ 0 →
     CanRetire n (gateway (cell xs))
 can-retire xs n h w t p v v-is z =
-    let a = all-pass _ v v-is z in
+    let a = all-pass (order-refused n h t p (gateway (cell xs))) v v-is z in
     record { flying = a .0; noticed = few-noticed (gateway (cell xs)) w (a .1 .1 .1 .1 .1 .1 .1 .1 .0) }
 
-module _ {xs ys : List ℕ} {n : ℕ} (can : CanRetire n (gateway (cell xs))) (a : Becomes ys (moved (change-of n Retire) (gateway (cell xs)))) where
+module _ (xs : List ℕ) {ys : List ℕ} (n : ℕ) (can : CanRetire n (gateway (cell xs))) (a : Becomes ys (moved (change-of n Retire) (gateway (cell xs)))) where
   pub retired-flying : in-flight n (gateway (cell ys) .core) ≡ true
   retired-flying = ap (λ (g : Gateway). in-flight n (g .core)) (a .gateway-is) ∙ can .flying
 
@@ -194,7 +194,7 @@ module _ (xs out : List ℕ) (n i : ℕ) (ne : i ≡ n → ⊥) (why : RejectRea
 
   module _ (z : v ≡ 0) where
     pub command-flying : in-flight n (gateway (cell xs) .core) ≡ true
-    command-flying = all-pass _ v v-is z .0
+    command-flying = all-pass (command-refused n i t p (cell xs)) v v-is z .0
 
     pub command-done : {ys zs end : List ℕ} (m : ℕ) → m ≡ told-rows t → Becomes ys (landed n (gateway (cell xs))) → Sends 0 (told-mail n i (Kind.Rejected why) t) (λ x. x) ys zs out end →
         Gives (call (gateway (cell xs)) (deliver-event n (Rejected i why) (places (length out)))) (record { code = 0; count = m }) xs zs out end

@@ -74,7 +74,7 @@ module _ (xs out : List ℕ) (n i v : ℕ) (b : Between xs) (t : Told) (tells : 
     (w-is : w ≡ verdict (tests (replenished-tests n i v t p (gateway (cell xs))))) where
   pub can-reshow : w ≡ 0 → CanReshow n i v (gateway (cell xs))
   can-reshow e =
-      let a = all-pass _ w w-is e in
+      let a = all-pass (replenished-tests n i v t p (gateway (cell xs))) w w-is e in
       let f = b .ok .rest-is .feed in
       record {
         flying = a .0;
@@ -100,7 +100,7 @@ module _ (xs out : List ℕ) (n i v : ℕ) (b : Between xs) (t : Told) (tells : 
 
 -- ---- applying
 
-module _ {xs ys : List ℕ} {n i v : ℕ} (can : CanReshow n i v (gateway (cell xs))) (a : Becomes ys (with-depth (where-resting i (replenished v)) (gateway (cell xs)))) where
+module _ (xs : List ℕ) {ys : List ℕ} (n i v : ℕ) (can : CanReshow n i v (gateway (cell xs))) (a : Becomes ys (with-depth (where-resting i (replenished v)) (gateway (cell xs)))) where
   pub reshown-flying : in-flight n (gateway (cell ys) .core) ≡ true
   reshown-flying = ap (λ (g : Gateway). in-flight n (g .core)) (a .gateway-is) ∙ can .flying
 

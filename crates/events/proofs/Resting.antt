@@ -102,7 +102,7 @@ module _ (xs out : List ℕ) (n i : ℕ) (z : Side) (y : ℤ) (q v : ℕ) (o : W
   module _ (e : c ≡ 0) where
     pub can-join : CanJoin n (Leaves (o .leaves)) (resting-of i o) (gateway (cell xs))
     can-join =
-        let a = all-pass _ c c-is e in
+        let a = all-pass (rested-tests n (resting-of i o) h t p (gateway (cell xs))) c c-is e in
         record {
           flying = a .0;
           number-is = leb-true i n (a .1 .1 .0);
@@ -126,7 +126,7 @@ module _ (xs out : List ℕ) (n i : ℕ) (z : Side) (y : ℤ) (q v : ℕ) (o : W
 
 -- ---- applying
 
-module _ {xs ys : List ℕ} {n : ℕ} {x : Move} {o : D.Resting} (st : State xs) (can : CanJoin n x o (gateway (cell xs))) (a : Becomes ys (moved (change-of (o .number) x) (gateway (cell xs)))) where
+module _ (xs : List ℕ) {ys : List ℕ} (n : ℕ) (x : Move) (o : D.Resting) (st : State xs) (can : CanJoin n x o (gateway (cell xs))) (a : Becomes ys (moved (change-of (o .number) x) (gateway (cell xs)))) where
   pub can-add : CanAdd o (cell ys)
   can-add =
       let d : depth (cell ys) ≡ depth (cell xs) = ap (λ (g : Gateway). g .rest .depth) (a .gateway-is) in

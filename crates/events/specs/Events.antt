@@ -3,21 +3,22 @@ use Prim.Native.Nat.{ℕ, _+_, _≤_, _<_}
 use mathlib.Core.Path.{_≡_}
 use mathlib.Core.Bool.{Bool, true, not, _&&_}
 use mathlib.Core.Option.{none}
+use mathlib.Core.List.{[]}
 use lib.Dec.{leb}
 use lib.IntN.{ℤ}
 use lib.ListN.{length}
 use Rattle.orderbook.specs.declared.Side.{Side}
 use Rattle.orderbook.specs.declared.Event.{Event}
-use Rattle.orderbook.specs.declared.Event.the-variants.{Accepted, StopPlaced, Triggered}
 use Rattle.protocol.specs.declared.ReportKind.{ReportKind}
-use Rattle.protocol.specs.declared.ReportKind.the-variants as Kind
 use Rattle.words.specs.Words.{int}
 use Rattle.gateway.specs.Basics.{is-some}
 use Rattle.gateway.specs.Limits.{owner-slots, most-notices}
-use Rattle.gateway.specs.Core.{in-flight}
-use Rattle.gateway.specs.Depth.{Resting, Depth, find-resting, where-resting, add, levels-fit, depth-few}
-use Rattle.gateway.specs.Fits.{Signed, Unsigned}
-use Rattle.gateway.specs.Deliver.{change-notices}
+use Rattle.gateway.specs.Ledger.{changes}
+use Rattle.gateway.specs.Core.{Core, in-flight, names-below, numbers-agree}
+use Rattle.gateway.specs.Depth.{Resting, Depth, find-resting, where-resting, add, apply, depth-agrees, levels-fit, depth-few}
+use Rattle.gateway.specs.Rest.{Rest}
+use Rattle.gateway.specs.Fits.{Signed, Unsigned, EventFits}
+use Rattle.gateway.specs.Deliver.{tell-owner, reports, tick-of, change-notices}
 use Rattle.gateway.specs.Calls.{Gateway}
 use Rattle.store.specs.View.{Store, gateway, in-slot}
 use Rattle.orders.specs.declared.Resting as Words
@@ -35,17 +36,16 @@ use Rattle.shows.specs.Shows.{touched-few}
 
 -- ---- nothing but the run of numbers moves
 
--- the event of a report
-abbrev pub quiet-event : ℕ → ReportKind → Event
-quiet-event i Kind.Triggered = Triggered i
-quiet-event i (Kind.StopPlaced s t l q) = StopPlaced i s t l q
-quiet-event i k = Accepted i
-
-abbrev pub Quiet : ReportKind → Type 0
-Quiet Kind.Accepted = Unit {0}
-Quiet Kind.Triggered = Unit {0}
-Quiet (Kind.StopPlaced s t l q) = Unit {0}
-Quiet k = ⊥
+-- what the definitions say of such an event: it is reported to the owner of the order i
+pub record Still (i : ℕ) (k : ReportKind) (e : Event) : Type 0 where
+  pub names : (m : ℕ) → names-below m e ≡ true
+  pub numbers : (n : ℕ) (b : Bool) → numbers-agree n b e ≡ leb i n
+  pub agrees : (d : Depth) → depth-agrees e d ≡ true
+  pub none-changes : (n : ℕ) → changes n e ≡ []
+  pub stays : (d : Depth) → apply e d ≡ d
+  pub no-tick : (n : ℕ) → tick-of n e ≡ []
+  pub told : (n : ℕ) (c : Core) (r : Rest) → reports n e c r ≡ tell-owner n i k c r
+  pub fits : EventFits e
 
 abbrev pub quiet-tests : (n i : ℕ) → Told → (room : ℕ) → Gateway → T.Tests
 quiet-tests n i t room g =

@@ -17,6 +17,7 @@ ghost use mathlib.Core.Bool.{not, _&&_};
 ghost use Prim.Native.Nat.{_≤_, _<_};
 ghost use lib.Dec.{leb};
 ghost use lib.ListN.{length};
+ghost use Rattle.orderbook.specs.declared.Event.{Event};
 ghost use Rattle.orderbook.specs.declared.Event.the-variants.{Accepted, Rejected, Rested, Replenished, Cancelled, Modified, StopPlaced, Triggered};
 ghost use Rattle.words.specs.Words.{int};
 ghost use Rattle.gateway.specs.Depth as D;
@@ -59,8 +60,8 @@ fn judge_quiet(m: &[u8], n: u64, id: u64, t: Told, room: usize) -> u64
 }
 
 fn quiet(m: &mut [u8], n: u64, id: u64, kind: ReportKind, out: &mut [u8]) -> Reply
-    requires { ⌜ Between (now m) × P.Quiet kind ⌝ }
-    ensures { λ r. ⌜ Gives (call (gateway (cell (now (m .entry)))) (deliver-event n (P.quiet-event id kind) (places (length (now (out .entry)))))) r (now (m .entry)) (now (m .exit)) (now (out .entry)) (now (out .exit)) ⌝ }
+    requires { ⌜ Between (now m) ⌝ }
+    ensures { λ r. ⌜ ((e : Event) → P.Still id kind e → Gives (call (gateway (cell (now (m .entry)))) (deliver-event n e (places (length (now (out .entry)))))) r (now (m .entry)) (now (m .exit)) (now (out .entry)) (now (out .exit))) ⌝ }
 {
     let live = orders::find_live(m, id);
     let t = reporting::owner(m, id, live);
@@ -115,13 +116,13 @@ pub fn stop_placed(
 
 // ---- a live order changes, and its level where it rests
 
-fn judge_changed(m: &[u8], n: u64, id: u64, resting: Found, h: Shift, t: Told, room: usize) -> u64
-    requires { ⌜ Between (now m) × Sees C.order-resting resting D.resting-number (cell (now m)) id resting × P.Weighed h ⌝ }
+fn judge_changed(m: &[u8], n: u64, id: u64, at: Found, h: Shift, t: Told, room: usize) -> u64
+    requires { ⌜ Between (now m) × Sees C.order-resting resting D.resting-number (cell (now m)) id at × P.Weighed h ⌝ }
     ensures { λ r. ⌜ r ≡ verdict (Delivery.tests (P.changed-tests n id h t room (gateway (cell (now (m .entry)))))) ⌝ }
 {
     let flying = delivery::is_flying(m, n);
     let fits = holds::fits(m, h);
-    let depth = shows::has_room(m, id, resting);
+    let depth = shows::has_room(m, id, at);
     let few = holds::few(m, h.notices);
     let rows = reporting::rows(t);
     delivery::code_of(Tests {
@@ -233,17 +234,17 @@ fn judge_replenished(
     m: &[u8],
     n: u64,
     id: u64,
-    resting: Found,
+    at: Found,
     visible: u64,
     t: Told,
     room: usize,
 ) -> u64
-    requires { ⌜ Between (now m) × Sees C.order-resting resting D.resting-number (cell (now m)) id resting ⌝ }
+    requires { ⌜ Between (now m) × Sees C.order-resting resting D.resting-number (cell (now m)) id at ⌝ }
     ensures { λ r. ⌜ r ≡ verdict (Delivery.tests (P.replenished-tests n id visible t room (gateway (cell (now (m .entry)))))) ⌝ }
 {
     let flying = delivery::is_flying(m, n);
-    let fits = shows::reshow_fits(m, id, resting, visible);
-    let depth = shows::has_room(m, id, resting);
+    let fits = shows::reshow_fits(m, id, at, visible);
+    let depth = shows::has_room(m, id, at);
     let rows = reporting::rows(t);
     delivery::code_of(Tests {
         flying,
@@ -324,17 +325,17 @@ fn judge_rested(
     m: &[u8],
     n: u64,
     id: u64,
-    resting: Found,
+    at: Found,
     o: Resting,
     h: Shift,
     t: Told,
     room: usize,
 ) -> u64
-    requires { ⌜ Between (now m) × Sees C.order-resting resting D.resting-number (cell (now m)) id resting × P.Weighed h ⌝ }
+    requires { ⌜ Between (now m) × Sees C.order-resting resting D.resting-number (cell (now m)) id at × P.Weighed h ⌝ }
     ensures { λ r. ⌜ r ≡ verdict (Delivery.tests (P.rested-tests n (resting-of id o) h t room (gateway (cell (now (m .entry)))))) ⌝ }
 {
     let flying = delivery::is_flying(m, n);
-    let absent = shows::is_absent(m, id, resting);
+    let absent = shows::is_absent(m, id, at);
     let fits = holds::fits(m, h);
     let levels = shows::join_fits(m, id, o);
     let depth = shows::join_room(m, id, o);

@@ -6,6 +6,9 @@ use Prim.Native.Nat.{ℕ, _≤_}
 use native.Mathlib.Omega.{arith}
 use lib.Dec.{leb}
 use lib.ListN.{length}
+use lib.IntN.{ℤ}
+use Rattle.orderbook.specs.declared.Side.{Side}
+use Rattle.orderbook.specs.declared.MaybePrice.{MaybePrice}
 use Rattle.orderbook.specs.declared.Event.{Event}
 use Rattle.orderbook.specs.declared.Event.the-variants.{Accepted, StopPlaced, Triggered}
 use Rattle.protocol.specs.declared.ReportKind.{ReportKind}
@@ -30,44 +33,25 @@ use Rattle.reporting.specs.Reporting.{told-mail, told-rows, Tells}
 use Rattle.reporting.proofs.Laws.{told-length}
 use Rattle.delivery.specs.Delivery.{tests, call-tests, Judges, landed, after}
 use Rattle.delivery.proofs.Calls.{judged-is, deliver-refused, deliver-done}
-use Rattle.events.specs.Events.{quiet-event, Quiet, quiet-tests}
+use Rattle.events.specs.Events.{Still, quiet-tests}
 use Rattle.events.proofs.Parts.{trades-few, notices-stay, rows-are, all-pass}
 
--- what is true of them all
-record Still (i : ℕ) (k : ReportKind) (e : Event) : Type 0 where
-  names : (m : ℕ) → names-below m e ≡ true
-  numbers : (n : ℕ) (b : Bool) → numbers-agree n b e ≡ leb i n
-  agrees : (d : Depth) → depth-agrees e d ≡ true
-  none-changes : (n : ℕ) → changes n e ≡ []
-  stays : (d : Depth) → apply e d ≡ d
-  no-tick : (n : ℕ) → tick-of n e ≡ []
-  told : (n : ℕ) (c : Core) (r : Rest) → reports n e c r ≡ tell-owner n i k c r
-  fits : EventFits e
-
-still : (i : ℕ) (k : ReportKind) → Quiet k → Still i k (quiet-event i k)
+pub accepted-still : (i : ℕ) → Still i Kind.Accepted (Accepted i)
 unfolding names-below numbers-agree depth-agrees changes apply tick-of reports
-still i Kind.Accepted q =
+accepted-still i =
     record { names = λ m. refl; numbers = λ n b. refl; agrees = λ d. refl; none-changes = λ n. refl; stays = λ d. refl; no-tick = λ n. refl; told = λ n c r. refl; fits = tt }
-still i Kind.Triggered q =
+
+pub triggered-still : (i : ℕ) → Still i Kind.Triggered (Triggered i)
+unfolding names-below numbers-agree depth-agrees changes apply tick-of reports
+triggered-still i =
     record { names = λ m. refl; numbers = λ n b. refl; agrees = λ d. refl; none-changes = λ n. refl; stays = λ d. refl; no-tick = λ n. refl; told = λ n c r. refl; fits = tt }
-still i (Kind.StopPlaced s t l v) q =
+
+pub stop-still : (i : ℕ) (s : Side) (t : ℤ) (l : MaybePrice) (v : ℕ) → Still i (Kind.StopPlaced s t l v) (StopPlaced i s t l v)
+unfolding names-below numbers-agree depth-agrees changes apply tick-of reports
+stop-still i s t l v =
     record { names = λ m. refl; numbers = λ n b. refl; agrees = λ d. refl; none-changes = λ n. refl; stays = λ d. refl; no-tick = λ n. refl; told = λ n c r. refl; fits = tt }
-still i (Kind.Rejected why) q = absurd q
-still i (Kind.Fill t s p v w) q = absurd q
-still i (Kind.Rested s p v w) q = absurd q
-still i (Kind.Replenished s p v) q = absurd q
-still i (Kind.Cancelled v why) q = absurd q
-still i (Kind.Modified p v w) q = absurd q
-still i (Kind.MassCancelled n) q = absurd q
-still i (Kind.PhaseChanged p) q = absurd q
 
-module _ (n i : ℕ) (k : ReportKind) (q : Quiet k) (g : Gateway) where
-  abbrev e : Event
-  e = quiet-event i k
-
-  abbrev s : Still i k e
-  s = still i k q
-
+module _ (n i : ℕ) (k : ReportKind) (e : Event) (s : Still i k e) (g : Gateway) where
   quiet-judges : Ok g → (t : Told) → Tells i t g → (room : ℕ) → Judges n e room g (quiet-tests n i t room g)
   unfolding step
   quiet-judges ok t tells room =
@@ -89,25 +73,25 @@ module _ (n i : ℕ) (k : ReportKind) (q : Quiet k) (g : Gateway) where
   unfolding step
   quiet-after = rw (s .none-changes n, s .stays (g .rest .depth), s .no-tick n, append-nil (g .rest .trades), append-nil (g .rest .notices)) refl
 
-module _ (xs out : List ℕ) (n i : ℕ) (k : ReportKind) (q : Quiet k) (b : Between xs) (t : Told) (tells : Tells i t (gateway (cell xs))) (p v : ℕ) (room : p ≡ places (length out))
+module _ (xs out : List ℕ) (n i : ℕ) (k : ReportKind) (e : Event) (s : Still i k e) (b : Between xs) (t : Told) (tells : Tells i t (gateway (cell xs))) (p v : ℕ) (room : p ≡ places (length out))
     (v-is : v ≡ verdict (tests (quiet-tests n i t p (gateway (cell xs))))) where
-  whole : v ≡ verdict (call-tests n (quiet-event i k) (places (length out)) (gateway (cell xs)))
+  whole : v ≡ verdict (call-tests n e (places (length out)) (gateway (cell xs)))
   whole =
       v-is ∙ ap (λ r. verdict (tests (quiet-tests n i t r (gateway (cell xs))))) room
-      ∙ judged-is n (quiet-event i k) (places (length out)) (gateway (cell xs)) (quiet-tests n i t (places (length out)) (gateway (cell xs))) (quiet-judges n i k q (gateway (cell xs)) (b .ok) t tells (places (length out)))
+      ∙ judged-is n e (places (length out)) (gateway (cell xs)) (quiet-tests n i t (places (length out)) (gateway (cell xs))) (quiet-judges n i k e s (gateway (cell xs)) (b .ok) t tells (places (length out)))
 
-  pub quiet-refused : (v ≡ 0 → ⊥) → Gives (call (gateway (cell xs)) (deliver-event n (quiet-event i k) (places (length out)))) (record { code = v; count = 0 }) xs xs out out
-  quiet-refused = deliver-refused xs out n (quiet-event i k) (still i k q .fits) b v whole
+  pub quiet-refused : (v ≡ 0 → ⊥) → Gives (call (gateway (cell xs)) (deliver-event n e (places (length out)))) (record { code = v; count = 0 }) xs xs out out
+  quiet-refused = deliver-refused xs out n e (s .fits) b v whole
 
   module _ (z : v ≡ 0) where
-    pub quiet-flying : in-flight n (gateway (cell xs) .core) ≡ true
-    quiet-flying = all-pass _ v v-is z .0
-
     pub quiet-done : {ys zs end : List ℕ} (m : ℕ) → m ≡ told-rows t → Becomes ys (landed n (gateway (cell xs))) → Sends 0 (told-mail n i k t) (λ x. x) ys zs out end →
-        Gives (call (gateway (cell xs)) (deliver-event n (quiet-event i k) (places (length out)))) (record { code = 0; count = m }) xs zs out end
+        Gives (call (gateway (cell xs)) (deliver-event n e (places (length out)))) (record { code = 0; count = m }) xs zs out end
     quiet-done {ys} m m-is d h =
-        deliver-done xs out n (quiet-event i k) (still i k q .fits) b v whole z (told-mail n i k t)
-        (tells .mail n k ∙ sym (still i k q .told n (gateway (cell xs) .core) (gateway (cell xs) .rest))) m (m-is ∙ told-length n i k t)
-        (subst (Becomes ys) (quiet-after n i k q (gateway (cell xs))) d) h
+        deliver-done xs out n e (s .fits) b v whole z (told-mail n i k t)
+        (tells .mail n k ∙ sym (s .told n (gateway (cell xs) .core) (gateway (cell xs) .rest))) m (m-is ∙ told-length n i k t)
+        (subst (Becomes ys) (quiet-after n i k e s (gateway (cell xs))) d) h
+
+pub quiet-flying : (xs : List ℕ) (n i : ℕ) (t : Told) (p v : ℕ) → v ≡ verdict (tests (quiet-tests n i t p (gateway (cell xs)))) → v ≡ 0 → in-flight n (gateway (cell xs) .core) ≡ true
+quiet-flying xs n i t p v v-is z = all-pass (quiet-tests n i t p (gateway (cell xs))) v v-is z .0
 
 pub ruleset quiets = (quiet-refused, quiet-flying, quiet-done, arith)
