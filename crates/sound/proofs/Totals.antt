@@ -1,6 +1,6 @@
 -- What the live orders hold and how many there are, where one of them comes, changes or goes. Assumes nothing.
 use mathlib.Core.Path.{_≡_, refl, sym, ap, _∙_}
-use mathlib.Core.Bool.{true, false, cond, _&&_, true≢false}
+use mathlib.Core.Bool.{true, false, cond, _&&_}
 use mathlib.Core.Logic.{⊎-elim}
 use mathlib.Core.Option.{Option, none, some}
 use mathlib.Core.List.{List, [], _∷_, _++_}
@@ -9,9 +9,8 @@ use native.Mathlib.Omega.{arith}
 use borrow.Author.Tests.{ne-eqb}
 use lib.ListN.{length}
 use lib.Dec.{eqb}
-use lib.IntN.{ℤ, pos, _+ℤ_, _-ℤ_, +ℤ-idl, +ℤ-idr, +ℤ-assoc}
+use lib.IntN.{ℤ, pos, _+ℤ_, _-ℤ_, +ℤ-idr}
 use Rattle.orderbook.specs.declared.Side.{Side}
-use Rattle.orderbook.specs.declared.Side.the-variants.{Buy, Sell}
 use Rattle.words.specs.Words.{int, _⊖_, fit, wrap}
 use Rattle.words.proofs.Diff.{⊖-same, ⊖-add, ⊖-sub}
 use Rattle.words.proofs.Wrap.{diff-of, int-wrap, wrap-shift}
@@ -20,7 +19,7 @@ use Rattle.table.proofs.Lists.{each-map}
 use Rattle.table.proofs.Live.{same?}
 use Rattle.gateway.specs.Basics.{is-some}
 use Rattle.gateway.specs.Limits.{owner-slots}
-use Rattle.gateway.specs.Ledger.{Order, order-hold, same-side, held-by, held, fits, open-of}
+use Rattle.gateway.specs.Ledger.{Order, order-hold, same-side, held, fits, open-of}
 use Rattle.gateway.proofs.Base.{split}
 use Rattle.gateway.proofs.Holds.{side-is}
 use Rattle.gateway.proofs.Moves.{held-append}
