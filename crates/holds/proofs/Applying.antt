@@ -1,33 +1,32 @@
 -- What `apply` writes: the change of the ledger with its notices. Assumes nothing.
 use mathlib.Core.Path.{_≡_, refl, sym, ap, ap₂, subst, _∙_}
 use mathlib.Core.Bool.{Bool, true, false, cond}
-use mathlib.Core.Option.{Option, none, some}
+use mathlib.Core.Option.{none}
 use mathlib.Core.List.{List, [], _∷_, _++_, append-nil, append-assoc}
 use Prim.Native.Nat.{ℕ, _+_, _≤_, _<_}
 use native.Mathlib.Omega.{arith}
 use borrow.Author.Tests.{eq-eqb, ne-eqb}
-use lib.IntN.{ℤ, _-ℤ_}
 use lib.Dec.{eqb}
 use lib.ListN.{length, length-append, getD}
 use Rattle.words.specs.Words.{int}
 use Rattle.table.specs.declared.Found.{Found}
 use Rattle.table.specs.declared.Found.the-variants.{At, Nothing}
-use Rattle.gateway.specs.Basics.{option, is-some}
+use Rattle.gateway.specs.Basics.{is-some}
 use Rattle.gateway.specs.Limits.{owner-slots, most-notices}
 use Rattle.gateway.specs.Ledger.{Order, Ledger, Change, fill, set-leaves, reprice, retire, number-of, find, wallet-of, change, order-hold}
 use Rattle.gateway.specs.Rest.{pending}
-use Rattle.gateway.specs.Deliver.{hold-after, order-notices, change-notices}
+use Rattle.gateway.specs.Deliver.{hold-after, change-notices}
 use Rattle.gateway.specs.Deliver as Deliver
 use Rattle.gateway.specs.Calls.{Gateway}
 use Rattle.gateway.proofs.Base.{split}
 use Rattle.gateway.proofs.Moves.{unchanged, wallets-changed}
 use Rattle.store.specs.Cells as C
 use Rattle.store.specs.Layout.{cell}
-use Rattle.store.specs.View.{Store, word, order, wallet, ledger, gateway, order-room}
+use Rattle.store.specs.View.{Store, word, order, wallet, ledger, gateway}
 use Rattle.store.proofs.Listed.{listed-length}
 use Rattle.clients.proofs.Views.{wallet-at-row}
 use Rattle.orders.specs.declared.Live.{Live}
-use Rattle.orders.specs.Orders.{Sees, live-row, number-at}
+use Rattle.orders.specs.Orders.{Sees, number-at}
 use Rattle.orders.proofs.Views.{find-at}
 use Rattle.sound.specs.Sound.{State, Becomes}
 use Rattle.live.specs.Live as L

@@ -2,14 +2,14 @@
 use mathlib.Core.Path.{_≡_, refl, sym, ap, ap₂, _∙_}
 use mathlib.Core.Bool.{Bool, true, false, cond, not, _&&_, and-eq-true-iff}
 use mathlib.Core.List.{List}
-use Prim.Native.Nat.{ℕ, _+_, _<_}
+use Prim.Native.Nat.{ℕ, _+_}
 use native.Mathlib.Omega.{arith}
 use borrow.Author.Tests.{eq-eqb, ne-eqb}
 use lib.Dec.{eqb, leb}
 use lib.IntN.{ℤ, _+ℤ_, _-ℤ_}
 use Rattle.orderbook.specs.declared.Side.{Side}
 use Rattle.words.specs.Words.{int}
-use Rattle.gateway.specs.Limits.{owner-slots, most-notices}
+use Rattle.gateway.specs.Limits.{most-notices}
 use Rattle.gateway.specs.Ledger.{same-side, held, fits}
 use Rattle.gateway.proofs.Base.{split}
 use Rattle.store.specs.Cells as C

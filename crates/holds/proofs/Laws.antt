@@ -24,7 +24,7 @@ use Rattle.sound.specs.Sound.{Becomes}
 use Rattle.live.specs.Live.{with-ledger}
 use Rattle.holds.specs.declared.Move.{Move}
 use Rattle.holds.specs.declared.Shift.{Shift}
-use Rattle.holds.specs.Holds.{change-of, moved, Part, part-of, paper-order, part, Weighs, shift-fits, is-one, pair-fits}
+use Rattle.holds.specs.Holds.{change-of, moved, Part, part-of, paper-order, part, Weighs, shift-fits, pair-fits}
 use Rattle.holds.proofs.Totals as Totals
 use Rattle.holds.proofs.Totals.{part-fits, both-fit, paper-changed}
 use Rattle.holds.proofs.Weighing.{of, notices-two}

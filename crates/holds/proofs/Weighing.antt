@@ -5,16 +5,16 @@ use mathlib.Core.Option.{Option, none, some, Option·map}
 use mathlib.Core.List.{List, [], _∷_, _++_}
 use Prim.Native.Nat.{ℕ, _+_, _≤_, _<_}
 use native.Mathlib.Omega.{arith}
-use lib.IntN.{ℤ, pos, _-ℤ_}
+use lib.IntN.{pos, _-ℤ_}
 use lib.Dec.{eqb}
-use lib.ListN.{length, getD}
+use lib.ListN.{length}
 use Rattle.words.specs.Words.{int, modulus}
 use Rattle.words.proofs.Int.{int-zero}
 use Rattle.table.specs.declared.Found.{Found}
 use Rattle.table.specs.declared.Found.the-variants.{At, Nothing}
 use Rattle.gateway.specs.Basics.{option, is-some}
 use Rattle.gateway.specs.Limits.{owner-slots}
-use Rattle.gateway.specs.Ledger.{Order, Ledger, Change, number-of, find, paper, wallet-of, hold, order-hold}
+use Rattle.gateway.specs.Ledger.{Order, Ledger, number-of, find, paper, wallet-of, hold, order-hold}
 use Rattle.gateway.specs.Deliver.{hold-after, order-notices, change-notices}
 use Rattle.gateway.specs.Deliver as Deliver
 use Rattle.gateway.specs.Entry.{is-zero}
@@ -23,7 +23,7 @@ use Rattle.gateway.proofs.Base.{split}
 use Rattle.gateway.proofs.Moves.{Of, fills, sets, reprices, retires, names}
 use Rattle.store.specs.Cells as C
 use Rattle.store.specs.Layout.{cell}
-use Rattle.store.specs.View.{Store, word, side, maybe-price, order, wallet, ledger, gateway, order-room}
+use Rattle.store.specs.View.{Store, side, order, wallet, ledger, gateway, order-room}
 use Rattle.clients.proofs.Views.{wallet-at-row}
 use Rattle.orders.specs.declared.Live.{Live}
 use Rattle.orders.specs.Orders.{Sees, live-row}
@@ -34,7 +34,7 @@ use Rattle.live.proofs.Notices.{stays, differs}
 use Rattle.holds.specs.declared.Move.{Move}
 use Rattle.holds.specs.declared.Move.the-variants.{Fill, Leaves, Reprice, Retire}
 use Rattle.holds.specs.declared.Shift.{Shift}
-use Rattle.holds.specs.Holds.{change-of, part-of, paper-order, part, Weighs, nothing, hold-after-word, settles, notice-count, row-shift}
+use Rattle.holds.specs.Holds.{change-of, part-of, paper-order, Weighs, nothing, hold-after-word, settles, notice-count, row-shift}
 
 pub of : (n : ℕ) (x : Move) → Of n (change-of n x)
 of n (Fill p q v) = fills (int p) q v

@@ -1,21 +1,23 @@
 -- Code 7 for the ledger: where every wallet fits, a change of one account's orders of a side is judged by that one total. Assumes nothing.
-use mathlib.Core.Path.{_≡_, refl, sym, ap, _∙_}
-use mathlib.Core.Bool.{Bool, true, false, cond, _&&_, and-eq-true-iff}
-use mathlib.Core.Option.{Option, none, some}
+use mathlib.Core.Path.{_≡_, refl, sym, ap, subst, _∙_}
+use mathlib.Core.Bool.{true, false, cond, _&&_, and-true, false≢true}
+use mathlib.Core.Logic.{⊎-elim}
+use mathlib.Core.Option.{none}
 use mathlib.Core.List.{List, [], _∷_, _++_}
 use Prim.Native.Nat.{ℕ, _<_}
+use borrow.Author.Tests.{eq-eqb}
 use lib.ListN.{getD}
 use lib.IntN.{ℤ, pos, _+ℤ_, _-ℤ_, +ℤ-idr}
-use Rattle.accounts.specs.declared.Funds.{Funds}
 use Rattle.orderbook.specs.declared.Side.{Side}
-use Rattle.orderbook.specs.declared.Side.the-variants.{Buy, Sell}
 use Rattle.table.specs.Live.{Each}
 use Rattle.table.proofs.Lists.{each-map}
+use Rattle.table.proofs.Live.{same?}
 use Rattle.words.specs.Words.{int}
 use Rattle.gateway.specs.Basics.{is-some}
 use Rattle.gateway.specs.Limits.{owner-slots}
-use Rattle.gateway.specs.Ledger.{Order, Ledger, with-orders, same-side, held, fits, wallet-fits, holds-fit}
-use Rattle.gateway.proofs.Holds.{holds-each, holds-touched, side-fits}
+use Rattle.gateway.specs.Ledger.{Order, Ledger, with-orders, same-side, held, fits, holds-fit}
+use Rattle.gateway.proofs.Base.{split}
+use Rattle.gateway.proofs.Holds.{holds-each, side-fits, Other, holds-listed}
 use Rattle.store.specs.Cells as C
 use Rattle.store.specs.View.{Store, ledger}
 use Rattle.sound.specs.Sound.{held-cell, Held}
@@ -50,31 +52,18 @@ module _ {a : ℕ} {z : Side} {old new os ps : List Order} (s : Swap a z old new
       ∙ no-change (held a y os) (held-opposite a y old (each-map (λ o q. ap (same-side y) (q .1) ∙ n) old (s .old-mine)))
       (held-opposite a y new (each-map (λ o q. ap (same-side y) (q .1) ∙ n) new (s .new-mine)))
 
-wallet-same : (b : ℕ) (w : Option Funds) (os ps : List Order) → ((y : Side) → held b y ps ≡ held b y os) → wallet-fits b w ps ≡ wallet-fits b w os
-wallet-same b none os ps h = refl
-wallet-same b (some f) os ps h = rw (h Buy, h Sell) refl
-
--- the touched wallet, by its one total that changed
-touched-fits : (a : ℕ) (z : Side) (w : Option Funds) (os ps : List Order) (t : ℤ) → held a z ps ≡ t → ((y : Side) → same-side y z ≡ false → held a y ps ≡ held a y os) →
-    wallet-fits a w os ≡ true → wallet-fits a w ps ≡ cond (is-some w) (fits t) true
-touched-fits a z none os ps t e h k = refl
-touched-fits a Buy (some f) os ps t e h k =
-    let u = and-eq-true-iff (fits (held a Buy os)) (fits (held a Sell os)) .0 k in
-    rw (e, h Sell refl, u .1) (and-true (fits t))
-  where
-    and-true : (b : Bool) → (b && true) ≡ b
-    and-true true = refl
-    and-true false = refl
-touched-fits a Sell (some f) os ps t e h k =
-    let u = and-eq-true-iff (fits (held a Buy os)) (fits (held a Sell os)) .0 k in
-    rw (e, h Buy refl, u .0) refl
-
 -- an account without a wallet always passes
 pub holds-swap : (l : Ledger) {a : ℕ} {z : Side} {old new ps : List Order} → Swap a z old new (l .orders) ps → holds-fit l ≡ true →
     holds-fit (with-orders ps l) ≡ cond (is-some (getD (l .wallets) a none)) (fits (held a z (l .orders) -ℤ held a z old +ℤ held a z new)) true
 holds-swap l {a} {z} {old} {new} {ps} s h =
-    holds-touched (with-orders ps l) a (λ b n. wallet-same b (getD (l .wallets) b none) (l .orders) ps (others-stay s b n) ∙ holds-each l h b)
-    ∙ touched-fits a z (getD (l .wallets) a none) (l .orders) ps _ (swap-held s a z) (side-stays s) (holds-each l h a)
+    split (λ b. (is-some (getD (l .wallets) a none) ≡ b) → holds-fit (with-orders ps l) ≡ cond b (fits (held a z (l .orders) -ℤ held a z old +ℤ held a z new)) true) (is-some (getD (l .wallets) a none))
+    (λ _ e. holds-listed l (with-orders ps l) ((a, z) ∷ []) h (λ b. refl) (e, tt) (λ b y _ o. other b y (o .0)) ∙ and-true _ ∙ ap fits (swap-held s a z))
+    (λ _ e. holds-listed l (with-orders ps l) [] h (λ b. refl) tt (λ b y w _. others-stay s b (λ q. false≢true (sym e ∙ ap (λ c. is-some (getD (l .wallets) c none)) (sym q) ∙ w)) y)) refl
+  where
+    other : (b : ℕ) (y : Side) → Other b y (a, z) → held b y ps ≡ held b y (l .orders)
+    other b y o =
+        ⊎-elim (λ (q : b ≡ a). subst (λ c. held c y ps ≡ held c y (l .orders)) (sym q) (side-stays s y (ap (λ c. c && same-side y z) (sym (eq-eqb a b (sym q))) ∙ o)))
+        (λ n. others-stay s b n y) (same? b a)
 
 -- ---- the stored total is exact
 

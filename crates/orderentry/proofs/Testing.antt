@@ -28,7 +28,7 @@ use Rattle.accounts.specs.declared.Funds.{Funds}
 use Rattle.le.proofs.Laws.{lt-or-le}
 use Rattle.words.specs.declared.Amount.{Amount}
 use Rattle.words.specs.declared.Amount.the-variants.{Fits, TooBig}
-use Rattle.words.specs.Words.{int, modulus, fit, amount, _⊖_}
+use Rattle.words.specs.Words.{int, modulus, amount, _⊖_}
 use Rattle.words.proofs.Int.{low, high, int-zero, int-of}
 use Rattle.wallet.specs.declared.Wallet.{Wallet}
 use Rattle.wallet.specs.Wallet as W

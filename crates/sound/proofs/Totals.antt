@@ -9,7 +9,7 @@ use native.Mathlib.Omega.{arith}
 use borrow.Author.Tests.{ne-eqb}
 use lib.ListN.{length}
 use lib.Dec.{eqb}
-use lib.IntN.{ℤ, pos, _+ℤ_, _-ℤ_, +ℤ-idl, +ℤ-idr, +ℤ-assoc}
+use lib.IntN.{ℤ, pos, _+ℤ_, _-ℤ_, +ℤ-idr}
 use Rattle.orderbook.specs.declared.Side.{Side}
 use Rattle.words.specs.Words.{int, _⊖_, fit, wrap}
 use Rattle.words.proofs.Diff.{⊖-same, ⊖-add, ⊖-sub}
@@ -19,7 +19,7 @@ use Rattle.table.proofs.Lists.{each-map}
 use Rattle.table.proofs.Live.{same?}
 use Rattle.gateway.specs.Basics.{is-some}
 use Rattle.gateway.specs.Limits.{owner-slots}
-use Rattle.gateway.specs.Ledger.{Order, order-hold, same-side, held-by, held, fits, open-of}
+use Rattle.gateway.specs.Ledger.{Order, order-hold, same-side, held, fits, open-of}
 use Rattle.gateway.proofs.Base.{split}
 use Rattle.gateway.proofs.Holds.{side-is}
 use Rattle.gateway.proofs.Moves.{held-append}
