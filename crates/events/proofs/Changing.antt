@@ -27,7 +27,7 @@ use Rattle.gateway.specs.Calls.{Gateway, call, deliver-event}
 use Rattle.gateway.proofs.Feed.{Ascending, Acts, off-acts, modified-acts}
 use Rattle.gateway.proofs.Depths.{cancelled-fits, modified-fits}
 use Rattle.store.specs.Layout.{cell}
-use Rattle.store.specs.View.{depth, gateway}
+use Rattle.store.specs.View.{word, ledger, depth, gateway}
 use Rattle.sound.specs.Sound.{Becomes}
 use Rattle.mailbox.specs.Mailbox.{places}
 use Rattle.marketdata.specs.Marketdata.{with-depth, Roomy}
@@ -43,11 +43,14 @@ use Rattle.delivery.proofs.Calls.{judged-is, deliver-refused, deliver-done}
 use Rattle.holds.specs.declared.Move.{Move}
 use Rattle.holds.specs.declared.Move.the-variants.{Retire, Reprice}
 use Rattle.holds.specs.declared.Shift.{Shift}
-use Rattle.holds.specs.Holds.{change-of, moved, Weighs}
+use Rattle.holds.specs.Holds.{change-of, moved, Weighs, shift-fits}
 use Rattle.holds.proofs.Laws.{one-fits}
 use Rattle.shows.proofs.Judged.{few-after}
+use Rattle.store.specs.Cells as C
+use Rattle.shows.specs.Shows.{touched-few}
+use Rattle.gateway.specs.Limits.{most-notices}
 use Rattle.events.specs.Events.{changed-tests, in-book, CanChange, Repriced}
-use Rattle.events.proofs.Parts.{trades-few, notices-come, rows-are, all-pass, touched-roomy, few-noticed}
+use Rattle.events.proofs.Parts.{trades-few, notices-come, rows-are, all-pass, touched-roomy, few-noticed, few-is, same-verdict, parts}
 
 -- x happens to the live order i, and f where it rests
 record Changing (n i : ℕ) (x : Move) (f : D.Resting → Depth → Depth) (k : ReportKind) (e : Event) : Type 0 where
@@ -183,4 +186,12 @@ module _ (xs : List ℕ) {ys : List ℕ} (n i : ℕ) (x : Move) (f : D.Resting �
     pub in-book-becomes : {us : List ℕ} → Becomes us (landed n (gateway (cell zs))) → Becomes us (in-book n i x f (gateway (cell xs)))
     in-book-becomes u = then-becomes (landed n) (then-becomes (with-depth (where-resting i f)) a d) u
 
-pub ruleset changing = (cancelled-refused, cancelled-done, can-cancel, modified-refused, can-modify, modified-done, still-roomy, still-flying, in-book-becomes, arith)
+-- ---- the judge
+
+pub changing-judged : (xs : List ℕ) (n i : ℕ) (h : Shift) (t : Told) (room k v : ℕ) (f a d w : Bool) → f ≡ in-flight n (gateway (cell xs) .core) → a ≡ shift-fits h (ledger (cell xs)) →
+    d ≡ touched-few i (depth (cell xs)) → w ≡ leb (h .notices + word (cell xs) C.notice-rows) most-notices → k ≡ told-rows t →
+    v ≡ verdict (tests (record { flying = f; below = true; numbers = leb i n; agrees = true; holds = a; levels = true; depth = d; trades = true; notices = w; room = leb k room })) →
+    v ≡ verdict (tests (changed-tests n i h t room (gateway (cell xs))))
+changing-judged xs n i h t room k v f a d w f-is a-is d-is w-is k-is e = rw (f-is, a-is, d-is, few-is xs h w w-is, k-is) at e
+
+pub ruleset changing = (cancelled-refused, cancelled-done, can-cancel, modified-refused, can-modify, modified-done, still-roomy, still-flying, in-book-becomes, changing-judged, parts, arith)

@@ -63,8 +63,15 @@ notices-come {i} {x} {h} g w =
 pub rows-are : (n i room : ℕ) (k : ReportKind) (t : Told) (g : Gateway) → Tells i t g → leb (told-rows t) room ≡ leb (length (tell-owner n i k (g .core) (g .rest))) room
 rows-are n i room k t g s = ap (λ l. leb l room) (told-length n i k t ∙ ap length (s .mail n k))
 
-pub weighed : {i : ℕ} {x : Move} {h : Shift} {g : Gateway} → Weighs i x h g → Weighed h
-weighed w = record { inside = w .owned .inside; few = omega (arith, weighs-few w) }
+pub weighed : (xs : List ℕ) (i : ℕ) (x : Move) (h : Shift) → Weighs i x h (gateway (cell xs)) → Weighed h (ledger (cell xs))
+weighed xs i x h w = record { owned = w .owned; few = omega (arith, weighs-few w) }
+
+-- each test as the code makes it
+pub few-is : (xs : List ℕ) (h : Shift) (r : Bool) → r ≡ leb (h .notices + word (cell xs) C.notice-rows) most-notices → r ≡ few-notices h (gateway (cell xs))
+few-is xs h r e = e ∙ ap (λ k. leb (h .notices + k) most-notices) (sym (notices-count (cell xs)))
+
+pub same-verdict : (t u : T.Tests) (v : ℕ) → v ≡ verdict (tests t) → t ≡ u → v ≡ verdict (tests u)
+same-verdict t u v e p = e ∙ ap (λ x. verdict (tests x)) p
 
 -- a verdict of 0
 pub all-pass : (t : T.Tests) (v : ℕ) → v ≡ verdict (tests t) → v ≡ 0 → Pass (tests t)
@@ -88,4 +95,4 @@ touched-roomy g ok i f acts h =
 pub few-noticed : {i : ℕ} {x : Move} {h : Shift} (g : Gateway) → Weighs i x h g → few-notices h g ≡ true → length (change-notices (change-of i x) (g .core .ledger)) + length (g .rest .notices) ≤ most-notices
 few-noticed {h = h} g w e = omega (arith, w .noticed, leb-true (h .notices + length (g .rest .notices)) most-notices e)
 
-pub ruleset parts = (trades-few, notices-stay, notices-come, rows-are, weighed, told-room, noticed-room, arith)
+pub ruleset parts = (trades-few, notices-stay, notices-come, rows-are, weighed, few-is, told-room, noticed-room, arith)

@@ -24,7 +24,7 @@ use Rattle.gateway.specs.Fits.{EventFits}
 use Rattle.gateway.specs.Invariant.{Ok}
 use Rattle.gateway.specs.Calls.{Gateway, call, deliver-event}
 use Rattle.store.specs.Layout.{cell}
-use Rattle.store.specs.View.{Store, gateway, in-slot}
+use Rattle.store.specs.View.{Store, word, ledger, gateway, in-slot}
 use Rattle.sound.specs.Sound.{State, Becomes}
 use Rattle.mailbox.specs.Mailbox.{places}
 use Rattle.outcome.specs.declared.Reply.{Reply}
@@ -40,10 +40,12 @@ use Rattle.delivery.proofs.Calls.{judged-is, deliver-refused, deliver-done}
 use Rattle.holds.specs.declared.Move.{Move}
 use Rattle.holds.specs.declared.Move.the-variants.{Retire}
 use Rattle.holds.specs.declared.Shift.{Shift}
-use Rattle.holds.specs.Holds.{change-of, moved, Weighs}
+use Rattle.holds.specs.Holds.{change-of, moved, Weighs, shift-fits}
 use Rattle.holds.proofs.Laws.{one-fits}
+use Rattle.store.specs.Cells as C
+use Rattle.gateway.specs.Limits.{most-notices}
 use Rattle.events.specs.Events.{flight-places, order-refused, retired, CanRetire, command-refused}
-use Rattle.events.proofs.Parts.{trades-few, notices-stay, notices-come, all-pass, few-noticed}
+use Rattle.events.proofs.Parts.{trades-few, notices-stay, notices-come, all-pass, few-noticed, few-is, same-verdict, parts}
 use borrow.Author.Tests.{eq-eqb, ne-eqb, le-leb, eqb-true, lt-leb}
 use Rattle.gateway.specs.Core as CoreFlight
 use Rattle.pending.specs.declared.Flight as Flight
@@ -208,4 +210,17 @@ pub own-refusal : (xs out : List ℕ) {ys end : List ℕ} (n i : ℕ) (why : Rej
     Gives (call (gateway (cell xs)) (deliver-event n (Rejected i why) (places (length out)))) r xs ys out end
 own-refusal xs out {ys} {end} n i why r e h = subst (λ (k : ℕ). Gives (call (gateway (cell xs)) (deliver-event n (Rejected k why) (places (length out)))) r xs ys out end) (sym e) h
 
-pub ruleset refusing = (order-not, order-done, can-retire, retired-flying, retired-becomes, earlier, later, command-not, command-flying, command-done, own-refusal, arith)
+-- ---- the judges
+
+pub order-judged : (xs : List ℕ) (n : ℕ) (h : Shift) (t : Told) (room k v : ℕ) (f a w : Bool) → f ≡ in-flight n (gateway (cell xs) .core) → a ≡ shift-fits h (ledger (cell xs)) →
+    w ≡ leb (h .notices + word (cell xs) C.notice-rows) most-notices → k ≡ told-rows t →
+    v ≡ verdict (tests (record { flying = f; below = true; numbers = true; agrees = true; holds = a; levels = true; depth = true; trades = true; notices = w; room = leb k room })) →
+    v ≡ verdict (tests (order-refused n h t room (gateway (cell xs))))
+order-judged xs n h t room k v f a w f-is a-is w-is k-is e = rw (f-is, a-is, few-is xs h w w-is, k-is) at e
+
+pub command-judged : (xs : List ℕ) (n i : ℕ) (t : Told) (room k v : ℕ) (f m : Bool) → f ≡ in-flight n (gateway (cell xs) .core) → m ≡ (leb i n && not (flight-places n (cell xs))) → k ≡ told-rows t →
+    v ≡ verdict (tests (record { flying = f; below = true; numbers = m; agrees = true; holds = true; levels = true; depth = true; trades = true; notices = true; room = leb k room })) →
+    v ≡ verdict (tests (command-refused n i t room (cell xs)))
+command-judged xs n i t room k v f m f-is m-is k-is e = rw (f-is, m-is, k-is) at e
+
+pub ruleset refusing = (order-not, order-done, can-retire, retired-flying, retired-becomes, earlier, later, command-not, command-flying, command-done, own-refusal, order-judged, command-judged, parts, arith)

@@ -39,8 +39,9 @@ use Rattle.reporting.proofs.Laws.{told-length}
 use Rattle.delivery.specs.Delivery.{tests, call-tests, Judges, landed, after}
 use Rattle.delivery.proofs.Calls.{judged-is, deliver-refused, deliver-done}
 use Rattle.shows.proofs.Judged.{few-after}
+use Rattle.shows.specs.Shows.{touched-few}
 use Rattle.events.specs.Events.{replenished-tests, reshown, CanReshow}
-use Rattle.events.proofs.Parts.{trades-few, notices-stay, rows-are, all-pass}
+use Rattle.events.proofs.Parts.{trades-few, notices-stay, rows-are, all-pass, same-verdict, parts}
 
 module _ (n i : ℕ) (z : Side) (p : ℤ) (v : ℕ) (g : Gateway) where
   abbrev e : Event
@@ -107,4 +108,12 @@ module _ (xs : List ℕ) {ys : List ℕ} (n i v : ℕ) (can : CanReshow n i v (g
   pub reshown-becomes : {us : List ℕ} → Becomes us (landed n (gateway (cell ys))) → Becomes us (reshown n i v (gateway (cell xs)))
   reshown-becomes u = then-becomes (landed n) a u
 
-pub ruleset replenishing = (can-reshow, replenished-refused, replenished-done, reshown-flying, reshown-becomes, arith)
+-- ---- the judge
+
+pub replenishing-judged : (xs : List ℕ) (n i y : ℕ) (t : Told) (room k v : ℕ) (f l d : Bool) → f ≡ in-flight n (gateway (cell xs) .core) →
+    l ≡ levels-fit (where-resting i (replenished y) (depth (cell xs)) .resting) → d ≡ touched-few i (depth (cell xs)) → k ≡ told-rows t →
+    v ≡ verdict (tests (record { flying = f; below = true; numbers = leb i n; agrees = true; holds = true; levels = l; depth = d; trades = true; notices = true; room = leb k room })) →
+    v ≡ verdict (tests (replenished-tests n i y t room (gateway (cell xs))))
+replenishing-judged xs n i y t room k v f l d f-is l-is d-is k-is e = rw (f-is, l-is, d-is, k-is) at e
+
+pub ruleset replenishing = (can-reshow, replenished-refused, replenished-done, reshown-flying, reshown-becomes, replenishing-judged, parts, arith)

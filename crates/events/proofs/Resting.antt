@@ -16,7 +16,7 @@ use Rattle.protocol.specs.declared.TradeTick.{TradeTick}
 use Rattle.words.specs.Words.{int}
 use Rattle.gateway.specs.Ledger.{Change, reprice, change, changes, step}
 use Rattle.gateway.specs.Core.{Core, names-below, numbers-agree, drop-below, in-flight}
-use Rattle.gateway.specs.Depth.{Depth, apply, depth-agrees, find-resting, add}
+use Rattle.gateway.specs.Depth.{Depth, apply, depth-agrees, find-resting, add, levels-fit, depth-few}
 use Rattle.gateway.specs.Depth as D
 use Rattle.gateway.specs.Rest.{Rest, pending, with-delivered}
 use Rattle.gateway.specs.Deliver.{tell-owner, reports, tick-of, change-notices}
@@ -40,10 +40,11 @@ use Rattle.delivery.proofs.Calls.{judged-is, deliver-refused, deliver-done}
 use Rattle.holds.specs.declared.Move.{Move}
 use Rattle.holds.specs.declared.Move.the-variants.{Leaves}
 use Rattle.holds.specs.declared.Shift.{Shift}
-use Rattle.holds.specs.Holds.{change-of, moved, Weighs}
+use Rattle.holds.specs.Holds.{change-of, moved, Weighs, shift-fits}
 use Rattle.holds.proofs.Laws.{one-fits}
+use Rattle.gateway.specs.Limits.{most-notices}
 use Rattle.events.specs.Events.{rested-tests, joined, CanJoin, Stands}
-use Rattle.events.proofs.Parts.{trades-few, notices-come, rows-are, all-pass, few-noticed}
+use Rattle.events.proofs.Parts.{trades-few, notices-come, rows-are, all-pass, few-noticed, few-is, same-verdict, parts}
 use mathlib.Core.Option.{Option, none, some}
 use borrow.Author.Tests.{leb-true}
 use Rattle.protocol.specs.Codes.{sideCode}
@@ -149,4 +150,13 @@ pub stands : (z : Side) (y : ℤ) (q v s p : ℕ) → s ≡ sideCode z → int p
 stands z y q v s p s-is p-is f =
     record { is = λ i. ap₂ (λ (a : Side) (b : ℤ). record { number = i; side = a; price = b; visible = v; leaves = q }) (ap side s-is ∙ side-back z) p-is; leaves-is = refl; qty-fits = f }
 
-pub ruleset resting-laws = (rested-refused, can-join, rested-done, can-add, joined-flying, joined-becomes, stands, arith)
+-- ---- the judge
+
+pub resting-judged : (xs : List ℕ) (n i : ℕ) (o : Words.Resting) (h : Shift) (t : Told) (room k v : ℕ) (f b a l d w : Bool) → f ≡ in-flight n (gateway (cell xs) .core) →
+    b ≡ not (is-some (find-resting i (depth (cell xs) .resting))) → a ≡ shift-fits h (ledger (cell xs)) → l ≡ levels-fit (add (resting-of i o) (depth (cell xs)) .resting) →
+    d ≡ depth-few (add (resting-of i o) (depth (cell xs))) → w ≡ leb (h .notices + word (cell xs) C.notice-rows) most-notices → k ≡ told-rows t →
+    v ≡ verdict (tests (record { flying = f; below = true; numbers = leb i n; agrees = b; holds = a; levels = l; depth = d; trades = true; notices = w; room = leb k room })) →
+    v ≡ verdict (tests (rested-tests n (resting-of i o) h t room (gateway (cell xs))))
+resting-judged xs n i o h t room k v f b a l d w f-is b-is a-is l-is d-is w-is k-is e = rw (f-is, b-is, a-is, l-is, d-is, few-is xs h w w-is, k-is) at e
+
+pub ruleset resting-laws = (rested-refused, can-join, rested-done, can-add, joined-flying, joined-becomes, stands, resting-judged, parts, arith)

@@ -34,7 +34,7 @@ use Rattle.reporting.proofs.Laws.{told-length}
 use Rattle.delivery.specs.Delivery.{tests, call-tests, Judges, landed, after}
 use Rattle.delivery.proofs.Calls.{judged-is, deliver-refused, deliver-done}
 use Rattle.events.specs.Events.{Still, quiet-tests}
-use Rattle.events.proofs.Parts.{trades-few, notices-stay, rows-are, all-pass}
+use Rattle.events.proofs.Parts.{trades-few, notices-stay, rows-are, all-pass, same-verdict, parts}
 
 pub accepted-still : (i : ℕ) → Still i Kind.Accepted (Accepted i)
 unfolding names-below numbers-agree depth-agrees changes apply tick-of reports
@@ -94,4 +94,11 @@ module _ (xs out : List ℕ) (n i : ℕ) (k : ReportKind) (e : Event) (s : Still
 pub quiet-flying : (xs : List ℕ) (n i : ℕ) (t : Told) (p v : ℕ) → v ≡ verdict (tests (quiet-tests n i t p (gateway (cell xs)))) → v ≡ 0 → in-flight n (gateway (cell xs) .core) ≡ true
 quiet-flying xs n i t p v v-is z = all-pass (quiet-tests n i t p (gateway (cell xs))) v v-is z .0
 
-pub ruleset quiets = (quiet-refused, quiet-flying, quiet-done, arith)
+-- ---- the judge
+
+pub quiet-judged : (xs : List ℕ) (n i : ℕ) (t : Told) (room k v : ℕ) (f : Bool) → f ≡ in-flight n (gateway (cell xs) .core) → k ≡ told-rows t →
+    v ≡ verdict (tests (record { flying = f; below = true; numbers = leb i n; agrees = true; holds = true; levels = true; depth = true; trades = true; notices = true; room = leb k room })) →
+    v ≡ verdict (tests (quiet-tests n i t room (gateway (cell xs))))
+quiet-judged xs n i t room k v f f-is k-is e = rw (f-is, k-is) at e
+
+pub ruleset quiets = (quiet-refused, quiet-flying, quiet-done, quiet-judged, accepted-still, triggered-still, stop-still, parts, arith)

@@ -1,5 +1,5 @@
 -- Events of one order: the tests in the code's words, what is asked before they are applied, and the gateway after them.
-use Prim.Native.Nat.{ℕ, _+_, _≤_, _<_}
+use Prim.Native.Nat.{ℕ, _+_, _≤_}
 use mathlib.Core.Path.{_≡_}
 use mathlib.Core.Bool.{Bool, true, not, _&&_}
 use mathlib.Core.Option.{none}
@@ -12,8 +12,8 @@ use Rattle.orderbook.specs.declared.Event.{Event}
 use Rattle.protocol.specs.declared.ReportKind.{ReportKind}
 use Rattle.words.specs.Words.{int}
 use Rattle.gateway.specs.Basics.{is-some}
-use Rattle.gateway.specs.Limits.{owner-slots, most-notices}
-use Rattle.gateway.specs.Ledger.{changes}
+use Rattle.gateway.specs.Limits.{most-notices}
+use Rattle.gateway.specs.Ledger.{Ledger, changes}
 use Rattle.gateway.specs.Core.{Core, in-flight, names-below, numbers-agree}
 use Rattle.gateway.specs.Depth.{Resting, Depth, find-resting, where-resting, add, apply, depth-agrees, levels-fit, depth-few}
 use Rattle.gateway.specs.Rest.{Rest}
@@ -31,7 +31,7 @@ use Rattle.delivery.specs.Delivery.{landed}
 use Rattle.holds.specs.declared.Move.{Move}
 use Rattle.holds.specs.declared.Move.the-variants.{Retire}
 use Rattle.holds.specs.declared.Shift.{Shift}
-use Rattle.holds.specs.Holds.{change-of, moved, shift-fits}
+use Rattle.holds.specs.Holds.{change-of, moved, Owned, shift-fits}
 use Rattle.shows.specs.Shows.{touched-few}
 
 -- ---- nothing but the run of numbers moves
@@ -92,8 +92,8 @@ pub record CanChange (n i : ℕ) (x : Move) (f : Resting → Depth → Depth) (g
   pub room : Roomy (where-resting i f (g .rest .depth))
 
 -- what is known of every shift that was weighed
-pub record Weighed (h : Shift) : Type 0 where
-  pub inside : h .account < owner-slots
+pub record Weighed (h : Shift) (l : Ledger) : Type 0 where
+  pub owned : Owned h l
   pub few : h .notices ≤ 4
 
 -- the word of a price, and that price and quantity fit

@@ -117,7 +117,7 @@ pub fn stop_placed(
 // ---- a live order changes, and its level where it rests
 
 fn judge_changed(m: &[u8], n: u64, id: u64, at: Found, h: Shift, t: Told, room: usize) -> u64
-    requires { ⌜ Between (now m) × Sees C.order-resting resting D.resting-number (cell (now m)) id at × P.Weighed h ⌝ }
+    requires { ⌜ Between (now m) × Sees C.order-resting resting D.resting-number (cell (now m)) id at × P.Weighed h (ledger (cell (now m))) ⌝ }
     ensures { λ r. ⌜ r ≡ verdict (Delivery.tests (P.changed-tests n id h t room (gateway (cell (now (m .entry)))))) ⌝ }
 {
     let flying = delivery::is_flying(m, n);
@@ -331,7 +331,7 @@ fn judge_rested(
     t: Told,
     room: usize,
 ) -> u64
-    requires { ⌜ Between (now m) × Sees C.order-resting resting D.resting-number (cell (now m)) id at × P.Weighed h ⌝ }
+    requires { ⌜ Between (now m) × Sees C.order-resting resting D.resting-number (cell (now m)) id at × P.Weighed h (ledger (cell (now m))) ⌝ }
     ensures { λ r. ⌜ r ≡ verdict (Delivery.tests (P.rested-tests n (resting-of id o) h t room (gateway (cell (now (m .entry)))))) ⌝ }
 {
     let flying = delivery::is_flying(m, n);
@@ -410,7 +410,7 @@ pub fn rested(
 // ---- a command is refused
 
 fn judge_order(m: &[u8], n: u64, h: Shift, t: Told, room: usize) -> u64
-    requires { ⌜ Between (now m) × P.Weighed h ⌝ }
+    requires { ⌜ Between (now m) × P.Weighed h (ledger (cell (now m))) ⌝ }
     ensures { λ r. ⌜ r ≡ verdict (Delivery.tests (P.order-refused n h t room (gateway (cell (now (m .entry)))))) ⌝ }
 {
     let flying = delivery::is_flying(m, n);

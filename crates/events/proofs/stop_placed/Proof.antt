@@ -1,25 +1,19 @@
+use Rattle.events.proofs.Stills.{quiets}
 use borrow.Author.Needs.{needs}
 use Rattle.events.proofs.stop_placed.Statement.{statement}
 use Rattle.events.proofs.stop_placed.Tie as tie
-use Rattle.events.proofs.stop_placed.Reads as reads
-use Rattle.events.proofs.stop_placed.Lts as lts
-use Rattle.events.proofs.quiet.Reads as quiet-reads
 
--- src/lib.rt:114:5
 quiet-requires : tie.Need-quiet-requires
 quiet-requires c κs = search needs
 
--- src/lib.rt:95:1
 same-length : tie.Need-same-length
 same-length c = search needs
 
--- src/lib.rt:95:1
 same-length-2 : tie.Need-same-length-2
 same-length-2 c = search needs
 
--- src/lib.rt:95:1
 returns : tie.Need-returns
-returns c = search laws
+returns c = search quiets
 
 pub stop-placed-spec : {M : Type 1} → statement M
 stop-placed-spec = tie.close (tie.spec quiet-requires same-length same-length-2 returns)
