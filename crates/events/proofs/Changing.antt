@@ -2,7 +2,7 @@
 use mathlib.Core.Path.{_≡_, refl, sym, ap, ap₂, subst, _∙_}
 use mathlib.Core.Bool.{Bool, true}
 use mathlib.Core.List.{List, [], _∷_, _++_, append-nil}
-use Prim.Native.Nat.{ℕ, _+_, _≤_}
+use Prim.Native.Nat.{ℕ, _+_, _≤_, _<_}
 use native.Mathlib.Omega.{arith}
 use lib.Dec.{leb}
 use lib.IntN.{ℤ}
@@ -14,7 +14,8 @@ use Rattle.orderbook.specs.declared.Event.the-variants.{Cancelled, Modified}
 use Rattle.protocol.specs.declared.ReportKind.{ReportKind}
 use Rattle.protocol.specs.declared.ReportKind.the-variants as Kind
 use Rattle.protocol.specs.declared.TradeTick.{TradeTick}
-use Rattle.words.specs.Words.{int}
+use Rattle.words.specs.Words.{int, modulus}
+use Rattle.clients.proofs.Laws.{word-fits}
 use Rattle.gateway.specs.Ledger.{Change, reprice, change, changes, step}
 use Rattle.gateway.specs.Core.{Core, names-below, numbers-agree, drop-below, in-flight}
 use Rattle.gateway.specs.Depth.{Depth, apply, depth-agrees, take-off, modified, where-resting, levels-fit}
@@ -50,7 +51,7 @@ use Rattle.store.specs.Cells as C
 use Rattle.shows.specs.Shows.{touched-few}
 use Rattle.gateway.specs.Limits.{most-notices}
 use Rattle.events.specs.Events.{changed-tests, in-book, CanChange, Repriced}
-use Rattle.events.proofs.Parts.{trades-few, notices-come, rows-are, all-pass, touched-roomy, few-noticed, few-is, same-verdict, parts}
+use Rattle.events.proofs.Parts.{trades-few, notices-come, rows-are, all-pass, touched-roomy, few-noticed, told-room, few-is, same-verdict, parts}
 
 -- x happens to the live order i, and f where it rests
 record Changing (n i : ℕ) (x : Move) (f : D.Resting → Depth → Depth) (k : ReportKind) (e : Event) : Type 0 where
@@ -139,6 +140,9 @@ module _ {n i : ℕ} {x : Move} {f : D.Resting → Depth → Depth} {k : ReportK
           room = touched-roomy (gateway (cell xs)) (b .ok) i f (s .acts) (a .1 .1 .1 .1 .1 .1 .0);
         }
 
+    changing-room : 0 + told-rows t ≤ places (length out)
+    changing-room = told-room (changed-tests n i h t p (gateway (cell xs))) v (told-rows t) p (places (length out)) v-is z refl room
+
     changing-done : {ys zs end : List ℕ} (m : ℕ) → m ≡ told-rows t → Becomes ys (in-book n i x f (gateway (cell xs))) → Sends 0 (told-mail n i k t) (λ y. y) ys zs out end →
         Gives (call (gateway (cell xs)) (deliver-event n e (places (length out)))) (record { code = 0; count = m }) xs zs out end
     changing-done {ys} m m-is d u =
@@ -158,6 +162,9 @@ module _ (xs out : List ℕ) (n i : ℕ) (b : Between xs) (h : Shift) (t : Told)
         Gives (call (gateway (cell xs)) (deliver-event n (Cancelled i q why) (places (length out)))) (record { code = 0; count = m }) xs zs out end
     cancelled-done m z = changing-done (cancelling n i q why) xs out b h w t tells p v room v-is z m
 
+  pub cancel-room : Weighs i Retire h (gateway (cell xs)) → v ≡ 0 → 0 + told-rows t ≤ places (length out)
+  cancel-room w = changing-room (cancelling n i 0 Requested) xs out b h w t tells p v room v-is
+
   pub can-cancel : Weighs i Retire h (gateway (cell xs)) → v ≡ 0 → CanChange n i Retire take-off (gateway (cell xs))
   can-cancel w = can-change (cancelling n i 0 Requested) xs out b h w t tells p v room v-is
 
@@ -168,10 +175,14 @@ module _ (xs out : List ℕ) (n i : ℕ) (b : Between xs) (h : Shift) (t : Told)
     pub can-modify : v ≡ 0 → CanChange n i (Reprice c l) (modified (int c) l) (gateway (cell xs))
     can-modify = can-change (modifying n i z q l c r) xs out b h w t tells p v room v-is
 
-    pub modified-done : {ys zs end : List ℕ} (m : ℕ) → v ≡ 0 → m ≡ told-rows t → Becomes ys (in-book n i (Reprice c l) (modified (int c) l) (gateway (cell xs))) →
-        Sends 0 (told-mail n i (Kind.Modified z q l) t) (λ y. y) ys zs out end →
+    pub modify-room : v ≡ 0 → 0 + told-rows t ≤ places (length out)
+    modify-room = changing-room (modifying n i z q l c r) xs out b h w t tells p v room v-is
+
+    pub modified-done : {ys zs end : List ℕ} (m : ℕ) (y : ℤ) → y ≡ z → v ≡ 0 → m ≡ told-rows t → Becomes ys (in-book n i (Reprice c l) (modified (int c) l) (gateway (cell xs))) →
+        Sends 0 (told-mail n i (Kind.Modified y q l) t) (λ x. x) ys zs out end →
         Gives (call (gateway (cell xs)) (deliver-event n (Modified i z q l) (places (length out)))) (record { code = 0; count = m }) xs zs out end
-    modified-done m e = changing-done (modifying n i z q l c r) xs out b h w t tells p v room v-is e m
+    modified-done {ys} {zs} {end} m y y-is e m-is d u =
+        changing-done (modifying n i z q l c r) xs out b h w t tells p v room v-is e m m-is d (subst (λ (k : ℤ). Sends 0 (told-mail n i (Kind.Modified k q l) t) (λ x. x) ys zs out end) y-is u)
 
 -- ---- applying
 
@@ -185,6 +196,14 @@ module _ (xs : List ℕ) {ys : List ℕ} (n i : ℕ) (x : Move) (f : D.Resting �
 
     pub in-book-becomes : {us : List ℕ} → Becomes us (landed n (gateway (cell zs))) → Becomes us (in-book n i x f (gateway (cell xs)))
     in-book-becomes u = then-becomes (landed n) (then-becomes (with-depth (where-resting i f)) a d) u
+
+-- the word of a price
+pub repriced : (z : ℤ) (v w : ℕ) → w < modulus → int w ≡ z → v < modulus → Repriced z v w
+repriced z v w l e f = record { is = e; price-fits = word-fits w z l e; leaves-fit = f }
+
+-- a price that was read back from its bits
+pub repriced-as : {y z : ℤ} {v w : ℕ} → y ≡ z → Repriced y v w → Repriced z v w
+repriced-as {v = v} {w = w} e r = subst (λ (k : ℤ). Repriced k v w) e r
 
 -- ---- the judge
 

@@ -77,8 +77,8 @@ same-verdict t u v e p = e ∙ ap (λ x. verdict (tests x)) p
 pub all-pass : (t : T.Tests) (v : ℕ) → v ≡ verdict (tests t) → v ≡ 0 → Pass (tests t)
 all-pass t v e z = passes (tests t) refl (sym z ∙ e)
 
-pub told-room : (t : T.Tests) (v rows room : ℕ) → v ≡ verdict (tests t) → v ≡ 0 → t .room ≡ leb rows room → 0 + rows ≤ room
-told-room t v rows room e z r = omega (arith, leb-true rows room (sym r ∙ all-pass t v e z .1 .1 .1 .1 .1 .1 .1 .1 .1 .0))
+pub told-room : (t : T.Tests) (v rows p room : ℕ) → v ≡ verdict (tests t) → v ≡ 0 → t .room ≡ leb rows p → p ≡ room → 0 + rows ≤ room
+told-room t v rows p room e z r p-is = omega (arith, leb-true rows p (sym r ∙ all-pass t v e z .1 .1 .1 .1 .1 .1 .1 .1 .1 .0), p-is)
 
 -- ---- applying
 

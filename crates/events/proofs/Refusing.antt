@@ -45,7 +45,7 @@ use Rattle.holds.proofs.Laws.{one-fits}
 use Rattle.store.specs.Cells as C
 use Rattle.gateway.specs.Limits.{most-notices}
 use Rattle.events.specs.Events.{flight-places, order-refused, retired, CanRetire, command-refused}
-use Rattle.events.proofs.Parts.{trades-few, notices-stay, notices-come, all-pass, few-noticed, few-is, same-verdict, parts}
+use Rattle.events.proofs.Parts.{trades-few, notices-stay, notices-come, all-pass, few-noticed, told-room, few-is, same-verdict, parts}
 use borrow.Author.Tests.{eq-eqb, ne-eqb, le-leb, eqb-true, lt-leb}
 use Rattle.gateway.specs.Core as CoreFlight
 use Rattle.pending.specs.declared.Flight as Flight
@@ -111,18 +111,20 @@ module _ (xs out : List ℕ) (n : ℕ) (why : RejectReason) (b : Between xs) (h 
     passed-flying : in-flight n (gateway (cell xs) .core) ≡ true
     passed-flying = all-pass (order-refused n h t p (gateway (cell xs))) v v-is z .0
 
+    pub order-room : 0 + told-rows t ≤ places (length out)
+    order-room = told-room (order-refused n h t p (gateway (cell xs))) v (told-rows t) p (places (length out)) v-is z refl room
+
+    pub can-retire : CanRetire n (gateway (cell xs))
+    can-retire =
+        let a = all-pass (order-refused n h t p (gateway (cell xs))) v v-is z in
+        record { flying = a .0; noticed = few-noticed (gateway (cell xs)) w (a .1 .1 .1 .1 .1 .1 .1 .1 .0) }
+
     pub order-done : {ys zs end : List ℕ} (m : ℕ) → m ≡ told-rows t → Becomes ys (retired n (gateway (cell xs))) → Sends 0 (told-mail n n (Kind.Rejected why) t) (λ x. x) ys zs out end →
         Gives (call (gateway (cell xs)) (deliver-event n (Rejected n why) (places (length out)))) (record { code = 0; count = m }) xs zs out end
     order-done {ys} m m-is d u =
         deliver-done xs out n (Rejected n why) tt b v order-whole z (told-mail n n (Kind.Rejected why) t)
         (tells .mail passed-flying (Kind.Rejected why) ∙ refused-told n n why (gateway (cell xs) .core) (gateway (cell xs) .rest)) m (m-is ∙ told-length n n (Kind.Rejected why) t)
         (subst (Becomes ys) (order-after n why (gateway (cell xs))) d) u
-
-pub can-retire : (xs : List ℕ) (n : ℕ) (h : Shift) → Weighs n Retire h (gateway (cell xs)) → (t : Told) (p v : ℕ) → v ≡ verdict (tests (order-refused n h t p (gateway (cell xs)))) → v ≡ 0 →
-    CanRetire n (gateway (cell xs))
-can-retire xs n h w t p v v-is z =
-    let a = all-pass (order-refused n h t p (gateway (cell xs))) v v-is z in
-    record { flying = a .0; noticed = few-noticed (gateway (cell xs)) w (a .1 .1 .1 .1 .1 .1 .1 .1 .0) }
 
 module _ (xs : List ℕ) {ys : List ℕ} (n : ℕ) (can : CanRetire n (gateway (cell xs))) (a : Becomes ys (moved (change-of n Retire) (gateway (cell xs)))) where
   pub retired-flying : in-flight n (gateway (cell ys) .core) ≡ true
@@ -197,6 +199,9 @@ module _ (xs out : List ℕ) (n i : ℕ) (ne : i ≡ n → ⊥) (why : RejectRea
   module _ (z : v ≡ 0) where
     pub command-flying : in-flight n (gateway (cell xs) .core) ≡ true
     command-flying = all-pass (command-refused n i t p (cell xs)) v v-is z .0
+
+    pub command-room : 0 + told-rows t ≤ places (length out)
+    command-room = told-room (command-refused n i t p (cell xs)) v (told-rows t) p (places (length out)) v-is z refl room
 
     pub command-done : {ys zs end : List ℕ} (m : ℕ) → m ≡ told-rows t → Becomes ys (landed n (gateway (cell xs))) → Sends 0 (told-mail n i (Kind.Rejected why) t) (λ x. x) ys zs out end →
         Gives (call (gateway (cell xs)) (deliver-event n (Rejected i why) (places (length out)))) (record { code = 0; count = m }) xs zs out end

@@ -41,7 +41,7 @@ use Rattle.delivery.proofs.Calls.{judged-is, deliver-refused, deliver-done}
 use Rattle.shows.proofs.Judged.{few-after}
 use Rattle.shows.specs.Shows.{touched-few}
 use Rattle.events.specs.Events.{replenished-tests, reshown, CanReshow}
-use Rattle.events.proofs.Parts.{trades-few, notices-stay, rows-are, all-pass, same-verdict, parts}
+use Rattle.events.proofs.Parts.{trades-few, notices-stay, rows-are, all-pass, told-room, same-verdict, parts}
 
 module _ (n i : ℕ) (z : Side) (p : ℤ) (v : ℕ) (g : Gateway) where
   abbrev e : Event
@@ -82,6 +82,9 @@ module _ (xs out : List ℕ) (n i v : ℕ) (b : Between xs) (t : Told) (tells : 
         judged = record { fits = a .1 .1 .1 .1 .1 .0; few = few-after (depth (cell xs)) f i (replenished v) (shown-acts v) ∙ a .1 .1 .1 .1 .1 .1 .0 };
       }
 
+  pub reshow-room : w ≡ 0 → 0 + told-rows t ≤ places (length out)
+  reshow-room e = told-room (replenished-tests n i v t p (gateway (cell xs))) w (told-rows t) p (places (length out)) w-is e refl room
+
   module _ (z : Side) (y : ℤ) where
     whole : w ≡ verdict (call-tests n (Replenished i z y v) (places (length out)) (gateway (cell xs)))
     whole =
@@ -92,12 +95,12 @@ module _ (xs out : List ℕ) (n i v : ℕ) (b : Between xs) (t : Told) (tells : 
     pub replenished-refused : (w ≡ 0 → ⊥) → Gives (call (gateway (cell xs)) (deliver-event n (Replenished i z y v) (places (length out)))) (record { code = w; count = 0 }) xs xs out out
     replenished-refused = deliver-refused xs out n (Replenished i z y v) tt b w whole
 
-    pub replenished-done : {ys zs end : List ℕ} (m : ℕ) → w ≡ 0 → m ≡ told-rows t → Becomes ys (reshown n i v (gateway (cell xs))) → Sends 0 (told-mail n i (Kind.Replenished z y v) t) (λ x. x) ys zs out end →
+    pub replenished-done : {ys zs end : List ℕ} (m : ℕ) (y′ : ℤ) → y′ ≡ y → w ≡ 0 → m ≡ told-rows t → Becomes ys (reshown n i v (gateway (cell xs))) → Sends 0 (told-mail n i (Kind.Replenished z y′ v) t) (λ x. x) ys zs out end →
         Gives (call (gateway (cell xs)) (deliver-event n (Replenished i z y v) (places (length out)))) (record { code = 0; count = m }) xs zs out end
-    replenished-done {ys} m e m-is d u =
+    replenished-done {ys} {zs} {end} m y′ y-is e m-is d u =
         deliver-done xs out n (Replenished i z y v) tt b w whole e (told-mail n i (Kind.Replenished z y v) t)
         (tells .mail n (Kind.Replenished z y v) ∙ replenished-told n i z y v (gateway (cell xs)) (gateway (cell xs) .core) (gateway (cell xs) .rest)) m (m-is ∙ told-length n i (Kind.Replenished z y v) t)
-        (subst (Becomes ys) (replenished-after n i z y v (gateway (cell xs))) d) u
+        (subst (Becomes ys) (replenished-after n i z y v (gateway (cell xs))) d) (subst (λ (k : ℤ). Sends 0 (told-mail n i (Kind.Replenished z k v) t) (λ x. x) ys zs out end) y-is u)
 
 -- ---- applying
 

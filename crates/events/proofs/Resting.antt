@@ -44,7 +44,7 @@ use Rattle.holds.specs.Holds.{change-of, moved, Weighs, shift-fits}
 use Rattle.holds.proofs.Laws.{one-fits}
 use Rattle.gateway.specs.Limits.{most-notices}
 use Rattle.events.specs.Events.{rested-tests, joined, CanJoin, Stands}
-use Rattle.events.proofs.Parts.{trades-few, notices-come, rows-are, all-pass, few-noticed, few-is, same-verdict, parts}
+use Rattle.events.proofs.Parts.{trades-few, notices-come, rows-are, all-pass, few-noticed, told-room, few-is, same-verdict, parts}
 use mathlib.Core.Option.{Option, none, some}
 use borrow.Author.Tests.{leb-true}
 use Rattle.protocol.specs.Codes.{sideCode}
@@ -116,14 +116,18 @@ module _ (xs out : List ℕ) (n i : ℕ) (z : Side) (y : ℤ) (q v : ℕ) (o : W
         none-there none k = refl
         none-there (some x) k = absurd (false≢true k)
 
-    pub rested-done : {ys zs end : List ℕ} (m : ℕ) → m ≡ told-rows t → Becomes ys (joined n (Leaves (o .leaves)) (resting-of i o) (gateway (cell xs))) →
-        Sends 0 (told-mail n i (Kind.Rested z y q v) t) (λ x. x) ys zs out end →
+    pub join-room : 0 + told-rows t ≤ places (length out)
+    join-room = told-room (rested-tests n (resting-of i o) h t p (gateway (cell xs))) c (told-rows t) p (places (length out)) c-is e refl room
+
+    pub rested-done : {ys zs end : List ℕ} (m : ℕ) (y′ : ℤ) → y′ ≡ y → m ≡ told-rows t → Becomes ys (joined n (Leaves (o .leaves)) (resting-of i o) (gateway (cell xs))) →
+        Sends 0 (told-mail n i (Kind.Rested z y′ q v) t) (λ x. x) ys zs out end →
         Gives (call (gateway (cell xs)) (deliver-event n (Rested i z y q v) (places (length out)))) (record { code = 0; count = m }) xs zs out end
-    rested-done {ys} m m-is d u =
+    rested-done {ys} {zs} {end} m y′ y-is m-is d u =
         deliver-done xs out n (Rested i z y q v) (o-is .qty-fits) b c whole e (told-mail n i (Kind.Rested z y q v) t)
         (tells .mail n (Kind.Rested z y q v) ∙ rested-told n i z y q v (gateway (cell xs)) (gateway (cell xs) .core) (gateway (cell xs) .rest)) m (m-is ∙ told-length n i (Kind.Rested z y q v) t)
         (subst (Becomes ys)
-        (ap₂ (λ (l : ℕ) (x : D.Resting). joined n (Leaves l) x (gateway (cell xs))) (o-is .leaves-is) (o-is .is i) ∙ rested-after n i z y q v (gateway (cell xs))) d) u
+        (ap₂ (λ (l : ℕ) (x : D.Resting). joined n (Leaves l) x (gateway (cell xs))) (o-is .leaves-is) (o-is .is i) ∙ rested-after n i z y q v (gateway (cell xs))) d)
+        (subst (λ (k : ℤ). Sends 0 (told-mail n i (Kind.Rested z k q v) t) (λ x. x) ys zs out end) y-is u)
 
 -- ---- applying
 
@@ -149,6 +153,10 @@ module _ (xs : List ℕ) {ys : List ℕ} (n : ℕ) (x : Move) (o : D.Resting) (s
 pub stands : (z : Side) (y : ℤ) (q v s p : ℕ) → s ≡ sideCode z → int p ≡ y → q < modulus → Stands z y q v (record { side = s; price = p; visible = v; leaves = q })
 stands z y q v s p s-is p-is f =
     record { is = λ i. ap₂ (λ (a : Side) (b : ℤ). record { number = i; side = a; price = b; visible = v; leaves = q }) (ap side s-is ∙ side-back z) p-is; leaves-is = refl; qty-fits = f }
+
+-- with a price that was read back from its bits
+pub stands-as : {z : Side} {x y : ℤ} {q v : ℕ} {o : Words.Resting} → x ≡ y → Stands z x q v o → Stands z y q v o
+stands-as {z} {q = q} {v = v} {o = o} e r = subst (λ (k : ℤ). Stands z k q v o) e r
 
 -- ---- the judge
 

@@ -2,7 +2,7 @@
 use mathlib.Core.Path.{_≡_, refl, sym, ap, subst, _∙_}
 use mathlib.Core.Bool.{Bool, true}
 use mathlib.Core.List.{List, [], _++_, append-nil}
-use Prim.Native.Nat.{ℕ, _≤_}
+use Prim.Native.Nat.{ℕ, _+_, _≤_}
 use native.Mathlib.Omega.{arith}
 use lib.Dec.{leb}
 use lib.ListN.{length}
@@ -34,7 +34,7 @@ use Rattle.reporting.proofs.Laws.{told-length}
 use Rattle.delivery.specs.Delivery.{tests, call-tests, Judges, landed, after}
 use Rattle.delivery.proofs.Calls.{judged-is, deliver-refused, deliver-done}
 use Rattle.events.specs.Events.{Still, quiet-tests}
-use Rattle.events.proofs.Parts.{trades-few, notices-stay, rows-are, all-pass, same-verdict, parts}
+use Rattle.events.proofs.Parts.{trades-few, notices-stay, rows-are, all-pass, told-room, same-verdict, parts}
 
 pub accepted-still : (i : ℕ) → Still i Kind.Accepted (Accepted i)
 unfolding names-below numbers-agree depth-agrees changes apply tick-of reports
@@ -46,10 +46,10 @@ unfolding names-below numbers-agree depth-agrees changes apply tick-of reports
 triggered-still i =
     record { names = λ m. refl; numbers = λ n b. refl; agrees = λ d. refl; none-changes = λ n. refl; stays = λ d. refl; no-tick = λ n. refl; told = λ n c r. refl; fits = tt }
 
-pub stop-still : (i : ℕ) (s : Side) (t : ℤ) (l : MaybePrice) (v : ℕ) → Still i (Kind.StopPlaced s t l v) (StopPlaced i s t l v)
+pub stop-still : (i : ℕ) (s : Side) (t u : ℤ) (l : MaybePrice) (v : ℕ) → u ≡ t → Still i (Kind.StopPlaced s u l v) (StopPlaced i s t l v)
 unfolding names-below numbers-agree depth-agrees changes apply tick-of reports
-stop-still i s t l v =
-    record { names = λ m. refl; numbers = λ n b. refl; agrees = λ d. refl; none-changes = λ n. refl; stays = λ d. refl; no-tick = λ n. refl; told = λ n c r. refl; fits = tt }
+stop-still i s t u l v e =
+    rw e (record { names = λ m. refl; numbers = λ n b. refl; agrees = λ d. refl; none-changes = λ n. refl; stays = λ d. refl; no-tick = λ n. refl; told = λ n c r. refl; fits = tt })
 
 module _ (n i : ℕ) (k : ReportKind) (e : Event) (s : Still i k e) (g : Gateway) where
   quiet-judges : Ok g → (t : Told) → Tells i t g → (room : ℕ) → Judges n e room g (quiet-tests n i t room g)
@@ -73,6 +73,13 @@ module _ (n i : ℕ) (k : ReportKind) (e : Event) (s : Still i k e) (g : Gateway
   unfolding step
   quiet-after = rw (s .none-changes n, s .stays (g .rest .depth), s .no-tick n, append-nil (g .rest .trades), append-nil (g .rest .notices)) refl
 
+module _ (xs out : List ℕ) (n i : ℕ) (t : Told) (tells : Tells i t (gateway (cell xs))) (p v : ℕ) (room : p ≡ places (length out)) (v-is : v ≡ verdict (tests (quiet-tests n i t p (gateway (cell xs))))) where
+  pub quiet-flying : v ≡ 0 → in-flight n (gateway (cell xs) .core) ≡ true
+  quiet-flying z = all-pass (quiet-tests n i t p (gateway (cell xs))) v v-is z .0
+
+  pub quiet-room : v ≡ 0 → 0 + told-rows t ≤ places (length out)
+  quiet-room z = told-room (quiet-tests n i t p (gateway (cell xs))) v (told-rows t) p (places (length out)) v-is z refl room
+
 module _ (xs out : List ℕ) (n i : ℕ) (k : ReportKind) (e : Event) (s : Still i k e) (b : Between xs) (t : Told) (tells : Tells i t (gateway (cell xs))) (p v : ℕ) (room : p ≡ places (length out))
     (v-is : v ≡ verdict (tests (quiet-tests n i t p (gateway (cell xs))))) where
   whole : v ≡ verdict (call-tests n e (places (length out)) (gateway (cell xs)))
@@ -90,9 +97,6 @@ module _ (xs out : List ℕ) (n i : ℕ) (k : ReportKind) (e : Event) (s : Still
         deliver-done xs out n e (s .fits) b v whole z (told-mail n i k t)
         (tells .mail n k ∙ sym (s .told n (gateway (cell xs) .core) (gateway (cell xs) .rest))) m (m-is ∙ told-length n i k t)
         (subst (Becomes ys) (quiet-after n i k e s (gateway (cell xs))) d) h
-
-pub quiet-flying : (xs : List ℕ) (n i : ℕ) (t : Told) (p v : ℕ) → v ≡ verdict (tests (quiet-tests n i t p (gateway (cell xs)))) → v ≡ 0 → in-flight n (gateway (cell xs) .core) ≡ true
-quiet-flying xs n i t p v v-is z = all-pass (quiet-tests n i t p (gateway (cell xs))) v v-is z .0
 
 -- ---- the judge
 

@@ -1,4 +1,4 @@
-use Rattle.events.proofs.Resting.{resting-laws}
+use Rattle.events.proofs.Resting.{resting-laws, joined-flying}
 use borrow.Author.Needs.{needs}
 use Rattle.events.proofs.apply_rested.Statement.{statement}
 use Rattle.events.proofs.apply_rested.Tie as tie
@@ -10,7 +10,11 @@ add-requires : tie.Need-add-requires
 add-requires c κs = search resting-laws
 
 land-requires : tie.Need-land-requires
-land-requires c κs = search resting-laws
+land-requires c κs =
+    let a = c .before .before .before in
+    let b = a .before .before .before .before in
+    let d = b .before .before .before in
+    (a .add .ensures .state, joined-flying _ _ _ _ (d .pre .0) (d .pre .2) (b .apply .ensures) (a .add .ensures))
 
 same-length : tie.Need-same-length
 same-length c = search needs

@@ -1,4 +1,6 @@
-use Rattle.events.proofs.Resting.{resting-laws}
+use mathlib.Core.Path.{_∙_}
+use Rattle.words.proofs.Int.{read}
+use Rattle.events.proofs.Resting.{stands}
 use borrow.Author.Needs.{needs}
 use Rattle.events.proofs.row_of.Statement.{statement}
 use Rattle.events.proofs.row_of.Tie as tie
@@ -13,7 +15,9 @@ of-i64-requires : tie.Need-of-i64-requires
 of-i64-requires c κs = search needs
 
 returns : tie.Need-returns
-returns c = search resting-laws
+returns c =
+    let s = c .before .before in
+    stands (s .args .side) (s .args .price) (s .args .qty) (s .args .visible) _ _ (c .before .side-code .ensures) (c .of-i64 .ensures ∙ read {x = s .args .price} (s .fits .price .sfits)) (s .fits .qty .fits)
 
 pub row-of-spec : {M : Type 1} → statement M
 row-of-spec = tie.close (tie.spec side-code-requires cast-s of-i64-requires returns)

@@ -1,4 +1,5 @@
-use Rattle.events.proofs.Stills.{quiets}
+use Rattle.words.proofs.Int.{read}
+use Rattle.events.proofs.Stills.{quiets, stop-still}
 use borrow.Author.Needs.{needs}
 use Rattle.events.proofs.stop_placed.Statement.{statement}
 use Rattle.events.proofs.stop_placed.Tie as tie
@@ -13,7 +14,10 @@ same-length-2 : tie.Need-same-length-2
 same-length-2 c = search needs
 
 returns : tie.Need-returns
-returns c = search quiets
+returns c =
+    let a = c .before .before .before .before in
+    let b = a .before .before .before .before .before in
+    a .quiet .ensures _ (stop-still _ _ _ _ _ _ (read {x = b .args .trigger} (b .fits .trigger .sfits)))
 
 pub stop-placed-spec : {M : Type 1} → statement M
 stop-placed-spec = tie.close (tie.spec quiet-requires same-length same-length-2 returns)

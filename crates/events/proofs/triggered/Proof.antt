@@ -1,4 +1,4 @@
-use Rattle.events.proofs.Stills.{quiets}
+use Rattle.events.proofs.Stills.{quiets, triggered-still}
 use borrow.Author.Needs.{needs}
 use Rattle.events.proofs.triggered.Statement.{statement}
 use Rattle.events.proofs.triggered.Tie as tie
@@ -13,7 +13,9 @@ same-length-2 : tie.Need-same-length-2
 same-length-2 c = search needs
 
 returns : tie.Need-returns
-returns c = search quiets
+returns c =
+    let a = c .before .before .before .before in
+    a .quiet .ensures _ (triggered-still _)
 
 pub triggered-spec : {M : Type 1} → statement M
 triggered-spec = tie.close (tie.spec quiet-requires same-length same-length-2 returns)
