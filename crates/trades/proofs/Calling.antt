@@ -4,8 +4,8 @@ use mathlib.Core.Bool.{Bool, true, _&&_, and-eq-true-iff}
 use mathlib.Core.List.{List, [], _∷_, _++_}
 use Prim.Native.Nat.{ℕ, _+_, _≤_, _<_}
 use native.Mathlib.Omega.{arith}
-use borrow.Author.Tests.{leb-true, ltb-true}
-use lib.IntN.{ℤ}
+use borrow.Author.Tests.{le-leb, leb-true, ltb-true}
+use lib.IntN.{ℤ, pos, negsuc}
 use lib.Signed.{mag}
 use lib.ListN.{length}
 use mir.Syntax.{w64}
@@ -16,7 +16,7 @@ use Rattle.orderbook.specs.declared.Event.{Event}
 use Rattle.orderbook.specs.declared.Event.the-variants.{Trade}
 use Rattle.protocol.specs.Codes.{sideCode}
 use Rattle.protocol.specs.declared.ReportKind.{ReportKind}
-use Rattle.words.specs.Words.{int, half, modulus}
+use Rattle.words.specs.Words.{int, half, modulus, place-of}
 use Rattle.words.proofs.Int.{read}
 use Rattle.gateway.specs.Limits.{session-slots, most-trades, most-notices, most-changed}
 use Rattle.gateway.specs.Ledger.{fits, paper, change}
@@ -54,10 +54,15 @@ use Rattle.trades.proofs.Applying.{dealt-after}
 
 -- ---- what a trade says
 
-pub says-is : (id taker maker : ℕ) (z : Side) (p : ℤ) (q tl ml c w : ℕ) → c ≡ sideCode z → int w ≡ p → fits p ≡ true → tl < modulus → ml < modulus →
+price-fits : (p : ℤ) → mag p < half → fits p ≡ true
+unfolding fits place-of
+price-fits (pos n) h = rw (le-leb n 9223372036854775807 (omega arith))
+price-fits (negsuc n) h = rw (le-leb n 9223372036854775807 (omega arith))
+
+pub says-is : (id taker maker : ℕ) (z : Side) (p : ℤ) (q tl ml c w : ℕ) → c ≡ sideCode z → int w ≡ p → mag p < half → tl < modulus → ml < modulus →
     Says (Trade id taker maker z p q tl ml) (record { id = id; taker = taker; maker = maker; side = c; price = w; qty = q; «taker_leaves» = tl; «maker_leaves» = ml })
 says-is id taker maker z p q tl ml c w c-is w-is f h k =
-    record { is = ap₂ (λ (y : Side) (x : ℤ). Trade id taker maker y x q tl ml) (ap side c-is ∙ side-back z) w-is; fits = (f, (h, k)) }
+    record { is = ap₂ (λ (y : Side) (x : ℤ). Trade id taker maker y x q tl ml) (ap side c-is ∙ side-back z) w-is; fits = (price-fits p f, (h, k)) }
 
 -- ---- the reports
 
@@ -108,7 +113,7 @@ module _ (xs out : List ℕ) (n : ℕ) (d : Deal) (b : Between xs) (f : EventFit
         let s = and-eq-true-iff (shows (d .maker) (d .qty) (g .rest .depth .resting)) (shows (d .taker) (d .qty) (g .rest .depth .resting)) .0 (passed .1 .1 .1 .0) in
         record {
           flying = passed .0;
-          noticed = record { few = omega (arith, ts .weighs .noticed, two-noticed (ts .weighs) (ms .weighs) two, leb-true _ most-notices (passed .1 .1 .1 .1 .1 .1 .1 .1 .0)) };
+          noticed = record { few = omega (arith, ts .weighs .noticed, two-noticed (ts .weighs) (ms .weighs) two, leb-true (t .shift .notices + m .shift .notices + length (g .rest .notices)) most-notices (passed .1 .1 .1 .1 .1 .1 .1 .1 .0)) };
           in-book = record { two = two; taker-shows = s .1; maker-shows = s .0; room = roomy };
           room = ltb-true _ most-trades (passed .1 .1 .1 .1 .1 .1 .1 .0);
         }
@@ -119,7 +124,7 @@ module _ (xs out : List ℕ) (n : ℕ) (d : Deal) (b : Between xs) (f : EventFit
             leb-true _ most-changed (sym (changed-decides (in-depth d (g .rest .depth)) (few-counts (in-depth d (g .rest .depth)) e)) ∙ e)
 
     pub mail-room : told-rows (t .told) + told-rows (m .told) ≤ places (length out)
-    mail-room = omega (arith, room, leb-true _ p (passed .1 .1 .1 .1 .1 .1 .1 .1 .1 .0))
+    mail-room = omega (arith, room, leb-true (told-rows (t .told) + told-rows (m .told)) p (passed .1 .1 .1 .1 .1 .1 .1 .1 .1 .0))
 
     pub trade-done : {ys zs end : List ℕ} (both : Bool) (k : ℕ) → both ≡ t .shift .funded && m .shift .funded → Becomes ys (dealt n d both (gateway (cell xs))) → Reports n d (t .told) (m .told) k ys zs out end →
         Gives (call (gateway (cell xs)) (deliver-event n (event-of d) (places (length out)))) (record { code = 0; count = k }) xs zs out end

@@ -38,7 +38,7 @@ use Rattle.shows.proofs.Judged as Shows
 use Rattle.shows.specs.Shows.{both-few}
 use Rattle.trades.specs.declared.Deal.{Deal}
 use Rattle.trades.specs.declared.Party.{Party}
-use Rattle.trades.specs.Trades.{event-of, taker-fill, maker-fill, Stands, numbers, both-show, tick-fits, trade-tests, fill-kind, deal-mail}
+use Rattle.trades.specs.Trades.{event-of, taker-fill, maker-fill, Stands, numbers, both-show, tick-fits, few-notices, trade-tests, fill-kind, deal-mail}
 
 -- ---- each test
 
@@ -77,6 +77,9 @@ trades-count s = listed-length _ (word s C.trade-rows)
 pub room-is : (s : Store) (k : ℕ) → k ≡ word s C.trade-rows → ltb k most-trades ≡ tick-fits (gateway s)
 room-is s k e = ap (λ j. ltb j most-trades) (e ∙ sym (trades-count s))
 
+pub notices-fit : (s : Store) (a b : Shift) (r : Bool) → r ≡ leb (a .notices + b .notices + word s C.notice-rows) most-notices → r ≡ few-notices a b (gateway s)
+notices-fit s a b r e = e ∙ ap (λ k. leb (a .notices + b .notices + k) most-notices) (sym (notices-count s))
+
 -- ---- what is asked of the parties
 
 module _ {i : ℕ} {x : Move} {p : Party} {xs : List ℕ} (s : Stands i x p xs) where
@@ -90,11 +93,10 @@ module _ {i : ℕ} {x : Move} {p : Party} {xs : List ℕ} (s : Stands i x p xs) 
 
 pub judge-is : (s : Store) (n : ℕ) (d : Deal) (a b : Party) (room : ℕ) (fly num agr hol dep trd ntc : Bool) (i j r : ℕ) → fly ≡ in-flight n (gateway s .core) → num ≡ numbers n (d .taker) (d .maker) →
     agr ≡ both-show d (depth s) → hol ≡ pair-fits (a .shift) (b .shift) (gateway s .core .ledger) → dep ≡ both-few (d .maker) (d .taker) (depth s) → trd ≡ tick-fits (gateway s) →
-    ntc ≡ leb (a .shift .notices + b .shift .notices + word s C.notice-rows) most-notices → i ≡ told-rows (a .told) → j ≡ told-rows (b .told) →
+    ntc ≡ few-notices (a .shift) (b .shift) (gateway s) → i ≡ told-rows (a .told) → j ≡ told-rows (b .told) →
     r ≡ verdict (tests (record { flying = fly; below = true; numbers = num; agrees = agr; holds = hol; levels = true; depth = dep; trades = trd; notices = ntc; room = leb (i + j) room })) →
     r ≡ verdict (tests (trade-tests n d a b room (gateway s)))
 judge-is s n d a b room fly num agr hol dep trd ntc i j r p1 p2 p3 p4 p5 p6 p7 p8 p9 e =
-    let p7' = p7 ∙ ap (λ k. leb (a .shift .notices + b .shift .notices + k) most-notices) (sym (notices-count s)) in
     e ∙ (λ k. verdict (tests (record {
       flying = p1 k;
       below = true;
@@ -104,7 +106,7 @@ judge-is s n d a b room fly num agr hol dep trd ntc i j r p1 p2 p3 p4 p5 p6 p7 p
       levels = true;
       depth = p5 k;
       trades = p6 k;
-      notices = p7' k;
+      notices = p7 k;
       room = leb (p8 k + p9 k) room;
     })))
 
@@ -152,4 +154,4 @@ module _ (g : Gateway) (ok : Ok g) (n : ℕ) (d : Deal) (a b : Party) (w : Weigh
         room-is = λ _. ap (λ k. leb k room) (mail-count n d (a .told) (b .told) ∙ ap length (mail-is n d (a .told) (b .told) g t u));
       }
 
-pub ruleset judging = (one-order, two-orders, later-taker, shows-too, shows-less, room-is, party-owned, party-few, judge-is, arith)
+pub ruleset judging = (one-order, two-orders, later-taker, shows-too, shows-less, room-is, notices-fit, party-owned, party-few, judge-is, arith)

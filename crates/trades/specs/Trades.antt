@@ -35,6 +35,7 @@ use Rattle.delivery.specs.declared.Tests as T
 use Rattle.delivery.specs.Delivery.{landed}
 use Rattle.holds.specs.declared.Move.{Move}
 use Rattle.holds.specs.declared.Move.the-variants.{Fill}
+use Rattle.holds.specs.declared.Shift.{Shift}
 use Rattle.holds.specs.Holds.{change-of, moved, Weighs, pair-fits}
 use Rattle.shows.specs.Shows.{both-few}
 use Rattle.trades.specs.declared.Deal.{Deal}
@@ -74,6 +75,9 @@ both-show d x = shows (d .maker) (d .qty) (x .resting) && shows (d .taker) (d .q
 abbrev pub tick-fits : Gateway → Bool
 tick-fits g = ltb (length (g .rest .trades)) most-trades
 
+abbrev pub few-notices : (taker maker : Shift) → Gateway → Bool
+few-notices s t g = leb (s .notices + t .notices + length (g .rest .notices)) most-notices
+
 abbrev pub trade-tests : ℕ → Deal → (taker maker : Party) → (room : ℕ) → Gateway → T.Tests
 trade-tests n d a b room g =
     record {
@@ -85,7 +89,7 @@ trade-tests n d a b room g =
       levels = true;
       depth = both-few (d .maker) (d .taker) (g .rest .depth);
       trades = tick-fits g;
-      notices = leb (a .shift .notices + b .shift .notices + length (g .rest .notices)) most-notices;
+      notices = few-notices (a .shift) (b .shift) g;
       room = leb (told-rows (a .told) + told-rows (b .told)) room;
     }
 

@@ -132,6 +132,14 @@ fn has_room(m: &[u8]) -> bool
     pending::header::word_at(m, cells::TRADE_ROWS) < MOST_TRADES
 }
 
+// Code 5: room for the notices of both.
+fn few_notices(m: &[u8], taker: Shift, maker: Shift) -> bool
+    requires { ⌜ State (now m) × (taker .notices ≤ 2) × (maker .notices ≤ 2) ⌝ }
+    ensures { λ r. ⌜ r ≡ P.few-notices taker maker (gateway (cell (now (m .entry)))) ⌝ }
+{
+    holds::few(m, taker.notices + maker.notices)
+}
+
 fn judge(m: &[u8], n: u64, d: Deal, taker: Party, maker: Party, room: usize) -> u64
     requires { ⌜ Between (now m) × P.Stands (d .taker) (P.taker-fill d) taker (now m) × P.Stands (d .maker) (P.maker-fill d) maker (now m) ⌝ }
     ensures { λ r. ⌜ r ≡ verdict (Delivery.tests (P.trade-tests n d taker maker room (gateway (cell (now (m .entry)))))) ⌝ }
@@ -144,7 +152,7 @@ fn judge(m: &[u8], n: u64, d: Deal, taker: Party, maker: Party, room: usize) -> 
     let fits = holds::pair_fits(m, taker.shift, maker.shift);
     let depth = shows::pair_room(m, d.maker, maker_at, d.taker, taker_at);
     let trades = has_room(m);
-    let few = holds::few(m, taker.shift.notices + maker.shift.notices);
+    let few = few_notices(m, taker.shift, maker.shift);
     let first = reporting::rows(taker.told);
     let second = reporting::rows(maker.told);
     delivery::code_of(Tests {

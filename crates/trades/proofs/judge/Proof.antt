@@ -21,11 +21,8 @@ pair-room-requires c κs = search needs
 has-room-requires : tie.Need-has-room-requires
 has-room-requires c κs = search needs
 
-add-few : tie.Need-add-few
-add-few c = search judging
-
-few-requires : tie.Need-few-requires
-few-requires c κs = search judging
+few-notices-requires : tie.Need-few-notices-requires
+few-notices-requires c κs = search judging
 
 rows-requires : tie.Need-rows-requires
 rows-requires c κs = search needs
@@ -33,8 +30,8 @@ rows-requires c κs = search needs
 rows-requires-2 : tie.Need-rows-requires-2
 rows-requires-2 c κs = search needs
 
-add-t19 : tie.Need-add-t19
-add-t19 c = search needs
+add-t18 : tie.Need-add-t18
+add-t18 c = search needs
 
 code-of-requires : tie.Need-code-of-requires
 code-of-requires c κs = search needs
@@ -52,10 +49,9 @@ judge-spec =
     pair-fits-requires
     pair-room-requires
     has-room-requires
-    add-few
-    few-requires
+    few-notices-requires
     rows-requires
     rows-requires-2
-    add-t19
+    add-t18
     code-of-requires
     returns)
