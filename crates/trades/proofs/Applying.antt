@@ -1,17 +1,14 @@
 -- A trade applied: both fills, the reference price, the depth, the tick and the run. Assumes nothing.
 use mathlib.Core.Path.{_≡_, refl, sym, ap, subst, _∙_}
-use mathlib.Core.Bool.{Bool, true, false, cond, _&&_}
-use mathlib.Core.List.{List, [], _∷_, _++_, append-assoc, append-nil}
+use mathlib.Core.Bool.{Bool, true, false, _&&_}
+use mathlib.Core.List.{List, append-assoc, append-nil}
 use Prim.Native.Nat.{ℕ, _+_, _≤_, _<_}
 use native.Mathlib.Omega.{arith}
 use lib.ListN.{length, length-append}
-use Rattle.orderbook.specs.declared.MaybePrice.the-variants.{Some}
-use Rattle.words.specs.Words.{int}
 use Rattle.gateway.specs.Limits.{most-trades, most-notices}
-use Rattle.gateway.specs.Ledger.{Ledger, Change, paper, mark-by, change, changes, step}
+use Rattle.gateway.specs.Ledger.{Change, paper, change, changes, step}
 use Rattle.gateway.specs.Core.{in-flight}
-use Rattle.gateway.specs.Depth.{Depth, apply}
-use Rattle.gateway.specs.Rest.{pending}
+use Rattle.gateway.specs.Depth.{apply}
 use Rattle.gateway.specs.Deliver.{change-notices, tick-of}
 use Rattle.gateway.specs.Calls.{Gateway}
 use Rattle.store.specs.Cells as C
@@ -28,7 +25,7 @@ use Rattle.delivery.specs.Delivery.{landed, after}
 use Rattle.holds.specs.Holds.{change-of, moved}
 use Rattle.holds.proofs.Applying.{notices-count}
 use Rattle.trades.specs.declared.Deal.{Deal}
-use Rattle.trades.specs.Trades.{event-of, taker-fill, maker-fill, settled, with-mark, marked, ticked, in-depth, dealt, Noticed, CanDeal}
+use Rattle.trades.specs.Trades.{event-of, taker-fill, maker-fill, settled, marked, ticked, in-depth, dealt, Noticed, CanDeal}
 use Rattle.trades.proofs.Judging.{trades-count}
 
 -- ---- both fills

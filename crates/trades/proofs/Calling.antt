@@ -1,7 +1,7 @@
 -- The call: from the verdict, what was applied and what was sent. Assumes nothing.
 use mathlib.Core.Path.{_≡_, refl, sym, ap, ap₂, subst, _∙_}
 use mathlib.Core.Bool.{Bool, true, _&&_, and-eq-true-iff}
-use mathlib.Core.List.{List, [], _∷_, _++_}
+use mathlib.Core.List.{List, _++_}
 use Prim.Native.Nat.{ℕ, _+_, _≤_, _<_}
 use native.Mathlib.Omega.{arith}
 use borrow.Author.Tests.{le-leb, leb-true, ltb-true}
@@ -19,36 +19,34 @@ use Rattle.protocol.specs.declared.ReportKind.{ReportKind}
 use Rattle.words.specs.Words.{int, half, modulus, place-of}
 use Rattle.words.proofs.Int.{read}
 use Rattle.gateway.specs.Limits.{session-slots, most-trades, most-notices, most-changed}
-use Rattle.gateway.specs.Ledger.{fits, paper, change}
-use Rattle.gateway.specs.Core.{Pass, in-flight}
-use Rattle.gateway.specs.Depth.{Depth, shows}
+use Rattle.gateway.specs.Ledger.{fits}
+use Rattle.gateway.specs.Core.{Pass}
+use Rattle.gateway.specs.Depth.{shows}
 use Rattle.gateway.specs.Fits.{EventFits}
 use Rattle.gateway.specs.Calls.{Gateway, call, deliver-event}
 use Rattle.gateway.proofs.Depths.{few-counts, changed-decides}
 use Rattle.store.specs.Layout.{cell}
 use Rattle.store.specs.View.{side, gateway}
 use Rattle.pending.proofs.Commands.{side-back}
-use Rattle.sound.specs.Sound.{State, Becomes}
+use Rattle.sound.specs.Sound.{Becomes}
 use Rattle.mailbox.specs.Mailbox.{places}
-use Rattle.marketdata.specs.Marketdata.{Roomy, CanTrade}
+use Rattle.marketdata.specs.Marketdata.{Roomy}
 use Rattle.outcome.specs.declared.Reply.{Reply}
 use Rattle.outcome.specs.Between.{Between}
 use Rattle.outcome.specs.Answers.{verdict, Gives}
 use Rattle.outcome.specs.Parts.{Sends}
 use Rattle.outcome.proofs.Walk.{sends-more}
 use Rattle.reporting.specs.declared.Told.{Told}
-use Rattle.reporting.specs.Reporting.{told-mail, told-rows, Tells}
+use Rattle.reporting.specs.Reporting.{told-mail, told-rows}
 use Rattle.reporting.proofs.Laws.{told-length}
 use Rattle.delivery.specs.Delivery.{tests, call-tests}
 use Rattle.delivery.proofs.Calls.{judged-is, passes, deliver-refused, deliver-done}
 use Rattle.holds.specs.declared.Move.{Move}
-use Rattle.holds.specs.Holds.{change-of, Weighs}
 use Rattle.holds.proofs.Laws.{two-noticed}
 use Rattle.shows.proofs.Judged as Shows
-use Rattle.shows.specs.Shows.{both-few}
 use Rattle.trades.specs.declared.Deal.{Deal}
 use Rattle.trades.specs.declared.Party.{Party}
-use Rattle.trades.specs.Trades.{event-of, Says, taker-fill, maker-fill, Stands, numbers, both-show, trade-tests, in-depth, dealt, Noticed, CanDeal, fill-kind, deal-mail, Reports}
+use Rattle.trades.specs.Trades.{event-of, Says, taker-fill, maker-fill, Stands, trade-tests, in-depth, dealt, CanDeal, fill-kind, deal-mail, Reports}
 use Rattle.trades.proofs.Judging.{differ, mail-is, mail-count, trade-judges}
 use Rattle.trades.proofs.Applying.{dealt-after}
 
@@ -62,7 +60,7 @@ price-fits (negsuc n) h = rw (le-leb n 9223372036854775807 (omega arith))
 pub says-is : (id taker maker : ℕ) (z : Side) (p : ℤ) (q tl ml c w : ℕ) → c ≡ sideCode z → int w ≡ p → mag p < half → tl < modulus → ml < modulus →
     Says (Trade id taker maker z p q tl ml) (record { id = id; taker = taker; maker = maker; side = c; price = w; qty = q; «taker_leaves» = tl; «maker_leaves» = ml })
 says-is id taker maker z p q tl ml c w c-is w-is f h k =
-    record { is = ap₂ (λ (y : Side) (x : ℤ). Trade id taker maker y x q tl ml) (ap side c-is ∙ side-back z) w-is; fits = (price-fits p f, (h, k)) }
+    record { is = ap₂ (λ (y : Side) (x : ℤ). Trade id taker maker y x q tl ml) (ap side c-is ∙ side-back z) w-is; fits = (subst (λ (x : ℤ). fits x ≡ true) (sym w-is) (price-fits p f), (h, k)) }
 
 -- ---- the reports
 
@@ -141,7 +139,4 @@ as-said xs out {ys} {end} n id taker maker z p q tl ml d r h s =
     subst (λ (e : Event). Gives (call (gateway (cell xs)) (deliver-event n e (places (length out)))) r xs ys out end)
     (s .is ∙ ap (λ (y : ℤ). Trade id taker maker z y q tl ml) (read {x = p} h))
 
-pub says-fits : {e : Event} {d : Deal} → Says e d → EventFits (event-of d)
-says-fits s = subst EventFits (sym (s .is)) (s .fits)
-
-pub ruleset calling = (says-is, both-told, party-slot, trade-refused, can-deal, mail-room, trade-done, as-said, says-fits, arith)
+pub ruleset calling = (says-is, both-told, party-slot, trade-refused, can-deal, mail-room, trade-done, as-said, arith)

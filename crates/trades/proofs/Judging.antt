@@ -1,9 +1,9 @@
 -- The tests of a trade are the definitions'. Assumes nothing.
 use mathlib.Core.Path.{_≡_, refl, sym, ap, ap₂, _∙_}
-use mathlib.Core.Bool.{Bool, true, false, not, _&&_, and-eq-true-iff, false≢true}
+use mathlib.Core.Bool.{Bool, true, false, not, _&&_, false≢true}
 use mathlib.Core.Logic.{⊎-elim}
 use mathlib.Core.List.{List, [], _∷_, _++_}
-use Prim.Native.Nat.{ℕ, suc, _+_, _≤_, _<_}
+use Prim.Native.Nat.{ℕ, _+_, _≤_, _<_}
 use native.Mathlib.Omega.{arith}
 use borrow.Author.Tests.{eq-eqb, ne-eqb, lt-ltb, le-ltb, le-leb, lt-leb}
 use lib.Dec.{eqb, ltb, leb}
@@ -11,10 +11,10 @@ use lib.ListN.{length, length-append}
 use Rattle.le.proofs.Laws.{lt-or-le}
 use Rattle.orderbook.specs.Types.{oppositeOf}
 use Rattle.words.specs.Words.{int}
-use Rattle.gateway.specs.Limits.{owner-slots, most-trades, most-notices}
-use Rattle.gateway.specs.Ledger.{Ledger, mark-by, changes, step}
+use Rattle.gateway.specs.Limits.{most-trades, most-notices}
+use Rattle.gateway.specs.Ledger.{mark-by, changes, step}
 use Rattle.gateway.specs.Core.{names-below, numbers-agree, in-flight}
-use Rattle.gateway.specs.Depth.{Depth, Resting, apply, depth-agrees, shows}
+use Rattle.gateway.specs.Depth.{Depth, apply, depth-agrees, shows}
 use Rattle.gateway.specs.Deliver.{reports, tick-of, notices-of}
 use Rattle.gateway.specs.Invariant.{Ok}
 use Rattle.gateway.specs.Calls.{Gateway}
@@ -26,7 +26,6 @@ use Rattle.outcome.specs.Answers.{verdict}
 use Rattle.reporting.specs.declared.Told.{Told}
 use Rattle.reporting.specs.Reporting.{told-mail, told-rows, Tells}
 use Rattle.reporting.proofs.Laws.{told-length}
-use Rattle.delivery.specs.declared.Tests as T
 use Rattle.delivery.specs.Delivery.{tests, Judges}
 use Rattle.holds.specs.declared.Shift.{Shift}
 use Rattle.holds.specs.declared.Move.{Move}

@@ -46,10 +46,10 @@ use Rattle.trades.specs.declared.Party.{Party}
 abbrev pub event-of : Deal → Event
 event-of d = Trade (d .id) (d .taker) (d .maker) (side (d .side)) (int (d .price)) (d .qty) (d .«taker_leaves») (d .«maker_leaves»)
 
--- d says the event, whose numbers fit
+-- d says the event, and its numbers fit
 pub record Says (e : Event) (d : Deal) : Type 0 where
   pub is : event-of d ≡ e
-  pub fits : EventFits e
+  pub fits : EventFits (event-of d)
 
 abbrev pub taker-fill : Deal → Move
 taker-fill d = Fill (d .price) (d .qty) (d .«taker_leaves»)

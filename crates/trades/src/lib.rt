@@ -233,14 +233,7 @@ fn apply(m: &mut [u8], n: u64, d: Deal, at: Found, both: bool)
 {
     settle(m, d, at);
     mark(m, both, d.price);
-    marketdata::on_trade(
-        m,
-        d.taker,
-        d.maker,
-        d.qty,
-        d.taker_leaves,
-        d.maker_leaves,
-    );
+    marketdata::on_trade(m, d.taker, d.maker, d.qty, d.taker_leaves, d.maker_leaves);
     push(m, n, d);
     delivery::land(m, n);
 }

@@ -1,4 +1,4 @@
-use Rattle.trades.proofs.Calling.{says-fits, as-said}
+use Rattle.trades.proofs.Calling.{as-said}
 use borrow.Author.Needs.{needs}
 use Rattle.trades.proofs.trade.Statement.{statement}
 use Rattle.trades.proofs.trade.Tie as tie
@@ -9,7 +9,7 @@ deal-of-requires c κs = search needs
 deliver-requires : tie.Need-deliver-requires
 deliver-requires c κs =
     let o = c .before .before in
-    (o .before .before .before .pre, says-fits (o .deal-of .ensures))
+    (o .before .before .before .pre, o .deal-of .ensures .fits)
 
 same-length : tie.Need-same-length
 same-length c = search needs
