@@ -1,0 +1,108 @@
+-- A trade applied: both fills, the reference price, the depth, the tick and the run. Assumes nothing.
+use mathlib.Core.Path.{_≡_, refl, sym, ap, subst, _∙_}
+use mathlib.Core.Bool.{Bool, true, false, _&&_}
+use mathlib.Core.List.{List, append-assoc, append-nil}
+use Prim.Native.Nat.{ℕ, _+_, _≤_, _<_}
+use native.Mathlib.Omega.{arith}
+use lib.ListN.{length, length-append}
+use Rattle.gateway.specs.Limits.{most-trades, most-notices}
+use Rattle.gateway.specs.Ledger.{Change, paper, change, changes, step}
+use Rattle.gateway.specs.Core.{in-flight}
+use Rattle.gateway.specs.Depth.{apply}
+use Rattle.gateway.specs.Deliver.{change-notices, tick-of}
+use Rattle.gateway.specs.Calls.{Gateway}
+use Rattle.store.specs.Cells as C
+use Rattle.store.specs.Layout.{cell}
+use Rattle.store.specs.View.{word, ledger, depth, gateway, Is}
+use Rattle.pending.specs.Pending as Pending
+use Rattle.pending.proofs.Views.{mark-view, trade-view}
+use Rattle.sound.specs.Sound.{State, Becomes}
+use Rattle.sound.proofs.Kept.{becomes}
+use Rattle.sound.proofs.Waiting.{mark-sound, trade-sound}
+use Rattle.marketdata.specs.Marketdata.{with-depth, CanTrade}
+use Rattle.outcome.proofs.Laws.{then-becomes}
+use Rattle.delivery.specs.Delivery.{landed, after}
+use Rattle.holds.specs.Holds.{change-of, moved}
+use Rattle.holds.proofs.Applying.{notices-count}
+use Rattle.trades.specs.declared.Deal.{Deal}
+use Rattle.trades.specs.Trades.{event-of, taker-fill, maker-fill, settled, marked, ticked, in-depth, dealt, Noticed, CanDeal}
+use Rattle.trades.proofs.Judging.{trades-count}
+
+-- ---- both fills
+
+module _ (xs : List ℕ) (d : Deal) (h : Noticed d (gateway (cell xs))) where
+  abbrev first : Change
+  first = change-of (d .taker) (taker-fill d)
+
+  abbrev second : Change
+  second = change-of (d .maker) (maker-fill d)
+
+  pub taker-room : length (change-notices (change-of (d .taker) (taker-fill d)) (ledger (cell xs))) + word (cell xs) C.notice-rows ≤ most-notices
+  taker-room = omega (arith, notices-count (cell xs), h .few)
+
+  module _ {ys : List ℕ} (b : Becomes ys (moved (change-of (d .taker) (taker-fill d)) (gateway (cell xs)))) where
+    pub maker-room : length (change-notices (change-of (d .maker) (maker-fill d)) (ledger (cell ys))) + word (cell ys) C.notice-rows ≤ most-notices
+    maker-room =
+        let e = ap (λ (g : Gateway). length (change-notices second (g .core .ledger))) (b .gateway-is) in
+        let f = ap (λ (g : Gateway). length (g .rest .notices)) (b .gateway-is) in
+        omega (arith, e, f, notices-count (cell ys), length-append (gateway (cell xs) .rest .notices) (change-notices first (gateway (cell xs) .core .ledger)), h .few)
+
+pub settled-becomes : (xs : List ℕ) {ys zs : List ℕ} (d : Deal) → Becomes ys (moved (change-of (d .taker) (taker-fill d)) (gateway (cell xs))) →
+    Becomes zs (moved (change-of (d .maker) (maker-fill d)) (gateway (cell ys))) → Becomes zs (settled d (gateway (cell xs)))
+settled-becomes xs d b c = then-becomes (moved (change-of (d .maker) (maker-fill d))) b c
+
+-- ---- the reference price
+
+module _ {xs : List ℕ} (st : State xs) (both : Bool) (p : ℕ) where
+  pub mark-stays : both ≡ true → Becomes xs (marked both p (gateway (cell xs)))
+  mark-stays e = record { state = st; gateway-is = sym (ap (λ (b : Bool). marked b p (gateway (cell xs))) e) }
+
+  pub mark-moves : {ys : List ℕ} → both ≡ false → Is ys (Pending.set-mark p (cell xs)) → Becomes ys (marked both p (gateway (cell xs)))
+  mark-moves {ys} e h = subst (λ (b : Bool). Becomes ys (marked b p (gateway (cell xs)))) (sym e) (becomes h (mark-sound (cell xs) (st .sound) p) (mark-view p (cell xs)))
+
+-- ---- the tick
+
+module _ {xs : List ℕ} (st : State xs) (n : ℕ) (d : Deal) (l : length (gateway (cell xs) .rest .trades) < most-trades) where
+  pub tick-room : word (cell xs) C.trade-rows < most-trades
+  tick-room = omega (arith, trades-count (cell xs))
+
+  pub tick-becomes : {ys : List ℕ} → Is ys (Pending.trade n (d .id) (d .side) (d .price) (d .qty) (cell xs)) → Becomes ys (ticked n d (gateway (cell xs)))
+  tick-becomes h = becomes h (trade-sound (cell xs) (st .sound) n (d .id) (d .side) (d .price) (d .qty) tick-room) (trade-view n (d .id) (d .side) (d .price) (d .qty) (cell xs))
+
+-- ---- one behind the other
+
+module _ (xs ys zs : List ℕ) (n : ℕ) (d : Deal) (both : Bool) (can : CanDeal n d (gateway (cell xs))) (s : Becomes ys (settled d (gateway (cell xs)))) (k : Becomes zs (marked both (d .price) (gateway (cell ys)))) where
+  so-far : gateway (cell zs) ≡ marked both (d .price) (settled d (gateway (cell xs)))
+  so-far = k .gateway-is ∙ ap (marked both (d .price)) (s .gateway-is)
+
+  pub still-trades : CanTrade (d .taker) (d .maker) (d .qty) (d .«taker_leaves») (d .«maker_leaves») (depth (cell zs))
+  still-trades = subst (λ (g : Gateway). CanTrade (d .taker) (d .maker) (d .qty) (d .«taker_leaves») (d .«maker_leaves») (g .rest .depth)) (sym so-far) (can .in-book)
+
+  module _ (us : List ℕ) (t : Becomes us (with-depth (in-depth d) (gateway (cell zs)))) where
+    in-all : gateway (cell us) ≡ with-depth (in-depth d) (marked both (d .price) (settled d (gateway (cell xs))))
+    in-all = t .gateway-is ∙ ap (with-depth (in-depth d)) so-far
+
+    pub still-room : length (gateway (cell us) .rest .trades) < most-trades
+    still-room = subst (λ (g : Gateway). length (g .rest .trades) < most-trades) (sym in-all) (can .room)
+
+    module _ (vs : List ℕ) (p : Becomes vs (ticked n d (gateway (cell us)))) where
+      last : gateway (cell vs) ≡ ticked n d (with-depth (in-depth d) (marked both (d .price) (settled d (gateway (cell xs)))))
+      last = p .gateway-is ∙ ap (ticked n d) in-all
+
+      pub still-flying : in-flight n (gateway (cell vs) .core) ≡ true
+      still-flying = ap (λ (g : Gateway). in-flight n (g .core)) last ∙ can .flying
+
+      pub dealt-becomes : {ws : List ℕ} → Becomes ws (landed n (gateway (cell vs))) → Becomes ws (dealt n d both (gateway (cell xs)))
+      dealt-becomes w = record { state = w .state; gateway-is = w .gateway-is ∙ ap (landed n) last }
+
+-- ---- it is the definitions' event: the mark, which comes first there, changes neither orders nor wallets
+
+pub dealt-after : (n : ℕ) (d : Deal) (both : Bool) (g : Gateway) → both ≡ paper (d .taker) (g .core .ledger) && paper (d .maker) (g .core .ledger) → dealt n d both g ≡ after n (event-of d) g
+unfolding changes change step apply tick-of
+dealt-after n d both g e =
+    let l = g .core .ledger in
+    let ns = change-notices (change-of (d .taker) (taker-fill d)) l in
+    let ms = change-notices (change-of (d .maker) (maker-fill d)) (change (change-of (d .taker) (taker-fill d)) l) in
+    rw (e, append-assoc (g .rest .notices) ns ms, append-nil ms) refl
+
+pub ruleset applying = (taker-room, maker-room, settled-becomes, mark-stays, mark-moves, tick-room, tick-becomes, still-trades, still-room, still-flying, dealt-becomes, arith)
