@@ -8,14 +8,32 @@ use protocol::Report;
 use protocol::ReportKind;
 use reporting::Told;
 use store::cells;
+ghost use mathlib.Core.Path.{_≡_};
+ghost use Prim.Native.Nat.{_+_, _≤_, _<_};
+ghost use lib.Dec.{ltb};
+ghost use lib.ListN.{length};
+ghost use Rattle.orderbook.specs.declared.Event.the-variants.{MassCancelled, PhaseChanged};
+ghost use Rattle.gateway.specs.Limits.{session-slots};
+ghost use Rattle.gateway.specs.Core.{owner-limit};
+ghost use Rattle.gateway.specs.Calls.{call, deliver-event};
+ghost use Rattle.store.specs.Layout.{cell};
+ghost use Rattle.store.specs.View.{gateway};
+ghost use Rattle.sound.specs.Sound.{State};
+ghost use Rattle.mailbox.specs.Mailbox.{places};
+ghost use Rattle.outcome.specs.Between.{Between};
+ghost use Rattle.outcome.specs.Answers.{verdict, Gives};
+ghost use Rattle.outcome.specs.Parts.{Sends, Stepped};
+ghost use Rattle.delivery.specs.Delivery as Delivery;
+ghost use Rattle.deliver.specs.Delivering as P;
 
-// ---- a mass cancel
-
-fn judge_mass_cancelled(m: &[u8], n: u64, owner: u64, t: Told, room: usize) -> u64 {
-    let limit = pending::header::word_at(m, cells::OWNER_LIMIT);
+fn judge(m: &[u8], n: u64, below: bool, rows: usize, room: usize) -> u64
+    requires { ⌜ State (now m) ⌝ }
+    ensures { λ r. ⌜ r ≡ verdict (Delivery.tests (P.bare-tests n below rows room (gateway (cell (now (m .entry)))))) ⌝ }
+{
+    let flying = delivery::is_flying(m, n);
     delivery::code_of(Tests {
-        flying: delivery::is_flying(m, n),
-        below: owner < limit,
+        flying,
+        below,
         numbers: true,
         agrees: true,
         holds: true,
@@ -23,12 +41,24 @@ fn judge_mass_cancelled(m: &[u8], n: u64, owner: u64, t: Told, room: usize) -> u
         depth: true,
         trades: true,
         notices: true,
-        room: reporting::rows(t) <= room,
+        room: rows <= room,
     })
 }
 
-// The account's open session, of any number.
-fn told(m: &[u8], owner: usize) -> Told {
+// ---- a mass cancel
+
+fn is_owner(m: &[u8], owner: u64) -> bool
+    requires { ⌜ State (now m) ⌝ }
+    ensures { λ r. ⌜ r ≡ ltb owner (owner-limit (gateway (cell (now (m .entry))) .core)) ⌝ }
+{
+    owner < pending::header::word_at(m, cells::OWNER_LIMIT)
+}
+
+// The open session of an account of any number.
+fn listener(m: &[u8], owner: usize) -> Told
+    requires { ⌜ State (now m) ⌝ }
+    ensures { λ r. ⌜ P.TellsAccount owner r (gateway (cell (now (m .entry)))) ⌝ }
+{
     if owner < clients::OWNER_SLOTS {
         let to = reporting::listener(m, owner);
         return Told { to, client_ref: 0 };
@@ -39,40 +69,52 @@ fn told(m: &[u8], owner: usize) -> Told {
     }
 }
 
-fn mass_cancelled(m: &mut [u8], n: u64, owner: u32, count: u32, out: &mut [u8]) -> Reply {
-    let t = told(m, owner as usize);
-    let code = judge_mass_cancelled(m, n, owner as u64, t, mailbox::room(out));
+fn mass_cancelled(m: &mut [u8], n: u64, owner: u32, count: u32, out: &mut [u8]) -> Reply
+    requires { ⌜ Between (now m) ⌝ }
+    ensures { λ r. ⌜ Gives (call (gateway (cell (now (m .entry)))) (deliver-event n (MassCancelled owner count) (places (length (now (out .entry)))))) r (now (m .entry)) (now (m .exit)) (now (out .entry)) (now (out .exit)) ⌝ }
+{
+    let below = is_owner(m, owner as u64);
+    let t = listener(m, owner as usize);
+    let k = reporting::rows(t);
+    let code = judge(m, n, below, k, mailbox::room(out));
     if code != 0 {
         return Reply { code, count: 0 };
     }
     delivery::land(m, n);
     reporting::report(m, out, 0, n, 0, t, ReportKind::MassCancelled { count });
-    Reply {
-        code: 0,
-        count: reporting::rows(t),
-    }
+    Reply { code: 0, count: k }
 }
 
 // ---- a phase change, to each open session
 
-fn rows(m: &[u8], s: usize) -> usize {
+fn rows(m: &[u8], s: usize, n: u64, phase: Phase) -> usize
+    requires { ⌜ State (now m) ⌝ }
+    ensures { λ r. ⌜ (r ≡ length (P.phase-step n phase (gateway (cell (now (m .entry)))) s)) × (r ≤ 1) ⌝ }
+{
     if clients::is_open(m, s) {
         return 1;
     }
     0
 }
 
-fn count(m: &[u8]) -> usize {
-    let mut n: usize = 0;
+fn count(m: &[u8], n: u64, phase: Phase) -> usize
+    requires { ⌜ State (now m) ⌝ }
+    ensures { λ r. ⌜ r ≡ length (P.phase-mail n phase (gateway (cell (now (m .entry))))) ⌝ }
+{
+    let mut k: usize = 0;
     let mut s: usize = 0;
     while s < clients::SESSION_SLOTS {
-        n += rows(m, s);
+        k += rows(m, s, n, phase);
         s += 1;
     }
-    n
+    k
 }
 
-fn visit(m: &mut [u8], out: &mut [u8], i: usize, s: usize, n: u64, phase: Phase) -> usize {
+// One session's turn; the place behind its mail.
+fn visit(m: &mut [u8], out: &mut [u8], i: usize, s: usize, n: u64, phase: Phase) -> usize
+    requires { ⌜ State (now m) × (s < session-slots) × (i + length (P.phase-step n phase (gateway (cell (now m))) s) ≤ places (length (now out))) ⌝ }
+    ensures { λ r. ⌜ Stepped (P.phase-step n phase) i s r (now (m .entry)) (now (m .exit)) (now (out .entry)) (now (out .exit)) ⌝ }
+{
     if clients::is_open(m, s) {
         let r = Report {
             seq: n,
@@ -86,33 +128,25 @@ fn visit(m: &mut [u8], out: &mut [u8], i: usize, s: usize, n: u64, phase: Phase)
     i
 }
 
-fn tell_all(m: &mut [u8], out: &mut [u8], n: u64, phase: Phase) {
+fn tell_all(m: &mut [u8], out: &mut [u8], n: u64, phase: Phase) -> usize
+    requires { ⌜ State (now m) × (0 + length (P.phase-mail n phase (gateway (cell (now m)))) ≤ places (length (now out))) ⌝ }
+    ensures { λ r. ⌜ Stepped (λ g j. P.phase-mail n phase g) 0 0 r (now (m .entry)) (now (m .exit)) (now (out .entry)) (now (out .exit)) ⌝ }
+{
     let mut i: usize = 0;
     let mut s: usize = 0;
     while s < clients::SESSION_SLOTS {
         i = visit(m, out, i, s, n, phase);
         s += 1;
     }
+    i
 }
 
-fn judge_phase_changed(m: &[u8], n: u64, k: usize, room: usize) -> u64 {
-    delivery::code_of(Tests {
-        flying: delivery::is_flying(m, n),
-        below: true,
-        numbers: true,
-        agrees: true,
-        holds: true,
-        levels: true,
-        depth: true,
-        trades: true,
-        notices: true,
-        room: k <= room,
-    })
-}
-
-fn phase_changed(m: &mut [u8], n: u64, phase: Phase, out: &mut [u8]) -> Reply {
-    let k = count(m);
-    let code = judge_phase_changed(m, n, k, mailbox::room(out));
+fn phase_changed(m: &mut [u8], n: u64, phase: Phase, out: &mut [u8]) -> Reply
+    requires { ⌜ Between (now m) ⌝ }
+    ensures { λ r. ⌜ Gives (call (gateway (cell (now (m .entry)))) (deliver-event n (PhaseChanged phase) (places (length (now (out .entry)))))) r (now (m .entry)) (now (m .exit)) (now (out .entry)) (now (out .exit)) ⌝ }
+{
+    let k = count(m, n, phase);
+    let code = judge(m, n, true, k, mailbox::room(out));
     if code != 0 {
         return Reply { code, count: 0 };
     }
@@ -123,7 +157,10 @@ fn phase_changed(m: &mut [u8], n: u64, phase: Phase, out: &mut [u8]) -> Reply {
 
 // ---- the call
 
-pub fn deliver(m: &mut [u8], n: u64, e: Event, out: &mut [u8]) -> Reply {
+pub fn deliver(m: &mut [u8], n: u64, e: Event, out: &mut [u8]) -> Reply
+    requires { ⌜ Between (now m) ⌝ }
+    ensures { λ r. ⌜ Gives (call (gateway (cell (now (m .entry)))) (deliver-event n e (places (length (now (out .entry)))))) r (now (m .entry)) (now (m .exit)) (now (out .entry)) (now (out .exit)) ⌝ }
+{
     match e {
         Event::Accepted { id } => events::accepted(m, n, id, out),
         Event::Rejected { id, reason } => events::rejected(m, n, id, reason, out),

@@ -16,6 +16,7 @@ use Rattle.sound.specs.Sound.{State, Becomes}
 use Rattle.sound.proofs.Kept.{becomes}
 use Rattle.sound.proofs.Waiting.{published-sound}
 use Rattle.mailbox.specs.Mailbox.{places}
+use Rattle.outcome.proofs.Steps.{steps-kept}
 use Rattle.outcome.specs.Between.{Between}
 use Rattle.outcome.specs.Parts.{with-rest, rest-of, Sends, steps}
 use Rattle.outcome.specs.Answers.{Gives}
@@ -23,7 +24,7 @@ use Rattle.outcome.proofs.Laws.{then-becomes}
 use Rattle.outcome.proofs.Calls.{sends-short, sends-done}
 use Rattle.outcome.proofs.Walk.{sends-more}
 use Rattle.feed.specs.Feed.{Told, balances, market, changes-step, most-market, most-mail}
-use Rattle.feed.proofs.Stamps.{changes-keeps, steps-kept, stamped-published, sends-room}
+use Rattle.feed.proofs.Stamps.{changes-keeps, stamped-published, sends-room}
 use Rattle.feed.proofs.Changes.{sessions-each}
 
 abbrev pub mail : List ℕ → List Mail

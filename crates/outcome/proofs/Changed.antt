@@ -8,7 +8,7 @@ use lib.ListN.{getD, set}
 use lib.Dec.{eqb}
 use Rattle.gateway.specs.Basics.{option}
 use Rattle.gateway.specs.Rest as Rest
-use Rattle.gateway.specs.Rest.{Session, Mail, Rest, with-sessions, account-of, logged-in, session-from, session-of, update-session, stamped, each-from}
+use Rattle.gateway.specs.Rest.{Session, Mail, Rest, with-sessions, account-of, logged-in, session-from, session-of, is-open, update-session, stamped, each-from}
 
 -- ---- one session changes
 
@@ -52,6 +52,10 @@ module _ (u v : Session → Session) (e : (x : Session) → u (v x) ≡ v (u x))
 sent-account : (t : ℕ) (x : Option Session) → account-of (Option·map (Rest.set-sent t) x) ≡ account-of x
 sent-account t none = refl
 sent-account t (some x) = refl
+
+pub sent-open : (t : ℕ) (x : Option Session) → is-open (Option·map (Rest.set-sent t) x) ≡ is-open x
+sent-open t none = refl
+sent-open t (some x) = refl
 
 pub session-of-stamped : (a : ℕ) (ms : List Mail) (r : Rest) → session-of a (stamped ms r) ≡ session-of a r
 session-of-stamped a [] r = refl

@@ -1,5 +1,5 @@
 -- A walk in which each step sends something and changes no more than the stamps of what it sends. Assumes nothing.
-use mathlib.Core.Path.{_≡_, refl, sym, ap, _∙_}
+use mathlib.Core.Path.{_≡_, refl, sym, ap, ap₂, _∙_}
 use mathlib.Core.Logic.{⊎-elim}
 use mathlib.Core.Option.{Option, none}
 use mathlib.Core.List.{List, [], _∷_, _++_, map, append-nil, append-assoc}
@@ -107,3 +107,23 @@ module _ (h : ℕ → Option Session → List Mail) (f : Steps) (g : Gateway) (e
 
   pub steps-sessions : (n : ℕ) → n ≡ length (g .rest .sessions) → steps f g n ≡ each-session h (g .rest)
   steps-sessions n q = sessions-taken n (omega arith) ∙ ap (each-from 0 h) (take-all n (g .rest .sessions) (omega arith))
+
+-- ---- the whole walk
+
+module _ (f : Steps) (keeps : (g : Gateway) (ms : List Mail) (j : ℕ) → f (with-rest (stamped ms) g) j ≡ f g j) where
+  pub steps-kept : (g : Gateway) (ms : List Mail) (n : ℕ) → steps f (with-rest (stamped ms) g) n ≡ steps f g n
+  unfolding steps
+  steps-kept g ms zero = refl
+  steps-kept g ms (suc n) = ap₂ (λ (a b : List Mail). a ++ b) (steps-kept g ms n) (keeps g ms n)
+
+-- f sends ms in as many steps as there are rows
+module _ (f : Steps) (keeps : (g : Gateway) (ms : List Mail) (j : ℕ) → f (with-rest (stamped ms) g) j ≡ f g j) (xs out : List ℕ) (i rows : ℕ) (ms : Gateway → List Mail)
+    (all : steps f (gateway (cell xs)) rows ≡ ms (gateway (cell xs))) {ys end : List ℕ} {n j : ℕ} (t : Sent f keeps xs out i ys end n j) where
+  pub walk-room : j < rows → (k : ℕ) → i + length (ms (gateway (cell xs))) ≤ k → n + length (f (gateway (cell ys)) j) ≤ k
+  walk-room l k h = sent-room f keeps xs out i t rows k l (omega (arith, ap length all))
+
+  pub walk-last : j ≤ rows → rows ≤ j → Stepped (λ h k. ms h) i 0 n xs ys out end
+  walk-last a b =
+      let e : j ≡ rows = omega arith in
+      let q : steps f (gateway (cell xs)) j ≡ ms (gateway (cell xs)) = ap (steps f (gateway (cell xs))) e ∙ all in
+      record { next-is = t .next-is ∙ ap (λ l. i + length l) q; sends = rw q at (t .sends) }

@@ -72,7 +72,7 @@ session-count xs = slots xs
 
 -- ---- whom it is told
 
-to-open : (a : ℕ) (m : Report) (r : Rest) → report-to (session-of a r) m r ≡ option [] (λ s. send s (Out.Report m) ∷ []) (where-open (session-of a r) r)
+pub to-open : (a : ℕ) (m : Report) (r : Rest) → report-to (session-of a r) m r ≡ option [] (λ s. send s (Out.Report m) ∷ []) (where-open (session-of a r) r)
 to-open a m r = go (session-of a r)
   where
     sent : (t : ℕ) (b : Bool) → cond b (send t (Out.Report m) ∷ []) [] ≡ option [] (λ s. send s (Out.Report m) ∷ []) (cond b (some t) none)

@@ -2,9 +2,9 @@ use Prim.Native.Nat.{_-_, _≤_}
 use mathlib.Core.Path.{_≡_, refl}
 use native.Mathlib.Omega.{arith}
 use lib.ListN.{length}
-use Rattle.outcome.proofs.Steps.{Sent, sent-first, sent-more}
+use Rattle.outcome.proofs.Steps.{Sent, sent-first, sent-more, walk-room, walk-last}
 use Rattle.feed.specs.Feed.{notice-step, balances}
-use Rattle.feed.proofs.Stamps.{notice-keeps, exact-sends, rows-kept, walk-room, walk-last}
+use Rattle.feed.proofs.Stamps.{notice-keeps, exact-sends, rows-kept}
 use Rattle.feed.proofs.Notices.{notices-many, notices-each}
 use borrow.Author.Needs.{needs}
 use Rattle.feed.proofs.send_balances.Statement.{statement}

@@ -3,9 +3,9 @@ use mathlib.Core.Path.{_≡_, refl}
 use native.Mathlib.Omega.{arith}
 use lib.ListN.{length}
 use Rattle.mailbox.specs.Mailbox.{places}
-use Rattle.outcome.proofs.Steps.{Sent, sent-first, sent-more}
+use Rattle.outcome.proofs.Steps.{Sent, sent-first, sent-more, walk-room, walk-last}
 use Rattle.feed.specs.Feed.{level-step, levels-to}
-use Rattle.feed.proofs.Stamps.{level-keeps, rows-kept, walk-room, walk-last}
+use Rattle.feed.proofs.Stamps.{level-keeps, rows-kept}
 use Rattle.feed.proofs.Changes.{changed-many, levels-each}
 use borrow.Author.Needs.{needs}
 use Rattle.feed.proofs.send_levels.Statement.{statement}

@@ -3,9 +3,9 @@ use mathlib.Core.Path.{_≡_, refl}
 use native.Mathlib.Omega.{arith}
 use lib.ListN.{length}
 use Rattle.gateway.specs.Limits.{session-slots}
-use Rattle.outcome.proofs.Steps.{Sent, sent-first, sent-more}
+use Rattle.outcome.proofs.Steps.{Sent, sent-first, sent-more, walk-room, walk-last}
 use Rattle.feed.specs.Feed.{changes-step, market}
-use Rattle.feed.proofs.Stamps.{changes-keeps, walk-room, walk-last}
+use Rattle.feed.proofs.Stamps.{changes-keeps}
 use Rattle.feed.proofs.Changes.{sessions-each}
 use borrow.Author.Needs.{needs}
 use Rattle.feed.proofs.send_market.Statement.{statement}

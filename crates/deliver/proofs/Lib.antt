@@ -1,0 +1,3 @@
+pub mod Masses
+pub mod Phases
+pub mod Events
