@@ -105,4 +105,4 @@ dealt-after n d both g e =
     let ms = change-notices (change-of (d .maker) (maker-fill d)) (change (change-of (d .taker) (taker-fill d)) l) in
     rw (e, append-assoc (g .rest .notices) ns ms, append-nil ms) refl
 
-pub ruleset applying = (taker-room, maker-room, settled-becomes, mark-stays, mark-moves, tick-room, tick-becomes, still-trades, still-room, still-flying, dealt-becomes, arith)
+pub ruleset applying = (taker-room, maker-room, settled-becomes, mark-stays, mark-moves, tick-room, tick-becomes, still-room, still-flying, arith)

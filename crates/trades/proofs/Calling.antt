@@ -18,7 +18,7 @@ use Rattle.protocol.specs.Codes.{sideCode}
 use Rattle.protocol.specs.declared.ReportKind.{ReportKind}
 use Rattle.words.specs.Words.{int, half, modulus, place-of}
 use Rattle.words.proofs.Int.{read}
-use Rattle.gateway.specs.Limits.{session-slots, most-trades, most-notices, most-changed}
+use Rattle.gateway.specs.Limits.{most-trades, most-notices, most-changed}
 use Rattle.gateway.specs.Ledger.{fits}
 use Rattle.gateway.specs.Core.{Pass}
 use Rattle.gateway.specs.Depth.{shows}
@@ -41,7 +41,6 @@ use Rattle.reporting.specs.Reporting.{told-mail, told-rows}
 use Rattle.reporting.proofs.Laws.{told-length}
 use Rattle.delivery.specs.Delivery.{tests, call-tests}
 use Rattle.delivery.proofs.Calls.{judged-is, passes, deliver-refused, deliver-done}
-use Rattle.holds.specs.declared.Move.{Move}
 use Rattle.holds.proofs.Laws.{two-noticed}
 use Rattle.shows.proofs.Judged as Shows
 use Rattle.trades.specs.declared.Deal.{Deal}
@@ -78,10 +77,6 @@ module _ (xs out : List ℕ) (n : ℕ) (d : Deal) (a b : Told) (z o : Side) (k l
       mails =
           ap₂ (λ (x y : ReportKind). told-mail n (d .taker) x a ++ told-mail n (d .maker) y b) (k-is ∙ ap (λ (y : Side). fill-kind d y (d .«taker_leaves»)) z-is)
           (l-is ∙ ap (λ (y : Side). fill-kind d y (d .«maker_leaves»)) (o-is ∙ ap oppositeOf z-is))
-
--- a party's session
-pub party-slot : {i : ℕ} {x : Move} {p : Party} {xs : List ℕ} → Stands i x p xs → p .told .to ≤ session-slots
-party-slot s = s .tells .slot
 
 -- ---- the call
 
@@ -139,4 +134,4 @@ as-said xs out {ys} {end} n id taker maker z p q tl ml d r h s =
     subst (λ (e : Event). Gives (call (gateway (cell xs)) (deliver-event n e (places (length out)))) r xs ys out end)
     (s .is ∙ ap (λ (y : ℤ). Trade id taker maker z y q tl ml) (read {x = p} h))
 
-pub ruleset calling = (says-is, both-told, party-slot, trade-refused, can-deal, mail-room, trade-done, as-said, arith)
+pub ruleset calling = (both-told, trade-refused, arith)

@@ -29,7 +29,7 @@ use Rattle.reporting.proofs.Laws.{told-length}
 use Rattle.delivery.specs.Delivery.{tests, Judges}
 use Rattle.holds.specs.declared.Shift.{Shift}
 use Rattle.holds.specs.declared.Move.{Move}
-use Rattle.holds.specs.Holds.{change-of, Weighs, Owned, pair-fits}
+use Rattle.holds.specs.Holds.{change-of, Weighs, pair-fits}
 use Rattle.holds.proofs.Laws as Holds
 use Rattle.holds.proofs.Laws.{weighs-few, trade-noticed}
 use Rattle.holds.proofs.Applying.{notices-count}
@@ -82,9 +82,6 @@ notices-fit s a b r e = e ∙ ap (λ k. leb (a .notices + b .notices + k) most-n
 -- ---- what is asked of the parties
 
 module _ {i : ℕ} {x : Move} {p : Party} {xs : List ℕ} (s : Stands i x p xs) where
-  pub party-owned : Owned (p .shift) (gateway (cell xs) .core .ledger)
-  party-owned = s .weighs .owned
-
   pub party-few : p .shift .notices ≤ 2
   party-few = weighs-few (s .weighs)
 
@@ -153,4 +150,4 @@ module _ (g : Gateway) (ok : Ok g) (n : ℕ) (d : Deal) (a b : Party) (w : Weigh
         room-is = λ _. ap (λ k. leb k room) (mail-count n d (a .told) (b .told) ∙ ap length (mail-is n d (a .told) (b .told) g t u));
       }
 
-pub ruleset judging = (one-order, two-orders, later-taker, shows-too, shows-less, room-is, notices-fit, party-owned, party-few, judge-is, arith)
+pub ruleset judging = (one-order, two-orders, later-taker, shows-too, shows-less, room-is, notices-fit, party-few, judge-is, arith)
