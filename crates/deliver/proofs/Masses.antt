@@ -151,4 +151,8 @@ module _ (xs out : List ℕ) (n o c : ℕ) (b : Between xs) (below : Bool) (belo
   mass-done {ys} {zs} {end} z d h =
       bare-done (mass-bare o c) xs out n b below below-is k rows-are p v room v-is z d (subst (λ ms. Sends 0 ms (λ x. x) ys zs out end) mail-is h)
 
+-- the rows of a report by their count
+pub told-fits : {k rows room : ℕ} → k ≡ rows → 0 + k ≤ room → 0 + rows ≤ room
+told-fits e l = omega (arith, e, l)
+
 pub ruleset masses = (bare-judged, owner-is, account-told, nobody-told, mass-refused, arith)
