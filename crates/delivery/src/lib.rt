@@ -25,15 +25,6 @@ pub struct Tests {
     pub room: bool,
 }
 
-// The codes of 01 that these tests give.
-const SEQUENCE: u64 = 4;
-
-const OUT_OF_RANGE: u64 = 1;
-
-const INCONSISTENT: u64 = 8;
-
-const OUTSIDE: u64 = 7;
-
 // One test before others: its code where it fails, else theirs.
 fn check(ok: bool, code: u64, rest: u64) -> u64
     ensures { λ r. ⌜ r ≡ P.check ok code rest ⌝ }
@@ -49,12 +40,12 @@ pub fn code_of(t: Tests) -> u64
     let notices = check(t.notices, outcome::FULL, room);
     let trades = check(t.trades, outcome::FULL, notices);
     let depth = check(t.depth, outcome::FULL, trades);
-    let levels = check(t.levels, OUTSIDE, depth);
-    let holds = check(t.holds, OUTSIDE, levels);
-    let agrees = check(t.agrees, INCONSISTENT, holds);
-    let numbers = check(t.numbers, INCONSISTENT, agrees);
-    let below = check(t.below, OUT_OF_RANGE, numbers);
-    check(t.flying, SEQUENCE, below)
+    let levels = check(t.levels, outcome::OUTSIDE, depth);
+    let holds = check(t.holds, outcome::OUTSIDE, levels);
+    let agrees = check(t.agrees, outcome::INCONSISTENT, holds);
+    let numbers = check(t.numbers, outcome::INCONSISTENT, agrees);
+    let below = check(t.below, outcome::OUT_OF_RANGE, numbers);
+    check(t.flying, outcome::SEQUENCE, below)
 }
 
 pub fn is_flying(m: &[u8], n: u64) -> bool

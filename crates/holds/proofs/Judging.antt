@@ -23,12 +23,6 @@ use Rattle.holds.specs.Holds.{Owned, shift-fits, is-one, pair-fits}
 
 -- ---- both are parts of one total
 
-pub meet-buy : (a b : ℕ) → a ≡ 0 → eqb b 0 ≡ same-side (side a) (side b)
-meet-buy a b e = rw (eq-eqb a 0 e) (split (λ c. c ≡ same-side (side 0) (cond (not c) (side 1) (side 0))) (eqb b 0) (λ _. refl) (λ _. refl))
-
-pub meet-sell : (a b : ℕ) → (a ≡ 0 → ⊥) → not (eqb b 0) ≡ same-side (side a) (side b)
-meet-sell a b e = rw (ne-eqb a 0 e) (split (λ c. not c ≡ same-side (side 1) (cond (not c) (side 1) (side 0))) (eqb b 0) (λ _. refl) (λ _. refl))
-
 module _ (s t : Shift) where
   pub one-by-side : (r : Bool) → s .funded ≡ true → t .funded ≡ true → s .account ≡ t .account → r ≡ same-side (side (s .side)) (side (t .side)) → r ≡ is-one s t
   one-by-side r f g e h = h ∙ sym (rw (f, g, eq-eqb (s .account) (t .account) e) refl)
@@ -89,4 +83,4 @@ module _ {xs : List ℕ} (b : Between xs) (s : Shift) (o : Owned s (ledger (cell
 pub few-is : (s : Store) (k n : ℕ) → n ≡ word s C.notice-rows → leb (k + n) most-notices ≡ leb (k + word s C.notice-rows) most-notices
 few-is s k n e = ap (λ m. leb (k + m) most-notices) e
 
-pub ruleset judging = (meet-buy, meet-sell, one-by-side, other-account, second-without, first-without, fits-none, fits-some, pair-one, pair-second, pair-first, few-is, arith)
+pub ruleset judging = (one-by-side, other-account, second-without, first-without, fits-none, fits-some, pair-one, pair-second, pair-first, few-is, arith)

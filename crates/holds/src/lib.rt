@@ -7,11 +7,11 @@ ghost use Prim.Native.Nat.{_+_, _≤_, _<_};
 ghost use lib.ListN.{length};
 ghost use lib.Dec.{leb};
 ghost use Rattle.gateway.specs.Limits.{owner-slots, most-notices};
-ghost use Rattle.gateway.specs.Ledger.{number-of, change, same-side};
+ghost use Rattle.gateway.specs.Ledger.{number-of, change};
 ghost use Rattle.gateway.specs.Deliver.{change-notices};
 ghost use Rattle.store.specs.Cells as C;
 ghost use Rattle.store.specs.Layout.{cell};
-ghost use Rattle.store.specs.View.{word, side, order, ledger, gateway};
+ghost use Rattle.store.specs.View.{word, order, ledger, gateway};
 ghost use Rattle.orders.specs.Orders.{Sees, number-at};
 ghost use Rattle.sound.specs.Sound.{State, Becomes};
 ghost use Rattle.live.specs.Live.{At, with-ledger, with-notices};
@@ -129,12 +129,6 @@ pub fn fits(m: &[u8], s: Shift) -> bool
     true
 }
 
-fn same_side(a: u64, b: u64) -> bool
-    ensures { λ r. ⌜ r ≡ same-side (side a) (side b) ⌝ }
-{
-    if a == 0 { b == 0 } else { b != 0 }
-}
-
 // Both are parts of one total.
 fn is_one(s: Shift, t: Shift) -> bool
     ensures { λ r. ⌜ r ≡ P.is-one s t ⌝ }
@@ -142,7 +136,7 @@ fn is_one(s: Shift, t: Shift) -> bool
     if s.funded {
         if t.funded {
             if s.account == t.account {
-                return same_side(s.side, t.side);
+                return pending::changed::same_side(s.side, t.side);
             }
         }
     }
