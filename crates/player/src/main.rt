@@ -6,8 +6,12 @@ use accounts::Timing;
 use balances::MaybeBalance;
 use commands::MaybeId;
 use libc::STDOUT_FILENO;
+use orderbook::CancelReason;
+use orderbook::Event;
 use orderbook::MaybePrice;
 use orderbook::MaybeQty;
+use orderbook::Phase;
+use orderbook::RejectReason;
 use orderbook::Side;
 use orderbook::TimeInForce;
 use outcome::Reply;
@@ -17,7 +21,10 @@ use protocol::LogoutReason;
 use protocol::NewOrder;
 use protocol::OrderKind;
 use protocol::codes;
+use protocol::codes::MaybeCancelReason;
 use protocol::codes::MaybeLogoutReason;
+use protocol::codes::MaybePhase;
+use protocol::codes::MaybeRejectReason;
 use protocol::codes::MaybeTimeInForce;
 use risk::MaybePercent;
 ghost use Prim.Native.Nat.{_≤_};
@@ -381,7 +388,129 @@ fn receive(m: &mut [u8], row: &[u8], got: &mut [u8], out: &mut [u8])
     reply(got, r);
 }
 
-fn call(m: &mut [u8], row: &[u8], got: &mut [u8], out: &mut [u8])
+// ---- events
+
+fn reject_reason(row: &[u8]) -> RejectReason {
+    match codes::reject_reason_of(code(row, 7)) {
+        MaybeRejectReason::Some(why) => why,
+        MaybeRejectReason::None => RejectReason::InvalidQuantity,
+    }
+}
+
+fn cancel_reason(row: &[u8]) -> CancelReason {
+    match codes::cancel_reason_of(code(row, 8)) {
+        MaybeCancelReason::Some(why) => why,
+        MaybeCancelReason::None => CancelReason::Requested,
+    }
+}
+
+fn phase(row: &[u8]) -> Phase {
+    match codes::phase_of(code(row, 6)) {
+        MaybePhase::Some(phase) => phase,
+        MaybePhase::None => Phase::Continuous,
+    }
+}
+
+fn traded(row: &[u8]) -> Event {
+    let taker_side = side(row, 9);
+    Event::Trade {
+        trade_id: word(row, 6),
+        taker: word(row, 7),
+        maker: word(row, 8),
+        taker_side,
+        price: price(row, 10),
+        qty: word(row, 11),
+        taker_leaves: word(row, 12),
+        maker_leaves: word(row, 13),
+    }
+}
+
+fn rested(row: &[u8]) -> Event {
+    let side = side(row, 7);
+    Event::Rested {
+        id: word(row, 6),
+        side,
+        price: price(row, 8),
+        qty: word(row, 9),
+        visible: word(row, 10),
+    }
+}
+
+fn replenished(row: &[u8]) -> Event {
+    let side = side(row, 7);
+    Event::Replenished {
+        id: word(row, 6),
+        side,
+        price: price(row, 8),
+        visible: word(row, 9),
+    }
+}
+
+fn stop_limit(row: &[u8]) -> MaybePrice {
+    if word(row, 9) == 0 {
+        return MaybePrice::None;
+    }
+    MaybePrice::Some(price(row, 10))
+}
+
+fn stop_placed(row: &[u8]) -> Event {
+    let side = side(row, 7);
+    let limit = stop_limit(row);
+    Event::StopPlaced {
+        id: word(row, 6),
+        side,
+        trigger: price(row, 8),
+        limit,
+        qty: word(row, 11),
+    }
+}
+
+fn event(row: &[u8]) -> Event {
+    match word(row, 5) {
+        0 => Event::Accepted { id: word(row, 6) },
+        1 => Event::Rejected {
+            id: word(row, 6),
+            reason: reject_reason(row),
+        },
+        2 => traded(row),
+        3 => rested(row),
+        4 => replenished(row),
+        5 => Event::Cancelled {
+            id: word(row, 6),
+            qty: word(row, 7),
+            reason: cancel_reason(row),
+        },
+        6 => Event::Modified {
+            id: word(row, 6),
+            price: price(row, 7),
+            qty: word(row, 8),
+            leaves: word(row, 9),
+        },
+        7 => stop_placed(row),
+        8 => Event::Triggered { id: word(row, 6) },
+        9 => Event::MassCancelled {
+            owner: small(row, 6),
+            count: small(row, 7),
+        },
+        _ => Event::PhaseChanged { phase: phase(row) },
+    }
+}
+
+fn deliver(m: &mut [u8], row: &[u8], got: &mut [u8], out: &mut [u8])
+    requires { ⌜ Between (now m) ⌝ }
+    ensures { λ r. ⌜ Between (now (m .exit)) ⌝ }
+{
+    let e = event(row);
+    let r = deliver::deliver(m, word(row, 4), e, out);
+    reply(got, r);
+}
+
+// A call that is not here differs in its number.
+fn unknown(got: &mut [u8]) {
+    put(got, 0, u64::MAX);
+}
+
+fn call_to_6(m: &mut [u8], row: &[u8], got: &mut [u8], out: &mut [u8])
     requires { ⌜ Between (now m) ⌝ }
     ensures { λ r. ⌜ Between (now (m .exit)) ⌝ }
 {
@@ -391,17 +520,48 @@ fn call(m: &mut [u8], row: &[u8], got: &mut [u8], out: &mut [u8])
         4 => wallet(m, row, got),
         5 => last_seq(m, got),
         6 => levels(m, row, got, out),
+        _ => unknown(got),
+    }
+}
+
+fn call_to_11(m: &mut [u8], row: &[u8], got: &mut [u8], out: &mut [u8])
+    requires { ⌜ Between (now m) ⌝ }
+    ensures { λ r. ⌜ Between (now (m .exit)) ⌝ }
+{
+    match word(row, 0) {
         7 => receive(m, row, got, out),
         8 => tick(m, row, got, out),
         9 => publish(m, got, out),
         10 => end(m, row, got, out),
-        11 => shut_down(m, got, out),
+        _ => shut_down(m, got, out),
+    }
+}
+
+fn call_to_15(m: &mut [u8], row: &[u8], got: &mut [u8], out: &mut [u8])
+    requires { ⌜ Between (now m) ⌝ }
+    ensures { λ r. ⌜ Between (now (m .exit)) ⌝ }
+{
+    match word(row, 0) {
         12 => disconnect(m, row, got),
         13 => detach(m, row, got),
         14 => take_batch(m, got, out),
-        // A call that is not here differs in its number.
-        _ => put(got, 0, u64::MAX),
+        15 => deliver(m, row, got, out),
+        _ => unknown(got),
     }
+}
+
+fn call(m: &mut [u8], row: &[u8], got: &mut [u8], out: &mut [u8])
+    requires { ⌜ Between (now m) ⌝ }
+    ensures { λ r. ⌜ Between (now (m .exit)) ⌝ }
+{
+    let n = word(row, 0);
+    if n < 7 {
+        return call_to_6(m, row, got, out);
+    }
+    if n < 12 {
+        return call_to_11(m, row, got, out);
+    }
+    call_to_15(m, row, got, out)
 }
 
 // ---- what differs
