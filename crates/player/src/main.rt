@@ -510,7 +510,7 @@ fn unknown(got: &mut [u8]) {
     put(got, 0, u64::MAX);
 }
 
-fn call_to_6(m: &mut [u8], row: &[u8], got: &mut [u8], out: &mut [u8])
+fn call_of_state(m: &mut [u8], row: &[u8], got: &mut [u8], out: &mut [u8])
     requires { ⌜ Between (now m) ⌝ }
     ensures { λ r. ⌜ Between (now (m .exit)) ⌝ }
 {
@@ -524,7 +524,7 @@ fn call_to_6(m: &mut [u8], row: &[u8], got: &mut [u8], out: &mut [u8])
     }
 }
 
-fn call_to_11(m: &mut [u8], row: &[u8], got: &mut [u8], out: &mut [u8])
+fn call_of_sessions(m: &mut [u8], row: &[u8], got: &mut [u8], out: &mut [u8])
     requires { ⌜ Between (now m) ⌝ }
     ensures { λ r. ⌜ Between (now (m .exit)) ⌝ }
 {
@@ -537,7 +537,7 @@ fn call_to_11(m: &mut [u8], row: &[u8], got: &mut [u8], out: &mut [u8])
     }
 }
 
-fn call_to_15(m: &mut [u8], row: &[u8], got: &mut [u8], out: &mut [u8])
+fn call_of_engine(m: &mut [u8], row: &[u8], got: &mut [u8], out: &mut [u8])
     requires { ⌜ Between (now m) ⌝ }
     ensures { λ r. ⌜ Between (now (m .exit)) ⌝ }
 {
@@ -556,12 +556,12 @@ fn call(m: &mut [u8], row: &[u8], got: &mut [u8], out: &mut [u8])
 {
     let n = word(row, 0);
     if n < 7 {
-        return call_to_6(m, row, got, out);
+        return call_of_state(m, row, got, out);
     }
     if n < 12 {
-        return call_to_11(m, row, got, out);
+        return call_of_sessions(m, row, got, out);
     }
-    call_to_15(m, row, got, out)
+    call_of_engine(m, row, got, out)
 }
 
 // ---- what differs
