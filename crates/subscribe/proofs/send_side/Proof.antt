@@ -6,9 +6,9 @@ use Rattle.mailbox.specs.Mailbox.{places}
 use Rattle.sound.proofs.Listed.{size-levels}
 use Rattle.store.specs.Layout.{cell}
 use Rattle.store.specs.View.{gateway}
-use Rattle.outcome.proofs.Steps.{Sent, sent-first, sent-more}
+use Rattle.outcome.proofs.Steps.{Sent, sent-first, sent-more, walk-room, walk-last}
 use Rattle.depth.specs.Levels.{side-levels}
-use Rattle.feed.proofs.Stamps.{rows-kept, walk-room, walk-last}
+use Rattle.feed.proofs.Stamps.{rows-kept}
 use Rattle.subscribe.specs.Subscribe.{level-step, levels-to}
 use Rattle.subscribe.proofs.Snapshot.{level-keeps, levels-each, levels-long}
 use borrow.Author.Needs.{needs}
