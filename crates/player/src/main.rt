@@ -6,26 +6,12 @@ use accounts::Timing;
 use balances::MaybeBalance;
 use commands::MaybeId;
 use libc::STDOUT_FILENO;
-use orderbook::CancelReason;
-use orderbook::Event;
-use orderbook::MaybePrice;
-use orderbook::MaybeQty;
-use orderbook::Phase;
-use orderbook::RejectReason;
 use orderbook::Side;
-use orderbook::TimeInForce;
 use outcome::Reply;
 use protocol::Balance;
-use protocol::Inbound;
 use protocol::LogoutReason;
-use protocol::NewOrder;
-use protocol::OrderKind;
 use protocol::codes;
-use protocol::codes::MaybeCancelReason;
 use protocol::codes::MaybeLogoutReason;
-use protocol::codes::MaybePhase;
-use protocol::codes::MaybeRejectReason;
-use protocol::codes::MaybeTimeInForce;
 use risk::MaybePercent;
 ghost use Prim.Native.Nat.{_≤_};
 ghost use Rattle.gateway.specs.Limits.{owner-slots};
@@ -280,227 +266,39 @@ fn take_batch(m: &mut [u8], got: &mut [u8], out: &mut [u8])
     reply(got, r);
 }
 
-// ---- messages
+// ---- messages and events
 
 fn side(row: &[u8], i: usize) -> Side {
     store::side_of(word(row, i))
 }
 
-fn price(row: &[u8], i: usize) -> i64 {
-    words::to_i64(word(row, i))
-}
-
-fn tif(row: &[u8], i: usize) -> TimeInForce {
-    match codes::tif_of(code(row, i)) {
-        MaybeTimeInForce::Some(t) => t,
-        MaybeTimeInForce::None => TimeInForce::Gtc,
+// The words from `from` on, in a row of their own.
+fn tail(row: &[u8], from: usize) -> [u8; 128]
+    requires { ⌜ from ≤ 16 ⌝ }
+{
+    let mut to = [0u8; 128];
+    let mut i: usize = 0;
+    while i < 16 {
+        put(&mut to, i, word(row, from + i));
+        i += 1;
     }
-}
-
-fn maybe_qty(row: &[u8]) -> MaybeQty {
-    if word(row, 13) == 0 {
-        return MaybeQty::None;
-    }
-    MaybeQty::Some(word(row, 14))
-}
-
-fn maybe_price(row: &[u8]) -> MaybePrice {
-    if word(row, 12) == 0 {
-        return MaybePrice::None;
-    }
-    MaybePrice::Some(price(row, 13))
-}
-
-fn limit(row: &[u8]) -> OrderKind {
-    let tif = tif(row, 12);
-    let display = maybe_qty(row);
-    OrderKind::Limit {
-        price: price(row, 11),
-        tif,
-        display,
-    }
-}
-
-fn stop(row: &[u8]) -> OrderKind {
-    let limit = maybe_price(row);
-    OrderKind::Stop {
-        trigger: price(row, 11),
-        limit,
-    }
-}
-
-fn order_kind(row: &[u8]) -> OrderKind {
-    match word(row, 10) {
-        0 => limit(row),
-        1 => OrderKind::Market,
-        _ => stop(row),
-    }
-}
-
-fn new_order(row: &[u8]) -> NewOrder {
-    let side = side(row, 8);
-    let kind = order_kind(row);
-    NewOrder {
-        client_ref: word(row, 7),
-        side,
-        qty: word(row, 9),
-        kind,
-    }
-}
-
-fn login(row: &[u8]) -> Inbound {
-    Inbound::Login {
-        version: (word(row, 7) % 65536) as u16,
-        account: small(row, 8),
-        token: word(row, 9),
-    }
-}
-
-fn modify(row: &[u8]) -> Inbound {
-    Inbound::Modify {
-        order_id: word(row, 7),
-        price: price(row, 8),
-        qty: word(row, 9),
-    }
-}
-
-fn message(row: &[u8]) -> Inbound {
-    match word(row, 6) {
-        0 => login(row),
-        1 => Inbound::Logout,
-        2 => Inbound::Heartbeat,
-        3 => Inbound::NewOrder(new_order(row)),
-        4 => Inbound::Cancel {
-            order_id: word(row, 7),
-        },
-        5 => modify(row),
-        6 => Inbound::MassCancel,
-        _ => Inbound::Subscribe,
-    }
+    to
 }
 
 fn receive(m: &mut [u8], row: &[u8], got: &mut [u8], out: &mut [u8])
     requires { ⌜ Between (now m) ⌝ }
     ensures { λ r. ⌜ Between (now (m .exit)) ⌝ }
 {
-    let message = message(row);
+    let message = script::message(&tail(row, 6));
     let r = exchange::receive(m, word(row, 4) as usize, message, word(row, 5), out);
     reply(got, r);
-}
-
-// ---- events
-
-fn reject_reason(row: &[u8]) -> RejectReason {
-    match codes::reject_reason_of(code(row, 7)) {
-        MaybeRejectReason::Some(why) => why,
-        MaybeRejectReason::None => RejectReason::InvalidQuantity,
-    }
-}
-
-fn cancel_reason(row: &[u8]) -> CancelReason {
-    match codes::cancel_reason_of(code(row, 8)) {
-        MaybeCancelReason::Some(why) => why,
-        MaybeCancelReason::None => CancelReason::Requested,
-    }
-}
-
-fn phase(row: &[u8]) -> Phase {
-    match codes::phase_of(code(row, 6)) {
-        MaybePhase::Some(phase) => phase,
-        MaybePhase::None => Phase::Continuous,
-    }
-}
-
-fn traded(row: &[u8]) -> Event {
-    let taker_side = side(row, 9);
-    Event::Trade {
-        trade_id: word(row, 6),
-        taker: word(row, 7),
-        maker: word(row, 8),
-        taker_side,
-        price: price(row, 10),
-        qty: word(row, 11),
-        taker_leaves: word(row, 12),
-        maker_leaves: word(row, 13),
-    }
-}
-
-fn rested(row: &[u8]) -> Event {
-    let side = side(row, 7);
-    Event::Rested {
-        id: word(row, 6),
-        side,
-        price: price(row, 8),
-        qty: word(row, 9),
-        visible: word(row, 10),
-    }
-}
-
-fn replenished(row: &[u8]) -> Event {
-    let side = side(row, 7);
-    Event::Replenished {
-        id: word(row, 6),
-        side,
-        price: price(row, 8),
-        visible: word(row, 9),
-    }
-}
-
-fn stop_limit(row: &[u8]) -> MaybePrice {
-    if word(row, 9) == 0 {
-        return MaybePrice::None;
-    }
-    MaybePrice::Some(price(row, 10))
-}
-
-fn stop_placed(row: &[u8]) -> Event {
-    let side = side(row, 7);
-    let limit = stop_limit(row);
-    Event::StopPlaced {
-        id: word(row, 6),
-        side,
-        trigger: price(row, 8),
-        limit,
-        qty: word(row, 11),
-    }
-}
-
-fn event(row: &[u8]) -> Event {
-    match word(row, 5) {
-        0 => Event::Accepted { id: word(row, 6) },
-        1 => Event::Rejected {
-            id: word(row, 6),
-            reason: reject_reason(row),
-        },
-        2 => traded(row),
-        3 => rested(row),
-        4 => replenished(row),
-        5 => Event::Cancelled {
-            id: word(row, 6),
-            qty: word(row, 7),
-            reason: cancel_reason(row),
-        },
-        6 => Event::Modified {
-            id: word(row, 6),
-            price: price(row, 7),
-            qty: word(row, 8),
-            leaves: word(row, 9),
-        },
-        7 => stop_placed(row),
-        8 => Event::Triggered { id: word(row, 6) },
-        9 => Event::MassCancelled {
-            owner: small(row, 6),
-            count: small(row, 7),
-        },
-        _ => Event::PhaseChanged { phase: phase(row) },
-    }
 }
 
 fn deliver(m: &mut [u8], row: &[u8], got: &mut [u8], out: &mut [u8])
     requires { ⌜ Between (now m) ⌝ }
     ensures { λ r. ⌜ Between (now (m .exit)) ⌝ }
 {
-    let e = event(row);
+    let e = script::event(&tail(row, 5));
     let r = deliver::deliver(m, word(row, 4), e, out);
     reply(got, r);
 }
