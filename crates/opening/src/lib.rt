@@ -1,0 +1,1 @@
+// What set-up and restore share.
