@@ -1,3 +1,4 @@
 pub mod Cells
 pub mod Chains
 pub mod Demand
+pub mod Guards
