@@ -67,3 +67,16 @@ pub fn enter(r: Roster, limit: u64, a: Account) -> Roster
         slots,
     }
 }
+
+// The roster of a lent list of accounts.
+pub fn gather(limit: u64, accounts: &[Account]) -> Roster
+    ensures { λ r. ⌜ r ≡ P.entered limit P.nobody (now (accounts .entry)) ⌝ }
+{
+    let mut i = 0;
+    let mut r = nobody();
+    while i < accounts.len() {
+        r = enter(r, limit, accounts[i]);
+        i += 1;
+    }
+    r
+}
