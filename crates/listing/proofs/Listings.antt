@@ -1,0 +1,2 @@
+-- Rows of a listing. Assumes nothing.
+use Prim.Native.Nat.{ℕ}
