@@ -2,13 +2,11 @@
 // orders as they come to stand in the depth (`Depth::restore` of marketdata/src/lib.rs).
 use orders::Resting;
 ghost use mathlib.Core.Path.{_≡_};
-ghost use mathlib.Core.Bool.{true, cond};
+ghost use mathlib.Core.Bool.{true};
 ghost use Prim.Native.Nat.{_+_, _<_, _≤_};
-ghost use lib.Dec.{eqb, ltb};
 ghost use lib.ListN.{length};
-ghost use Rattle.words.specs.Words.{modulus};
 ghost use Rattle.gateway.specs.Depth.{levels-few, levels-fit};
-ghost use Rattle.gateway.specs.Listing.{listed-number, listed-times, resting-in, listed-depth};
+ghost use Rattle.gateway.specs.Listing.{listed-times, resting-in, listed-depth};
 ghost use Rattle.store.specs.Layout.{cell};
 ghost use Rattle.store.specs.View.{gateway};
 ghost use Rattle.store.specs.View as View;
@@ -199,7 +197,7 @@ fn row_fits(list: &[u8], j: usize) -> bool
     if e.kind != 0 {
         return true;
     }
-    e.visible <= MOST_QTY - shown_from(list, j + 1, e.side, e.price)
+    shown_from(list, j + 1, e.side, e.price) <= MOST_QTY - e.visible
 }
 
 // Code 7: what each level shows is in range.
