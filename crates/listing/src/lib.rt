@@ -1,5 +1,5 @@
 // A book listing in a lent list of rows, for set-up and `finish`: its entries, how often a number is listed, its price levels, and its resting
-// orders as they come to stand in the depth (`Depth::restore` of marketdata/src/lib.rs).
+// orders as they come to stand in the depth (`Depth::of` of marketdata/src/lib.rs).
 use orders::Resting;
 ghost use mathlib.Core.Path.{_≡_};
 ghost use mathlib.Core.Bool.{true};
