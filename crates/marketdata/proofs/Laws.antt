@@ -241,21 +241,22 @@ module _ {xs : List ℕ} (s : State xs) (n : ℕ) (o : Resting) (c : CanAdd (res
           rw (f .number-is, ap (λ g. g .rest .depth) (p .same .gateway-is)) (c .judged),
         )
 
-    module _ {zs : List ℕ} (b : Becomes zs (with-depth (with-resting (insert D.resting-number (resting-of (number-at i (cell ys)) o))) (gateway (cell ys)))) where
-      rested : Becomes zs (with-depth (with-resting (insert D.resting-number r″)) (gateway (cell xs)))
-      rested =
-          record {
-            state = b .state;
-            gateway-is =
-                b .gateway-is ∙ ap₂ (λ m g. with-depth (with-resting (insert D.resting-number (resting-of m o))) g) (p .free .number-is) (p .same .gateway-is);
-          }
+    pub rested : {zs : List ℕ} → Becomes zs (with-depth (with-resting (insert D.resting-number (resting-of (number-at i (cell ys)) o))) (gateway (cell ys))) →
+        Becomes zs (with-depth (with-resting (insert D.resting-number r″)) (gateway (cell xs)))
+    rested b =
+        record {
+          state = b .state;
+          gateway-is =
+              b .gateway-is ∙ ap₂ (λ m g. with-depth (with-resting (insert D.resting-number (resting-of m o))) g) (p .free .number-is) (p .same .gateway-is);
+        }
 
-      pub added-asks : State zs × Roomy (remembering (key (o .side) (o .price)) (depth (cell zs)))
-      unfolding D.add
-      added-asks = remember-asks xs (insert D.resting-number r″) rested (key (o .side) (o .price)) (few-parts (D.add r″ (depth (cell xs))) (c .judged .few) .2)
+  module _ {ys : List ℕ} (b : Becomes ys (with-depth (with-resting (insert D.resting-number r″)) (gateway (cell xs)))) where
+    pub added-asks : State ys × Roomy (remembering (key (o .side) (o .price)) (depth (cell ys)))
+    unfolding D.add
+    added-asks = remember-asks xs (insert D.resting-number r″) b (key (o .side) (o .price)) (few-parts (D.add r″ (depth (cell xs))) (c .judged .few) .2)
 
-      pub add-done : {ws : List ℕ} → Becomes ws (with-depth (remembering (key (o .side) (o .price))) (gateway (cell zs))) → Becomes ws (with-depth (D.add r″) (gateway (cell xs)))
-      unfolding D.add
-      add-done e = remembered xs (insert D.resting-number r″) rested (key (o .side) (o .price)) e
+    pub add-done : {zs : List ℕ} → Becomes zs (with-depth (remembering (key (o .side) (o .price))) (gateway (cell ys))) → Becomes zs (with-depth (D.add r″) (gateway (cell xs)))
+    unfolding D.add
+    add-done e = remembered xs (insert D.resting-number r″) b (key (o .side) (o .price)) e
 
 pub ruleset laws = (remember-done, levels-remove-asks, take-off-asks, strike-done, levels-show-asks, show-asks, reshow-done, off-asks, remove-done, shown-asks, show-done, fill-off-asks, fill-off-done, fill-show-asks, fill-show-done, replenish-asks, replenish-done, modify-show-asks, modify-show-done, modify-off-asks, modify-off-done, none-left, same-left, other-left, lesser-first, lesser-second, arith)

@@ -122,13 +122,21 @@ fn join(m: &mut [u8], i: usize, o: Resting)
     orders::rest(m, i, o);
 }
 
-// The order of that number rests.
+// The order of that number rests; its level is not remembered.
+pub fn rest(m: &mut [u8], number: u64, o: Resting)
+    requires { ⌜ State (now m) × P.CanAdd (resting-of number o) (cell (now m)) ⌝ }
+    ensures { λ r. ⌜ Becomes (now (m .exit)) (P.with-depth (P.with-resting (insert D.resting-number (resting-of number o))) (gateway (cell (now (m .entry))))) ⌝ }
+{
+    let i = row_for(m, number);
+    join(m, i, o);
+}
+
+// The order of that number rests, and its level has changed.
 pub fn add(m: &mut [u8], number: u64, o: Resting)
     requires { ⌜ State (now m) × P.CanAdd (resting-of number o) (cell (now m)) ⌝ }
     ensures { λ r. ⌜ Becomes (now (m .exit)) (P.with-depth (D.add (resting-of number o)) (gateway (cell (now (m .entry))))) ⌝ }
 {
-    let i = row_for(m, number);
-    join(m, i, o);
+    rest(m, number, o);
     remember(m, o.side, o.price);
 }
 

@@ -1,0 +1,4 @@
+pub mod Listings
+pub mod Joined
+pub mod Tails
+pub mod Laws
