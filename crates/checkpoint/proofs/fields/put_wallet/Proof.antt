@@ -1,0 +1,37 @@
+use Rattle.checkpoint.proofs.Calls.{laws}
+use borrow.Author.Needs.{needs}
+use Rattle.checkpoint.proofs.fields.put_wallet.Statement.{statement}
+use Rattle.checkpoint.proofs.fields.put_wallet.Tie as tie
+
+add-o1 : tie.Need-add-o1
+add-o1 c = search needs
+
+add-o2 : tie.Need-add-o2
+add-o2 c = search needs
+
+put-u32-requires : tie.Need-put-u32-requires
+put-u32-requires c κs = search needs
+
+put-u64-requires : tie.Need-put-u64-requires
+put-u64-requires c κs = search needs
+
+put-u64-requires-2 : tie.Need-put-u64-requires-2
+put-u64-requires-2 c κs = search needs
+
+same-length : tie.Need-same-length
+same-length c = search needs
+
+returns : tie.Need-returns
+returns c = search laws
+
+pub put-wallet-spec : {M : Type 1} → statement M
+put-wallet-spec =
+    tie.close
+    (tie.spec
+    add-o1
+    add-o2
+    put-u32-requires
+    put-u64-requires
+    put-u64-requires-2
+    same-length
+    returns)
