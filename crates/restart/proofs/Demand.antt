@@ -9,98 +9,69 @@
 -- do, and nobody else writes the bytes. Nothing is said of sessions, the depth, batches or what waits to be published, which a restart loses. 01 also
 -- excludes checkpoints followed by an accepted `finish`; they are included here, since `finish` moves nothing that the ledger holds. Assumes nothing.
 use Prim.Native.Nat.{ℕ}
-use mathlib.Core.Bool.{Bool, true, false, not, _&&_, and-eq-true-iff}
 use mathlib.Core.Path.{_≡_, refl, sym, ap, subst, _∙_}
-use mathlib.Core.Option.{Option, none, some}
+use mathlib.Core.Option.{some}
+use mathlib.Core.Logic.{inl, inr}
 use mathlib.Core.List.{List, [], _∷_, _++_, map}
-use native.Mathlib.Omega.{arith}
-use lib.Dec.{eqb}
+use lib.Dec.{eqb, leb}
+use lib.ListN.{length, take, drop}
+use lib.Seq.{take-append-seam}
 use Rattle.accounts.specs.declared.Account.{Account}
 use Rattle.accounts.specs.declared.Timing.{Timing}
-use Rattle.orderbook.specs.declared.Listed.{Listed}
-use Rattle.gateway.specs.Basics.{option}
-use Rattle.gateway.specs.Limits.{malformed}
-use Rattle.gateway.specs.Ledger.{Order, Item}
+use Rattle.gateway.specs.Basics.{is-empty}
+use Rattle.gateway.specs.Limits.{too-short, not-quiet}
 use Rattle.gateway.specs.Core.{Tests}
-use Rattle.gateway.specs.Listing.{listed-orders}
-use Rattle.gateway.specs.Saved.{Saved}
-use Rattle.gateway.specs.Bytes.{decode}
-use Rattle.gateway.specs.Entry.{bytes}
-use Rattle.gateway.specs.Calls.{Gateway, Call, checkpoint, Outcome, done, call}
-use Rattle.gateway.specs.Start.{Started, not-started, started, start-unless, listed-tests, entry-tests, total-tests, set-up-tests, order-tests, saved-tests, restore-tests, set-up, restore, restore-saved}
-use Rattle.gateway.specs.Fits.{Unsigned, AccountsFit, ListingFits, Bytes, CallsFit}
+use Rattle.gateway.specs.Ledger.{Item}
+use Rattle.gateway.specs.Bytes.{encode}
+use Rattle.gateway.specs.Saved.{contents}
+use Rattle.gateway.specs.Entry.{Plan, quiet, bytes}
+use Rattle.gateway.specs.Calls.{Gateway, Call, checkpoint, refused, done, plan, carry-out, call}
+use Rattle.gateway.specs.Start.{started, restore}
+use Rattle.gateway.specs.Fits.{CallsFit}
 use Rattle.gateway.specs.Restart.{next-of, final, record-of, added, as-call, all-later, SameBooks, Restarts}
-use Rattle.gateway.proofs.Restart.{Demand3, after-set-up, after-restore}
 use Rattle.store.specs.Cells as C
 use Rattle.store.specs.Layout.{cell}
 use Rattle.store.specs.View.{word, gateway}
-use Rattle.outcome.specs.Between.{Between}
-use Rattle.outcome.proofs.Calls.{codes}
+use Rattle.outcome.specs.declared.Reply.{Reply}
+use Rattle.outcome.specs.Answers.{Ends}
+use Rattle.checkpoint.specs.Written.{Written, Writes}
 use Rattle.opening.specs.Starts.{Starts}
-use Rattle.restart.specs.Chain.{Chain, ends-at, Accepted, Opened, by-set-up, by-restore, Restarted}
+use Rattle.restart.specs.Chain.{Chain, ends-at, Accepted, Opened, Restarted}
+use Rattle.restart.proofs.Plans.{Either, unless-either}
 use Rattle.restart.proofs.Cells.{cells-agree}
 use Rattle.restart.proofs.Chains.{chain-final, chain-between, Follows, replay-follows}
+use Rattle.restart.proofs.Begun.{opened-between, opened-demand}
 
--- ---- an accepted start: no refusal has the code 0
+-- ---- an accepted checkpoint
 
-codes-append : (ts us : Tests ℕ) → codes ts ≡ true → codes us ≡ true → codes (ts ++ us) ≡ true
-codes-append [] us p q = q
-codes-append (t ∷ ts) us p q =
-    let e = and-eq-true-iff (not (eqb (t .0) 0)) (codes ts) .0 p in
-    rw (e .0) (codes-append ts us (e .1) q)
+-- the bytes that it wrote
+abbrev pub written : Reply → List ℕ → List ℕ
+written r end = take (r .count) end
 
-listed-codes : (limit last : ℕ) (xs : List Listed) (os : List Order) → codes (listed-tests limit last xs os) ≡ true
-listed-codes limit last xs [] = refl
-listed-codes limit last xs (o ∷ os) = listed-codes limit last xs os
+module _ (xs out end : List ℕ) (r : Reply) (w : Writes (call (gateway (cell xs)) (checkpoint (length out))) r xs xs out end) (ok : r .code ≡ 0) where
+  abbrev g : Gateway
+  g = gateway (cell xs)
 
-order-codes : (limit last : ℕ) (os : List Order) → codes (order-tests limit last os) ≡ true
-order-codes limit last [] = refl
-order-codes limit last (o ∷ os) = order-codes limit last os
+  abbrev bs : List ℕ
+  bs = encode (contents (g .core .ledger))
 
--- the code of a start that is refused, else 1
-abbrev fails : Started → ℕ
-fails (not-started k) = k
-fails (started g) = 1
+  abbrev ts : Tests ℕ
+  ts = (not-quiet, is-empty (g .rest .batch)) ∷ (not-quiet, eqb (g .rest .delivered) (g .core .ledger .last)) ∷ (too-short, leb (length bs) (length out)) ∷ []
 
-refused-not-0 : (ts : Tests ℕ) (g : Gateway) → codes ts ≡ true → fails (start-unless ts g) ≡ 0 → ⊥
-unfolding start-unless
-refused-not-0 [] g c e = omega (arith, e)
-refused-not-0 ((k, true) ∷ ts) g c e = refused-not-0 ts g (and-eq-true-iff (not (eqb k 0)) (codes ts) .0 c .1) e
-refused-not-0 ((k, false) ∷ ts) g c e = absurd (let z : _≡_ {A = Bool} false true = ap (λ n. not (eqb n 0)) (sym e) ∙ and-eq-true-iff (not (eqb k 0)) (codes ts) .0 c .0 in let n : _≡_ {A = ℕ} 0 1 = cc in omega (arith, n))
+  by-plan : (p : Plan) → plan (g .core) (g .rest) (checkpoint (length out)) ≡ p →
+      Ends (carry-out (g .core) p) (end ≡ out) (λ a ms. Written a ms (r .count) out end) (r .code) xs xs
+  by-plan p e = subst (λ q. Ends (carry-out (g .core) q) (end ≡ out) (λ a ms. Written a ms (r .count) out end) (r .code) xs xs) e (w .ends)
 
-set-up-not-0 : (limit last : ℕ) (l : List Account) (xs : List Listed) (timing : Timing) → fails (set-up limit last l xs timing) ≡ 0 → ⊥
-unfolding set-up
-set-up-not-0 limit last l xs timing =
-    refused-not-0 (set-up-tests limit last l xs) _
-    (codes-append (entry-tests limit last l xs) (total-tests limit last l xs) (listed-codes limit last xs (listed-orders xs)) refl)
-
-restore-not-0 : (limit : ℕ) (l : List Account) (timing : Timing) (s : Option Saved) → fails (option (not-started malformed) (restore-saved limit l timing) s) ≡ 0 → ⊥
-unfolding restore-saved
-restore-not-0 limit l timing none e = omega (arith, e)
-restore-not-0 limit l timing (some s) e = refused-not-0 (restore-tests limit l s) _ (codes-append (saved-tests limit l s) _ (order-codes limit (s .last) (s .orders)) refl) e
-
--- what the contract says of a start that answers 0
-record Begins (s : Started) (ys : List ℕ) : Type 0 where
-  is : s ≡ started (gateway (cell ys))
-  between : Between ys
-
-begins : (s : Started) (xs ys : List ℕ) → (fails s ≡ 0 → ⊥) → Starts s 0 xs ys → Begins s ys
-unfolding Starts
-begins (not-started k) xs ys n h = absurd (n (sym (h .code-is)))
-begins (started g) xs ys n h = record { is = ap started (sym (h .is-done .becomes .gateway-is)); between = h .between }
-
-module _ (limit : ℕ) (l : List Account) (ys : List ℕ) where
-  opened-between : Opened limit l ys → Between ys
-  unfolding restore
-  opened-between (by-set-up last listing timing xs f a x h) = begins _ xs ys (set-up-not-0 limit last l listing timing) h .between
-  opened-between (by-restore timing bs xs a b h) = begins _ xs ys (restore-not-0 limit l timing (decode bs)) h .between
-
-  opened-demand : Opened limit l ys → Demand3 limit l (gateway (cell ys))
-  unfolding restore
-  opened-demand (by-set-up last listing timing xs f a x h) =
-      after-set-up limit last l listing timing (gateway (cell ys)) f a x (begins _ xs ys (set-up-not-0 limit last l listing timing) h .is)
-  opened-demand (by-restore timing bs xs a b h) =
-      after-restore limit l timing bs (gateway (cell ys)) a b (begins _ xs ys (restore-not-0 limit l timing (decode bs)) h .is)
+  pub checkpoint-taken : call g (checkpoint (length out)) ≡ done (bytes (written r end)) [] [] g
+  unfolding Ends plan
+  checkpoint-taken = go (unless-either ts (quiet (bytes bs) [] (g .rest)) refl)
+    where
+      go : Either ts (quiet (bytes bs) [] (g .rest)) → call g (checkpoint (length out)) ≡ done (bytes (written r end)) [] [] g
+      go (inl (k, e, n)) = absurd (n (sym (by-plan _ e .code-is) ∙ ok))
+      go (inr e) =
+          let t = by-plan _ e .tells in
+          ap (carry-out (g .core)) e
+          ∙ ap (λ b. done (bytes b) [] [] g) (sym (ap (take (r .count)) (t .written) ∙ ap (λ n. take n (bs ++ drop (length bs) out)) (t .count-is) ∙ take-append-seam bs (drop (length bs) out)))
 
 -- ---- the theorem
 
@@ -121,12 +92,6 @@ module _ (limit : ℕ) (l : List Account) (xs : List ℕ) (start : Opened limit 
   abbrev present : List Account
   present = l ++ added (record-of (gateway (cell xs)) cs)
 
-  -- of a second gateway in the bytes zs
-  record Restart (bs : List ℕ) (k : ℕ) (zs : List ℕ) (again : Chain zs (map as-call items)) : Type 0 where
-    restored : k ≡ 0
-    replayed : Accepted zs (map as-call items) again
-    agrees : Restarted (word (cell ms) C.last) bs items (ends-at ms ds since) (ends-at zs (map as-call items) again)
-
   module _ (room : ℕ) (bs : List ℕ) (taken : call (gateway (cell ms)) (checkpoint room) ≡ done (bytes bs) [] [] (gateway (cell ms))) (late : all-later (word (cell ms) C.last) items) where
     -- by the definitions
     claimed : (timing : Timing) → Restarts limit present timing (word (cell ms) C.last) bs items (gateway (cell (ends-at ms ds since)))
@@ -139,7 +104,8 @@ module _ (limit : ℕ) (l : List Account) (xs : List ℕ) (start : Opened limit 
         subst (λ g. Restarts limit present timing (g .core .ledger .last) bs (record-of g ds) (gateway (cell (ends-at ms ds since)))) (sym e)
         (subst (Restarts limit present timing (final (gateway (cell xs)) cs .core .ledger .last) bs (record-of (final (gateway (cell xs)) cs) ds)) f r)
 
-    restarts : (timing : Timing) (k : ℕ) (ys zs : List ℕ) → Starts (restore limit present timing bs) k ys zs → (again : Chain zs (map as-call items)) → Restart bs k zs again
+    restarts : (timing : Timing) (k : ℕ) (ys zs : List ℕ) → Starts (restore limit present timing bs) k ys zs → (again : Chain zs (map as-call items)) →
+        Restarted (word (cell ms) C.last) bs items (ends-at ms ds since) k zs again
     unfolding Starts
     restarts timing k ys zs h again =
         let r = claimed timing in
@@ -149,13 +115,24 @@ module _ (limit : ℕ) (l : List Account) (xs : List ℕ) (start : Opened limit 
         record {
           restored = b .is-done .code-is;
           replayed = f .accepted;
-          agrees =
-              record {
-                same-cells =
-                    cells-agree (word (cell ms) C.last) (cell (ends-at ms ds since)) (cell (ends-at zs (map as-call items) again))
-                    (chain-between ms ds since (chain-between xs cs first (opened-between limit l xs start)) .state .sound)
-                    (chain-between zs (map as-call items) again (b .between) .state .sound) same;
-                same-books = same;
-                counted = r .counted ∙ ap (λ (g : Gateway). some (g .core .ledger)) (sym (f .ends));
-              };
+          same-cells =
+              cells-agree (word (cell ms) C.last) (cell (ends-at ms ds since)) (cell (ends-at zs (map as-call items) again))
+              (chain-between ms ds since (chain-between xs cs first (opened-between limit l xs start)) .state .sound)
+              (chain-between zs (map as-call items) again (b .between) .state .sound) same;
+          same-books = same;
+          counted = r .counted ∙ ap (λ (g : Gateway). some (g .core .ledger)) (sym (f .ends));
         }
+
+-- demand 3: the checkpoint was lent `out`, left `end` in it and answered r
+module _ (limit : ℕ) (l : List Account) (xs : List ℕ) (start : Opened limit l xs) (cs : List Call) (first : Chain xs cs) (ds : List Call)
+    (since : Chain (ends-at xs cs first) ds) (fits : CallsFit cs) (fits′ : CallsFit ds) where
+  abbrev then : List ℕ
+  then = ends-at xs cs first
+
+  pub demand-3 : (out end : List ℕ) (r : Reply) → Writes (call (gateway (cell then)) (checkpoint (length out))) r then then out end → r .code ≡ 0 →
+      all-later (word (cell then) C.last) (record-of (gateway (cell then)) ds) →
+      (timing : Timing) (k : ℕ) (ys zs : List ℕ) → Starts (restore limit (l ++ added (record-of (gateway (cell xs)) cs)) timing (written r end)) k ys zs →
+      (again : Chain zs (map as-call (record-of (gateway (cell then)) ds))) →
+      Restarted (word (cell then) C.last) (written r end) (record-of (gateway (cell then)) ds) (ends-at then ds since) k zs again
+  demand-3 out end r w ok late timing k ys zs h again =
+      restarts limit l xs start cs first ds since fits fits′ (length out) (written r end) (checkpoint-taken then out end r w ok) late timing k ys zs h again

@@ -2,12 +2,11 @@
 -- in which exactly its settlement was made, and holds that moved by exactly the two orders' new holds less the old (gateway/proofs/Settled.antt); and
 -- bytes whose tables are empty, with a number left, get neither 5 nor 10 from any call (gateway/proofs/Roomy.antt). Assumes nothing.
 use Prim.Native.Nat.{ℕ}
-use mathlib.Core.Bool.{Bool, true, false, not, and-eq-true-iff}
 use mathlib.Core.Path.{_≡_, refl, sym, ap, subst, _∙_}
 use mathlib.Core.Logic.{_⊎_, inl, inr, ⊎-elim}
 use mathlib.Core.List.{List, [], _∷_}
 use native.Mathlib.Omega.{arith}
-use lib.Dec.{eqb, leb}
+use lib.Dec.{leb}
 use lib.IntN.{ℤ}
 use lib.ListN.{length}
 use Rattle.orderbook.specs.declared.Side.{Side}
@@ -15,9 +14,9 @@ use Rattle.orderbook.specs.declared.Event.{Event}
 use Rattle.orderbook.specs.declared.Event.the-variants.{Trade}
 use Rattle.gateway.specs.Limits.{full, too-short, not-quiet}
 use Rattle.gateway.specs.Ledger.{event}
-use Rattle.gateway.specs.Core.{Tests, Pass, Core, system, core-step, tests}
+use Rattle.gateway.specs.Core.{Pass, Core, system, core-step, tests}
 use Rattle.gateway.specs.Rest.{Mail, Rest, with-delivered}
-use Rattle.gateway.specs.Entry.{Answer, Plan, refuse, quiet, records, unless}
+use Rattle.gateway.specs.Entry.{Answer, Plan, refuse, quiet, records}
 use Rattle.gateway.specs.Deliver.{deliver, deliver-tests, reports, rest-after}
 use Rattle.gateway.specs.Calls.{Gateway, Call, deliver-event, replay-event, replay-tests, Outcome, refused, done, within, plan, carry-out, call}
 use Rattle.gateway.specs.Fits.{EventFits}
@@ -28,18 +27,10 @@ use Rattle.store.specs.Layout.{cell}
 use Rattle.store.specs.View.{ledger, gateway}
 use Rattle.outcome.specs.Between.{Between}
 use Rattle.outcome.specs.Answers.{Ends}
-use Rattle.outcome.proofs.Calls.{codes}
 use Rattle.restart.specs.Chain.{Made}
+use Rattle.restart.proofs.Plans.{unless-either}
 
 -- ---- a trade
-
--- tests lead to a refusal with a code, or to the plan behind them
-unless-either : (ts : Tests ℕ) (p : Plan) → codes ts ≡ true → ((k : ℕ) × (unless ts refuse p ≡ refuse k) × (k ≡ 0 → ⊥)) ⊎ (unless ts refuse p ≡ p)
-unfolding unless
-unless-either [] p c = inr refl
-unless-either ((k, true) ∷ ts) p c = unless-either ts p (and-eq-true-iff (not (eqb k 0)) (codes ts) .0 c .1)
-unless-either ((k, false) ∷ ts) p c =
-    inl (k, refl, λ e. absurd (let z : _≡_ {A = Bool} false true = ap (λ n. not (eqb n 0)) (sym e) ∙ and-eq-true-iff (not (eqb k 0)) (codes ts) .0 c .0 in let n : _≡_ {A = ℕ} 0 1 = cc in omega (arith, n)))
 
 -- what is recorded was tested
 Records : Core → ℕ → Event → Plan → Type 0

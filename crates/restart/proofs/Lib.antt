@@ -1,4 +1,6 @@
+pub mod Plans
 pub mod Cells
 pub mod Chains
+pub mod Begun
 pub mod Demand
 pub mod Guards

@@ -16,7 +16,7 @@ use Rattle.gateway.specs.Entry.{Answer}
 use Rattle.gateway.specs.Calls.{Call, call}
 use Rattle.gateway.specs.Start.{set-up, restore}
 use Rattle.gateway.specs.Fits.{Unsigned, AccountsFit, ListingFits, Bytes}
-use Rattle.gateway.specs.Restart.{forget, SameBooks, ledger-of}
+use Rattle.gateway.specs.Restart.{as-call, forget, SameBooks, ledger-of}
 use Rattle.store.specs.Cells as C
 use Rattle.store.specs.Layout.{cell}
 use Rattle.store.specs.View.{Row, Store, word, order, wallet, marked, ledger, gateway}
@@ -80,9 +80,12 @@ pub record SameCells (n : ℕ) (s t : Store) : Type 0 where
 
 -- ---- the claim
 
--- of a checkpoint's bytes bs, taken at the number n, and the record `is` since: the first gateway's bytes are xs now, the second's are zs. They agree, in
--- the cells and in what the definitions read from them (so that `wallet` and `last_seq` answer alike), and the second is the independent ledger's
-pub record Restarted (n : ℕ) (bs : List ℕ) (is : List Item) (xs zs : List ℕ) : Type 0 where
-  pub same-cells : SameCells n (cell xs) (cell zs)
-  pub same-books : SameBooks n (gateway (cell xs) .core) (gateway (cell zs) .core)
-  pub counted : ledger-of bs is ≡ some (ledger (cell zs))
+-- of a checkpoint's bytes bs, taken at the number n, and the record `is` since; the first gateway's bytes are xs now. A second one was restored with the
+-- code k and has the bytes zs, and replays the record by the calls of `again`. All were accepted; the two agree, in the cells and in what the definitions read
+-- from them (so that `wallet` and `last_seq` answer alike); and the second is the independent ledger's
+pub record Restarted (n : ℕ) (bs : List ℕ) (is : List Item) (xs : List ℕ) (k : ℕ) (zs : List ℕ) (again : Chain zs (map as-call is)) : Type 0 where
+  pub restored : k ≡ 0
+  pub replayed : Accepted zs (map as-call is) again
+  pub same-cells : SameCells n (cell xs) (cell (ends-at zs (map as-call is) again))
+  pub same-books : SameBooks n (gateway (cell xs) .core) (gateway (cell (ends-at zs (map as-call is) again)) .core)
+  pub counted : ledger-of bs is ≡ some (ledger (cell (ends-at zs (map as-call is) again)))
