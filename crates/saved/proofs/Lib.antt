@@ -1,0 +1,4 @@
+pub mod Offsets
+pub mod Decoded
+pub mod Rising
+pub mod Laws
