@@ -2,6 +2,8 @@
 use accounts::Account;
 use accounts::MaybeFunds;
 ghost use mathlib.Core.Path.{_≡_};
+ghost use Rattle.gateway.specs.Basics.{is-some};
+ghost use Rattle.gateway.specs.Start.{funds-in};
 ghost use Rattle.roster.specs.Rostered as P;
 
 // The account of a number, where there is one.
@@ -66,6 +68,21 @@ pub fn enter(r: Roster, limit: u64, a: Account) -> Roster
         below: r.below,
         slots,
     }
+}
+
+// Whether the slot's account has a wallet.
+pub fn is_funded(s: Slot) -> bool
+    ensures { λ r. ⌜ r ≡ is-some (funds-in (P.account-in s)) ⌝ }
+{
+    if s.there {
+        let a = s.account;
+        let funds = a.funds;
+        return match funds {
+            MaybeFunds::None => false,
+            MaybeFunds::Some(_) => true,
+        };
+    }
+    false
 }
 
 // The roster of a lent list of accounts.
