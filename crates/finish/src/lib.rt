@@ -131,7 +131,13 @@ fn clear(m: &mut [u8])
     let n = pending::header::word_at(m, cells::ORDER_ROWS);
     let last = pending::header::word_at(m, cells::LAST);
     unrest_rows(m, n as usize);
-    store::fill(m, store::HEADER, 0, cells::RESTING_ORDERS, &[0, 0, 0, 0, 0, 0]);
+    store::fill(
+        m,
+        store::HEADER,
+        0,
+        cells::RESTING_ORDERS,
+        &[0, 0, 0, 0, 0, 0],
+    );
     store::fill(m, store::HEADER, 0, cells::DELIVERED, &[last, last]);
 }
 
