@@ -1,6 +1,6 @@
 -- Code 8: the listing has the live orders. Assumes nothing.
 use mathlib.Core.Path.{_≡_, refl, sym, ap, ap₂, subst, _∙_}
-use mathlib.Core.Bool.{Bool, true, false, cond, _&&_, and-eq-true-iff, true≢false}
+use mathlib.Core.Bool.{Bool, true, false, cond, _&&_, and-eq-true-iff, true≢false, and-true, and-false, and-assoc}
 use mathlib.Core.List.{List, [], _∷_}
 use mathlib.Core.Option.{Option, none, some}
 use Prim.Native.Nat.{ℕ, _+_, _-_, _≤_, _<_}
@@ -9,7 +9,6 @@ use borrow.Author.Tests.{eq-eqb, ne-eqb, eqb-true}
 use lib.Dec.{eqb}
 use lib.ListN.{length}
 use Rattle.orderbook.specs.declared.Listed.{Listed}
-use Rattle.orderbook.specs.declared.Listed.the-variants as L
 use Rattle.table.specs.declared.Found.{Found}
 use Rattle.table.specs.declared.Found.the-variants.{At, Nothing}
 use Rattle.table.specs.Live.{Each, look}
@@ -18,7 +17,7 @@ use Rattle.gateway.specs.Listing.{listed-number, listed-times, entry-agrees, en
 use Rattle.gateway.proofs.Base.{split}
 use Rattle.gateway.proofs.Sorted.{look-key}
 use Rattle.store.specs.Cells as C
-use Rattle.store.specs.Layout.{cell, Holds}
+use Rattle.store.specs.Layout.{cell}
 use Rattle.store.specs.View.{word, order, order-room, ledger}
 use Rattle.orders.specs.declared.Live.{Live}
 use Rattle.orders.specs.Orders.{Sees, live-row}
@@ -62,11 +61,7 @@ module _ (xs : List ℕ) (e : Entry) (f : Found) (seen : Sees C.order-live order
   pub none-agrees : f ≡ Nothing → false ≡ entry-agrees (listed-as e) (find (e .number) (ledger (cell xs) .orders))
   none-agrees q =
       let t : Sees C.order-live order number-of (cell xs) (e .number) Nothing = rw q at seen in
-      sym (ap (entry-agrees (listed-as e)) (t .order) ∙ absent (listed-as e))
-    where
-      absent : (x : Listed) → entry-agrees x none ≡ false
-      absent (L.Order i o s p v w) = refl
-      absent (L.Stop i o s l q) = refl
+      sym (ap (entry-agrees (listed-as e)) (t .order))
 
 -- ---- a row
 
@@ -86,11 +81,7 @@ module _ (list : List ℕ) (os : List Order) (j : ℕ) (e : Entry) (e-is : e ≡
 -- ---- all rows
 
 entries-more : (all : List Listed) (x : Listed) (l : List Listed) (os : List Order) → entries-agree all (x ∷ l) os ≡ agrees-once all os x && entries-agree all l os
-entries-more all x l os = assoc (entry-agrees x (find (listed-number x) os)) (eqb (listed-times (listed-number x) all) 1)
-  where
-    assoc : (a b : Bool) → a && (b && entries-agree all l os) ≡ (a && b) && entries-agree all l os
-    assoc true b = refl
-    assoc false b = refl
+entries-more all x l os = sym (and-assoc (entry-agrees x (find (listed-number x) os)) (eqb (listed-times (listed-number x) all) 1) (entries-agree all l os))
 
 module _ (list : List ℕ) (os : List Order) where
   abbrev pub Agree : ℕ → Type 0
@@ -125,19 +116,11 @@ module _ (xs list : List ℕ) (st : State xs) (n k : ℕ) (n-is : n ≡ rows lis
 
   pub as-many : (b : Bool) → n ≡ k → b ≡ entries-agree (listing list) (listing list) os → b ≡ listing-agrees (listing list) os
   unfolding listing-agrees
-  as-many b e h = h ∙ sym (ap (λ c. entries-agree (listing list) (listing list) os && c) (count-is ∙ eq-eqb n k e) ∙ and-one (entries-agree (listing list) (listing list) os))
-    where
-      and-one : (x : Bool) → x && true ≡ x
-      and-one true = refl
-      and-one false = refl
+  as-many b e h = h ∙ sym (ap (λ c. entries-agree (listing list) (listing list) os && c) (count-is ∙ eq-eqb n k e) ∙ and-true (entries-agree (listing list) (listing list) os))
 
   pub not-as-many : (n ≡ k → ⊥) → false ≡ listing-agrees (listing list) os
   unfolding listing-agrees
-  not-as-many e = sym (ap (λ c. entries-agree (listing list) (listing list) os && c) (count-is ∙ ne-eqb n k e) ∙ and-none (entries-agree (listing list) (listing list) os))
-    where
-      and-none : (x : Bool) → x && false ≡ false
-      and-none true = refl
-      and-none false = refl
+  not-as-many e = sym (ap (λ c. entries-agree (listing list) (listing list) os && c) (count-is ∙ ne-eqb n k e) ∙ and-false (entries-agree (listing list) (listing list) os))
 
 -- ---- what a listing that agrees gives
 
@@ -155,12 +138,8 @@ look-each P n o (x ∷ os) e t =
 found : (last : ℕ) (x : Listed) (os : List Order) → Each (λ o. o .number ≤ last) os → entry-agrees x (find (listed-number x) os) ≡ true → listed-number x ≤ last
 found last x os t h = go (find (listed-number x) os) refl h
   where
-    absent : (x : Listed) → entry-agrees x none ≡ true → ⊥
-    absent (L.Order i o s p v w) e = true≢false (sym e)
-    absent (L.Stop i o s l q) e = true≢false (sym e)
-
     go : (y : Option Order) → find (listed-number x) os ≡ y → entry-agrees x y ≡ true → listed-number x ≤ last
-    go none e a = absurd (absent x a)
+    go none e a = absurd (true≢false (sym a))
     go (some o) e a = let l = look-each (λ o. o .number ≤ last) (listed-number x) o os e t in omega (arith, l, look-key number-of (listed-number x) o os e)
 
 pub agree-each : (last : ℕ) (all l : List Listed) (os : List Order) → Each (λ o. o .number ≤ last) os → entries-agree all l os ≡ true → Each (Entered last all) l

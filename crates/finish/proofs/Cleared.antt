@@ -1,16 +1,15 @@
 -- The old depth goes: the bytes, the gateway that they hold, and the state's soundness. Assumes nothing.
 use mathlib.Core.Path.{_≡_, refl, sym, ap, ap₂, subst, _∙_}
 use mathlib.Core.Logic.{⊎-elim}
-use mathlib.Core.Bool.{true, false, cond, _&&_}
-use mathlib.Core.List.{List, [], _∷_, map}
+use mathlib.Core.Bool.{cond}
+use mathlib.Core.List.{List, [], _∷_}
 use Prim.Native.Nat.{ℕ, zero, suc, _+_, _≤_, _<_}
 use native.Mathlib.Nat.{not-suc-le-zero}
 use native.Mathlib.Numerals.{add-one}
 use native.Mathlib.Omega.{arith}
 use borrow.Author.Tests.{eq-eqb, ne-eqb, lt-ltb, le-ltb}
-use lib.Dec.{eqb, ltb}
+use lib.Dec.{ltb}
 use lib.ListN.{length}
-use Rattle.orderbook.specs.declared.Side.{Side}
 use Rattle.orderbook.specs.declared.Side.the-variants.{Buy, Sell}
 use Rattle.le.proofs.Laws.{lt-or-le}
 use Rattle.words.specs.Words.{wrap}
@@ -20,10 +19,10 @@ use Rattle.gateway.specs.Ledger.{Order, held, open-of}
 use Rattle.gateway.specs.Depth as D
 use Rattle.gateway.specs.Calls.{Gateway, finished}
 use Rattle.store.specs.Cells as C
-use Rattle.store.specs.Layout.{cell, Cell, Holds, Set}
-use Rattle.store.specs.View.{Row, Store, Same, Is, Bounds, word, write, fill, listed, order, resting, marked, ledger, depth, gateway, order-room}
+use Rattle.store.specs.Layout.{cell, Holds, Set}
+use Rattle.store.specs.View.{Row, Store, Same, Is, Bounds, word, write, fill, listed, order, resting, ledger, depth, gateway, order-room}
 use Rattle.store.proofs.Places.{order-cell}
-use Rattle.store.proofs.Rows.{same-trans, same-write, then-set, then-fill, is-itself}
+use Rattle.store.proofs.Rows.{same-write, then-set, then-fill, is-itself}
 use Rattle.orders.specs.Orders.{either, Flags}
 use Rattle.orders.proofs.Shown.{shown, shown-ext, shown-dead}
 use Rattle.orders.proofs.Views.{with-lists}

@@ -2,22 +2,20 @@
 use mathlib.Core.Path.{_≡_, refl, sym, ap, subst, _∙_}
 use mathlib.Core.Bool.{Bool, true, false, cond, not, and-eq-true-iff}
 use mathlib.Core.List.{List, []}
-use Prim.Native.Nat.{ℕ, _≤_}
+use Prim.Native.Nat.{ℕ}
 use native.Mathlib.Omega.{arith}
 use borrow.Author.Tests.{eq-eqb, ne-eqb, not-true, not-false, eqb-true}
 use lib.Dec.{eqb}
 use lib.ListN.{length}
-use Rattle.orderbook.specs.declared.Listed.{Listed}
 use Rattle.table.proofs.Lists.{each-map}
 use Rattle.gateway.specs.Core.{Core}
 use Rattle.gateway.specs.Depth.{levels-few, levels-fit}
 use Rattle.gateway.specs.Listing.{listing-agrees, resting-in, entries-agree}
-use Rattle.gateway.specs.Entry.{Plan, nothing, unless, refuse, sends}
+use Rattle.gateway.specs.Entry.{nothing, refuse, sends}
 use Rattle.gateway.specs.Calls.{Gateway, call, plan, finish, finished, finish-tests}
-use Rattle.gateway.proofs.Listing.{agrees-distinct}
 use Rattle.store.specs.Layout.{cell}
 use Rattle.store.specs.View.{ledger, gateway}
-use Rattle.sound.specs.Sound.{State, Becomes}
+use Rattle.sound.specs.Sound.{Becomes}
 use Rattle.marketdata.specs.Marketdata.{with-depth}
 use Rattle.outcome.specs.Between.{Between}
 use Rattle.outcome.specs.Parts.{with-rest, rest-of}
@@ -26,7 +24,7 @@ use Rattle.outcome.proofs.Calls.{judged, says-refused, says-done}
 use Rattle.listing.specs.Rests.{CanRest}
 use Rattle.listing.specs.Rows.{listing}
 use Rattle.gateway.specs.Listing.{listed-depth}
-use Rattle.finish.proofs.Agreed.{same-stop, same-leaves, other-leaves, live-inside, live-agrees, none-agrees, row-once, row-differs, as-many, not-as-many, Entered, agree-each}
+use Rattle.finish.proofs.Agreed.{same-stop, same-leaves, other-leaves, live-inside, live-agrees, none-agrees, row-once, row-differs, as-many, not-as-many, agree-each}
 use Rattle.finish.proofs.Cleared.{unrest-is, cleared-is, reset-becomes}
 
 -- ---- judging
@@ -62,7 +60,7 @@ module _ (list : List ℕ) (c : Core) (a : Bool) (a-is : a ≡ listing-agrees (l
       all-pass f = sym (few ∙ ap (λ x. cond x 0 7) (sym d-is ∙ not-false d f))
 
 -- a verdict of 0: every test passed
-three-pass : (a b c : Bool) → 0 ≡ cond a (cond b (cond c 0 7) 5) 8 → (a ≡ true) × (b ≡ true) × (c ≡ true)
+three-pass : (a b c : Bool) → _≡_ {A = ℕ} 0 (cond a (cond b (cond c 0 7) 5) 8) → (a ≡ true) × (b ≡ true) × (c ≡ true)
 three-pass true true true h = (refl, refl, refl)
 three-pass true true false h = absurd (omega (arith, h))
 three-pass true false c h = absurd (omega (arith, h))

@@ -1,6 +1,6 @@
 -- The laws by which the functions on levels and on the depth meet their contracts. Assumes nothing.
 use mathlib.Core.Path.{_≡_, refl, sym, ap, ap₂, subst, _∙_}
-use mathlib.Core.Bool.{Bool, true, false, cond, _&&_, not, true≢false}
+use mathlib.Core.Bool.{Bool, true, false, cond, _&&_, not, true≢false, and-true, and-false}
 use mathlib.Core.Logic.{⊎-elim}
 use mathlib.Core.List.{List, _∷_}
 use Prim.Native.Nat.{ℕ, _+_, _-_, _^_, _≤_, _<_}
@@ -56,18 +56,10 @@ module _ (e : Entry) (s p : ℕ) where
     at-is = ap (rests-at (key s p)) (order-is e h) ∙ ap (λ x. same-side (View.side s) (View.side (e .side)) && x) (sym price-is)
 
     pub at-price : (c : Bool) → b ≡ true → c ≡ same-side (View.side s) (View.side (e .side)) → c ≡ rests-at (key s p) (listed-as e)
-    at-price c t side-is = sym (at-is ∙ ap₂ (λ x y. x && y) (sym side-is) t ∙ and-one c)
-      where
-        and-one : (x : Bool) → x && true ≡ x
-        and-one true = refl
-        and-one false = refl
+    at-price c t side-is = sym (at-is ∙ ap₂ (λ x y. x && y) (sym side-is) t ∙ and-true c)
 
     pub at-another : b ≡ false → false ≡ rests-at (key s p) (listed-as e)
-    at-another t = sym (at-is ∙ ap (λ x. same-side (View.side s) (View.side (e .side)) && x) t ∙ and-none (same-side (View.side s) (View.side (e .side))))
-      where
-        and-none : (x : Bool) → x && false ≡ false
-        and-none true = refl
-        and-none false = refl
+    at-another t = sym (at-is ∙ ap (λ x. same-side (View.side s) (View.side (e .side)) && x) t ∙ and-false (same-side (View.side s) (View.side (e .side))))
 
 -- an order that rests at a level shows what its row says
 shown-is : (k : Key) (e : Entry) → rests-at k (listed-as e) ≡ true → shown-by (listed-as e) ≡ e .visible

@@ -66,36 +66,32 @@ module _ (z : Side) where
   abbrev side-levels : List Listed → List Level
   side-levels xs = levels z (resting-in xs)
 
-  -- the levels with one entry more
-  more-is : (i o : ℕ) (s : Side) (p : ℤ) (v w : ℕ) (xs : List Listed) → same-side z s ≡ true → side-levels (L.Order i o s p v w ∷ xs) ≡ joined z p w (side-levels xs)
-  more-is i o s p v w xs e =
-      levels-insert z (order-in i s p v w) (resting-in xs) ∙ ap (λ b. cond b (joined z p w (side-levels xs)) (side-levels xs)) e
-
-  same-levels : (i o : ℕ) (s : Side) (p : ℤ) (v w : ℕ) (xs : List Listed) → same-side z s ≡ false → side-levels (L.Order i o s p v w ∷ xs) ≡ side-levels xs
-  same-levels i o s p v w xs e =
-      levels-insert z (order-in i s p v w) (resting-in xs) ∙ ap (λ b. cond b (joined z p w (side-levels xs)) (side-levels xs)) e
+  -- with one entry more, by whether it is of this side
+  more-is : (i o : ℕ) (s : Side) (p : ℤ) (v w : ℕ) (xs : List Listed) (b : Bool) → same-side z s ≡ b →
+      side-levels (L.Order i o s p v w ∷ xs) ≡ cond b (joined z p w (side-levels xs)) (side-levels xs)
+  more-is i o s p v w xs b e =
+      levels-insert z (order-in i s p v w) (resting-in xs) ∙ ap (λ c. cond c (joined z p w (side-levels xs)) (side-levels xs)) e
 
   -- an entry at a level that no other has, at one that is there, and of the other side
   pub opens-one : (p : ℤ) (x : Listed) (xs : List Listed) → rests-at (z, p) x ≡ true → level (z, p) (listed-depth xs) .orders ≡ 0 → length (side-levels (x ∷ xs)) ≡ 1 + length (side-levels xs)
   opens-one p (L.Stop i o s l q) xs h n = absurd (true≢false (sym h))
   opens-one p (L.Order i o s q v w) xs h n =
       let t = and-eq-true-iff (same-side z s) (same-price p q) .0 h in
-      let e : p ≡ q = same-is p q (t .1) in
-      ap length (more-is i o s q v w xs (t .0)) ∙ joined-length z q w (side-levels xs) (levels-peopled z (resting-in xs)) (rw (← e) n) ∙ (let u : suc (length (side-levels xs)) ≡ 1 + length (side-levels xs) = omega arith in u)
+      let m : level-in q (side-levels xs) .orders ≡ 0 = rw (← same-is p q (t .1)) n in
+      omega (arith, ap length (more-is i o s q v w xs true (t .0)), joined-length z q w (side-levels xs) (levels-peopled z (resting-in xs)) m)
 
   pub opens-none : (p : ℤ) (x : Listed) (xs : List Listed) → rests-at (z, p) x ≡ true → (level (z, p) (listed-depth xs) .orders ≡ 0 → ⊥) → length (side-levels (x ∷ xs)) ≡ 0 + length (side-levels xs)
   opens-none p (L.Stop i o s l q) xs h n = absurd (true≢false (sym h))
   opens-none p (L.Order i o s q v w) xs h n =
       let t = and-eq-true-iff (same-side z s) (same-price p q) .0 h in
-      let e : p ≡ q = same-is p q (t .1) in
-      let m : 0 < level-in q (side-levels xs) .orders = rw (← e) (omega (arith, n)) in
-      ap length (more-is i o s q v w xs (t .0)) ∙ joined-there z q w (side-levels xs) (levels-best z (resting-in xs)) m ∙ (let u : length (side-levels xs) ≡ 0 + length (side-levels xs) = omega arith in u)
+      let m : 0 < level-in q (side-levels xs) .orders = rw (← same-is p q (t .1)) (omega (arith, n)) in
+      omega (arith, ap length (more-is i o s q v w xs true (t .0)), joined-there z q w (side-levels xs) (levels-best z (resting-in xs)) m)
 
   pub other-side : (i o : ℕ) (s : Side) (p : ℤ) (v w : ℕ) (xs : List Listed) → rests-at (z, p) (L.Order i o s p v w) ≡ false →
       length (side-levels (L.Order i o s p v w ∷ xs)) ≡ 0 + length (side-levels xs)
   other-side i o s p v w xs h =
       let t : same-side z s ≡ false = sym (ap (λ b. same-side z s && b) (same-itself p) ∙ and-true (same-side z s)) ∙ h in
-      ap length (same-levels i o s p v w xs t) ∙ (let u : length (side-levels xs) ≡ 0 + length (side-levels xs) = omega arith in u)
+      omega (arith, ap length (more-is i o s p v w xs false t))
 
   -- one more entry adds at most a level, and takes none away
   by-side : (P : List Level → Type 0) (i o : ℕ) (s : Side) (p : ℤ) (v w : ℕ) (xs : List Listed) → P (joined z p w (side-levels xs)) → P (side-levels xs) → P (side-levels (L.Order i o s p v w ∷ xs))

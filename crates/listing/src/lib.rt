@@ -222,16 +222,15 @@ fn rest_row(m: &mut [u8], list: &[u8], j: usize)
     ensures { λ r. ⌜ Becomes (now (m .exit)) (with-depth (R.rested (P.row (now (list .entry)) j)) (gateway (cell (now (m .entry))))) ⌝ }
 {
     let e = entry_at(list, j);
-    if e.kind != 0 {
-        return;
+    if e.kind == 0 {
+        let o = Resting {
+            side: e.side,
+            price: e.price,
+            visible: e.visible,
+            leaves: e.leaves,
+        };
+        marketdata::rest(m, e.number, o);
     }
-    let o = Resting {
-        side: e.side,
-        price: e.price,
-        visible: e.visible,
-        leaves: e.leaves,
-    };
-    marketdata::rest(m, e.number, o);
 }
 
 // The resting orders come to stand in the depth, which is empty.

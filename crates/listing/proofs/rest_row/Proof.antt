@@ -6,17 +6,17 @@ use Rattle.listing.proofs.rest_row.Tie as tie
 entry-at-requires : tie.Need-entry-at-requires
 entry-at-requires c κs = search needs
 
-returns : tie.Need-returns
-returns c = search laws
-
 rest-requires : tie.Need-rest-requires
 rest-requires c κs = search laws
 
 same-length : tie.Need-same-length
 same-length c = search needs
 
+returns : tie.Need-returns
+returns c = search laws
+
 returns-2 : tie.Need-returns-2
 returns-2 c = search laws
 
 pub rest-row-spec : {M : Type 1} → statement M
-rest-row-spec = tie.close (tie.spec entry-at-requires returns rest-requires same-length returns-2)
+rest-row-spec = tie.close (tie.spec entry-at-requires rest-requires same-length returns returns-2)
