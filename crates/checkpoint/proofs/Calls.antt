@@ -1,18 +1,18 @@
 -- The call, from its tests. Assumes nothing.
-use mathlib.Core.Path.{_≡_, refl, sym, ap, ap₂, _∙_}
-use mathlib.Core.Bool.{Bool, true, false, not, _&&_, and-eq-true-iff, false≢true}
+use mathlib.Core.Path.{_≡_, refl, sym, ap, _∙_}
+use mathlib.Core.Bool.{Bool, true, false, _&&_, and-eq-true-iff, false≢true}
 use mathlib.Core.List.{List, [], _∷_, _++_}
 use Prim.Native.Nat.{ℕ, zero, suc, _+_, _*_, _≤_, _<_}
 use native.Mathlib.Omega.{arith}
 use borrow.Author.Tests.{le-leb, lt-leb, eq-eqb, ne-eqb, not-true, not-false}
 use lib.Dec.{eqb, leb}
-use lib.ListN.{length, drop}
+use lib.ListN.{length}
 use Rattle.gateway.specs.Basics.{is-empty}
 use Rattle.gateway.specs.Limits.{not-quiet, too-short}
 use Rattle.gateway.specs.Bytes.{encode}
 use Rattle.gateway.specs.Entry as Entry
 use Rattle.gateway.specs.Entry.{Plan, refuse, unless, bytes}
-use Rattle.gateway.specs.Calls.{Gateway, Call, call, plan, checkpoint}
+use Rattle.gateway.specs.Calls.{Call, call, plan, checkpoint}
 use Rattle.gateway.proofs.Bytes.{encode-length}
 use Rattle.store.specs.Cells as C
 use Rattle.store.specs.Layout.{cell}

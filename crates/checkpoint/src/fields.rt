@@ -1,14 +1,13 @@
 // The rows of the checkpoint: fields of fixed widths, one behind the other.
 use orders::Live;
 ghost use mathlib.Core.Path.{_≡_};
-ghost use mathlib.Core.Bool.{cond};
 ghost use mathlib.Core.List.{[], _∷_};
 ghost use Prim.Native.Nat.{_+_, _*_, _^_, _≤_, _<_};
 ghost use lib.ListN.{length};
 ghost use Rattle.words.specs.Words.{int};
 ghost use Rattle.le.specs.Row.{puts};
 ghost use Rattle.gateway.specs.Bytes.{head-widths, price-flag, price-word, buy-flag};
-ghost use Rattle.store.specs.View.{flag, side, maybe-price};
+ghost use Rattle.store.specs.View.{side, maybe-price};
 ghost use Rattle.orders.specs.Orders.{order-of};
 ghost use Rattle.checkpoint.specs.Put as P;
 
@@ -23,30 +22,21 @@ fn pack(buy: u8, priced: u8) -> u8
 fn buy_flag(code: u64) -> u8
     ensures { λ r. ⌜ (r ≡ buy-flag (side code)) × (r < 2) ⌝ }
 {
-    if code == 0 {
-        return 1;
-    }
-    0
+    if code == 0 { 1 } else { 0 }
 }
 
 // 1 where there is a price.
 fn price_flag(priced: u64, price: u64) -> u8
     ensures { λ r. ⌜ (r ≡ price-flag (maybe-price priced price)) × (r < 2) ⌝ }
 {
-    if priced == 0 {
-        return 0;
-    }
-    1
+    if priced == 0 { 0 } else { 1 }
 }
 
 // 0 where there is none.
 fn price_word(priced: u64, price: u64) -> u64
     ensures { λ r. ⌜ r ≡ price-word (maybe-price priced price) ⌝ }
 {
-    if priced == 0 {
-        return 0;
-    }
-    price
+    if priced == 0 { 0 } else { price }
 }
 
 fn flags_of(o: Live) -> u8

@@ -12,7 +12,7 @@ ghost use Rattle.gateway.specs.Calls as Calls;
 ghost use Rattle.gateway.specs.Calls.{call};
 ghost use Rattle.store.specs.Cells as C;
 ghost use Rattle.store.specs.Layout.{cell, Holds};
-ghost use Rattle.store.specs.View.{word, maybe-price, gateway};
+ghost use Rattle.store.specs.View.{word, gateway};
 ghost use Rattle.sound.specs.Sound.{State};
 ghost use Rattle.outcome.specs.Between.{Between};
 ghost use Rattle.checkpoint.specs.Put as P;

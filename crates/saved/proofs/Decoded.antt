@@ -3,10 +3,10 @@ use mathlib.Core.Path.{_≡_, refl, sym, ap, _∙_}
 use mathlib.Core.Bool.{Bool, true, false, cond, _&&_, and-eq-true-iff, false≢true}
 use mathlib.Core.Logic.{⊎-elim}
 use mathlib.Core.Option.{Option, none, some}
-use mathlib.Core.List.{List, [], _∷_, map}
+use mathlib.Core.List.{List, [], _∷_}
 use Prim.Native.Nat.{ℕ, _+_, _*_, _≤_, _<_}
 use native.Mathlib.Omega.{arith}
-use borrow.Author.Tests.{leb-true, leb-false, eqb-true, eqb-false, le-leb}
+use borrow.Author.Tests.{leb-true, leb-false, eqb-true, eqb-false}
 use lib.Dec.{eqb, leb}
 use lib.ListN.{length, getD, drop, length-map, length-drop, drop-of-length-le, List·getD-map}
 use Rattle.le.specs.Le.{le}
@@ -14,8 +14,8 @@ use Rattle.le.proofs.Laws.{lt-or-le}
 use Rattle.gateway.specs.Basics.{option, is-some}
 use Rattle.gateway.specs.Limits.{owner-slots, most-orders}
 use Rattle.gateway.specs.Saved.{Saved}
-use Rattle.gateway.specs.Bytes.{Raw, Read, then, read-number, read-row, read-rows, read-section, read-parts, whole, read-raw, head-widths, wallet-widths, order-widths, row-wallet, row-order, saved, price-ok, flags-ok, table-ok, well-formed, checked, decode}
-use Rattle.saved.specs.Parts.{wallet-count, order-count, wallets-start, orders-start, sized, row-at, rows-at, raw-of}
+use Rattle.gateway.specs.Bytes.{Raw, Read, then, read-rows, read-section, read-parts, whole, read-raw, head-widths, wallet-widths, order-widths, row-wallet, row-order, saved, price-ok, flags-ok, table-ok, well-formed, checked, decode}
+use Rattle.saved.specs.Parts.{wallet-count, order-count, orders-start, sized, row-at, raw-of}
 use Rattle.saved.specs.Contents.{nothing, saved-of, no-wallet, wallet-at, no-order, order-at}
 use Rattle.saved.proofs.Offsets.{number-read, number-short, row-read, row-short, rows-read, rows-short, rows-count, rows-nth}
 

@@ -3,19 +3,17 @@ use mathlib.Core.Path.{_≡_, refl, sym, ap, ap₂, _∙_}
 use mathlib.Core.Bool.{Bool, true, false, cond, _&&_, false≢true}
 use mathlib.Core.Option.{Option, none, some}
 use mathlib.Core.List.{List, [], _∷_, _++_, map, append-assoc}
-use Prim.Native.Nat.{ℕ, zero, suc, _+_, _*_, _-_, _^_, _/_, _%_, _≤_, _<_}
-use native.Mathlib.Nat.{le-refl, pow-zero, pow-suc, zero-lt-suc, div-lt-iff-lt-mul, mod-add-div}
+use Prim.Native.Nat.{ℕ, suc, _+_, _*_, _-_, _^_, _/_, _%_, _≤_, _<_}
+use native.Mathlib.Nat.{le-refl}
 use native.Mathlib.Omega.{arith}
 use borrow.Author.Tests.{leb-true, le-leb, lt-leb, eq-eqb, ne-eqb, not-true, not-false}
 use lib.Bits.{bitAnd, and-mask}
 use lib.Dec.{eqb, ltb, leb}
-use lib.ListN.{length, getD, take, drop, length-append, length-drop, length-map}
-use lib.Seq.{take-all, drop-at, getD-append-seam, append-snoc}
+use lib.ListN.{length, getD, take, drop, length-append, length-drop}
+use lib.Seq.{take-all, drop-at}
 use mir.Syntax.{w64}
 use mir.Val.{toZ}
 use Rattle.words.specs.Words.{int}
-use Rattle.orderbook.specs.declared.Side.the-variants.{Buy, Sell}
-use Rattle.orderbook.specs.declared.MaybePrice.{MaybePrice}
 use Rattle.orderbook.specs.declared.MaybePrice.the-variants.{None, Some}
 use Rattle.le.specs.Le.{le}
 use Rattle.le.specs.Row.{gets}
@@ -25,7 +23,7 @@ use Rattle.gateway.specs.Fits.{Bytes}
 use Rattle.gateway.specs.Ledger.{Order}
 use Rattle.gateway.specs.Saved.{Saved}
 use Rattle.gateway.specs.Bytes.{number, row, rows, section, head-widths, wallet-widths, order-widths, wallet-row, order-row, raw, encode, decode, price-from, side-from, row-wallet, row-order, price-ok, flags-ok, table-ok, well-formed}
-use Rattle.gateway.proofs.Bytes.{encode-decode, encode-length}
+use Rattle.gateway.proofs.Bytes.{encode-decode}
 use Rattle.gateway.proofs.Rows.{rows-length}
 use Rattle.store.specs.View.{flag, side, maybe-price}
 use Rattle.orders.specs.declared.Live.{Live}
@@ -188,9 +186,6 @@ module _ (xs : List ℕ) where
         (e ∙ ap₂ (λ (i k : ℕ). rows-fit flags-ok (rows-at order-widths xs (25 + 20 * i) k)) h n-is)
 
   -- ---- the whole
-
-  abbrev Whole : Bool → Type 0
-  Whole b = b ≡ is-some (decode xs)
 
   module _ (s : Bool) (s-is : s ≡ sized xs) where
     pub not-sized : s ≡ false → false ≡ is-some (decode xs)

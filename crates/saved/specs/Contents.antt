@@ -1,7 +1,6 @@
 -- What a reader finds in a checkpoint's bytes that are well formed.
 use Prim.Native.Nat.{ℕ, _≤_}
 use mathlib.Core.Path.{_≡_}
-use mathlib.Core.Option.{Option, none, some}
 use mathlib.Core.List.{List, [], map}
 use lib.IntN.{pos}
 use lib.ListN.{length, getD, drop}

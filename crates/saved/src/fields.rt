@@ -44,20 +44,14 @@ pub fn price_fits(flag: u8, price: u64) -> bool
 pub fn code_of(priced: u8) -> u64
     ensures { λ r. ⌜ flag r ≡ eqb priced 1 ⌝ }
 {
-    if priced == 1 {
-        return 1;
-    }
-    0
+    if priced == 1 { 1 } else { 0 }
 }
 
 // The code of a side: 0 for a buy.
 fn side_of(buy: u8) -> u64
     ensures { λ r. ⌜ side r ≡ side-from buy ⌝ }
 {
-    if buy == 1 {
-        return 0;
-    }
-    1
+    if buy == 1 { 0 } else { 1 }
 }
 
 // ---- rows

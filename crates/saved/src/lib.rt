@@ -1,6 +1,6 @@
 // A checkpoint's bytes, read: whether they are well formed, what they hold, and the order section as a part of them. Document 01 adds them to the Rust.
+mod checks;
 mod fields;
-mod tests;
 
 use orders::Live;
 ghost use mathlib.Core.Path.{_≡_};
@@ -31,16 +31,16 @@ pub struct Purse {
 pub fn is_whole(xs: &[u8]) -> bool
     ensures { λ r. ⌜ r ≡ is-some (decode (now (xs .entry))) ⌝ }
 {
-    if !tests::is_sized(xs) {
+    if !checks::is_sized(xs) {
         return false;
     }
-    if !tests::head_fits(xs) {
+    if !checks::head_fits(xs) {
         return false;
     }
-    if !tests::wallets_fit(xs) {
+    if !checks::wallets_fit(xs) {
         return false;
     }
-    tests::orders_fit(xs)
+    checks::orders_fit(xs)
 }
 
 // ---- the order section
@@ -89,7 +89,7 @@ pub fn wallets(xs: &[u8]) -> usize
     requires { ⌜ is-some (decode (now xs)) ≡ true ⌝ }
     ensures { λ r. ⌜ (r ≡ length (S.saved-of (now (xs .entry)) .wallets)) × (r ≤ owner-slots) ⌝ }
 {
-    tests::wallet_count(xs)
+    checks::wallet_count(xs)
 }
 
 // The wallet j, counted from 0.
@@ -105,14 +105,14 @@ pub fn orders(xs: &[u8]) -> usize
     requires { ⌜ is-some (decode (now xs)) ≡ true ⌝ }
     ensures { λ r. ⌜ (r ≡ length (S.saved-of (now (xs .entry)) .orders)) × (r ≤ most-orders) ⌝ }
 {
-    tests::order_count(xs)
+    checks::order_count(xs)
 }
 
 fn orders_start(xs: &[u8]) -> usize
     requires { ⌜ is-some (decode (now xs)) ≡ true ⌝ }
     ensures { λ r. ⌜ (r ≡ P.orders-start (now (xs .entry))) × (r ≤ length (now (xs .entry))) ⌝ }
 {
-    25 + 20 * tests::wallet_count(xs)
+    25 + 20 * checks::wallet_count(xs)
 }
 
 // Where the row of the order j starts.

@@ -1,7 +1,7 @@
 use Rattle.saved.proofs.Laws.{laws}
 use borrow.Author.Needs.{needs}
-use Rattle.saved.proofs.tests.order_fits.Statement.{statement}
-use Rattle.saved.proofs.tests.order_fits.Tie as tie
+use Rattle.saved.proofs.checks.order_fits.Statement.{statement}
+use Rattle.saved.proofs.checks.order_fits.Tie as tie
 
 order-rises-requires : tie.Need-order-rises-requires
 order-rises-requires c κs = search needs

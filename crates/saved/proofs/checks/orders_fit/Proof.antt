@@ -1,7 +1,7 @@
 use Rattle.saved.proofs.Laws.{laws}
 use borrow.Author.Needs.{needs}
-use Rattle.saved.proofs.tests.orders_fit.Statement.{statement}
-use Rattle.saved.proofs.tests.orders_fit.Tie as tie
+use Rattle.saved.proofs.checks.orders_fit.Statement.{statement}
+use Rattle.saved.proofs.checks.orders_fit.Tie as tie
 
 order-count-requires : tie.Need-order-count-requires
 order-count-requires c κs = search needs

@@ -4,8 +4,8 @@ use borrow.Author.Needs.{needs}
 use borrow.Author.Tests.{not-true, not-false}
 use Rattle.gateway.specs.Bytes.{order-widths, flags-ok}
 use Rattle.saved.proofs.Rising.{Passed, passed-first, passed-next, passed-not, passed-last}
-use Rattle.saved.proofs.tests.rows_fit.Statement.{statement}
-use Rattle.saved.proofs.tests.rows_fit.Tie as tie
+use Rattle.saved.proofs.checks.rows_fit.Statement.{statement}
+use Rattle.saved.proofs.checks.rows_fit.Tie as tie
 
 abbrev Inv-loop : tie.InvT-loop
 Inv-loop xs o n j₀ j = Passed flags-ok order-widths xs o n j × (j ≤ n)

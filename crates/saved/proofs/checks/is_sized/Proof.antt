@@ -1,7 +1,7 @@
 use Rattle.saved.proofs.Laws.{laws}
 use borrow.Author.Needs.{needs}
-use Rattle.saved.proofs.tests.is_sized.Statement.{statement}
-use Rattle.saved.proofs.tests.is_sized.Tie as tie
+use Rattle.saved.proofs.checks.is_sized.Statement.{statement}
+use Rattle.saved.proofs.checks.is_sized.Tie as tie
 
 returns : tie.Need-returns
 returns c = search laws

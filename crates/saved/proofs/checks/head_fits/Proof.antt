@@ -1,7 +1,7 @@
 use Rattle.saved.proofs.Laws.{laws}
 use borrow.Author.Needs.{needs}
-use Rattle.saved.proofs.tests.head_fits.Statement.{statement}
-use Rattle.saved.proofs.tests.head_fits.Tie as tie
+use Rattle.saved.proofs.checks.head_fits.Statement.{statement}
+use Rattle.saved.proofs.checks.head_fits.Tie as tie
 
 get-u8-requires : tie.Need-get-u8-requires
 get-u8-requires c κs = search laws

@@ -1,7 +1,7 @@
 use Rattle.saved.proofs.Laws.{laws}
 use borrow.Author.Needs.{needs}
-use Rattle.saved.proofs.tests.order_count.Statement.{statement}
-use Rattle.saved.proofs.tests.order_count.Tie as tie
+use Rattle.saved.proofs.checks.order_count.Statement.{statement}
+use Rattle.saved.proofs.checks.order_count.Tie as tie
 
 wallet-count-requires : tie.Need-wallet-count-requires
 wallet-count-requires c κs = search laws

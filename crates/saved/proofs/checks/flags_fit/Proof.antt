@@ -1,7 +1,7 @@
 use Rattle.saved.proofs.Laws.{laws}
 use borrow.Author.Needs.{needs}
-use Rattle.saved.proofs.tests.flags_fit.Statement.{statement}
-use Rattle.saved.proofs.tests.flags_fit.Tie as tie
+use Rattle.saved.proofs.checks.flags_fit.Statement.{statement}
+use Rattle.saved.proofs.checks.flags_fit.Tie as tie
 
 add-get-u8 : tie.Need-add-get-u8
 add-get-u8 c = search needs

@@ -6,8 +6,8 @@ use mathlib.Core.Bool.{true}
 use Rattle.gateway.specs.Bytes.{wallet-widths}
 use Rattle.saved.specs.Parts.{wallets-start}
 use Rattle.saved.proofs.Rising.{Passed, passed-first, passed-next, passed-not, passed-last}
-use Rattle.saved.proofs.tests.wallets_rise.Statement.{statement}
-use Rattle.saved.proofs.tests.wallets_rise.Tie as tie
+use Rattle.saved.proofs.checks.wallets_rise.Statement.{statement}
+use Rattle.saved.proofs.checks.wallets_rise.Tie as tie
 
 abbrev Inv-loop : tie.InvT-loop
 Inv-loop xs n j₀ j = Passed (λ x. true) wallet-widths xs wallets-start n j × (j ≤ n)
