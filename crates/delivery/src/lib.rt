@@ -26,7 +26,7 @@ pub struct Tests {
 }
 
 // One test before others: its code where it fails, else theirs.
-fn check(ok: bool, code: u64, rest: u64) -> u64
+pub fn check(ok: bool, code: u64, rest: u64) -> u64
     ensures { λ r. ⌜ r ≡ P.check ok code rest ⌝ }
 {
     if ok { rest } else { code }

@@ -53,3 +53,5 @@ module _ (xs : List ℕ) where
 
   pub all-free : (s : ℕ) → session-slots ≤ s → free-below s ≡ true → true ≡ no-session (rest-of xs .sessions)
   all-free s l h = sym (ap no-session (sym (take-all s (rest-of xs .sessions) (rw (slots xs) l))) ∙ h)
+
+pub ruleset alone = (slot-free, slot-taken, all-free, arith)
