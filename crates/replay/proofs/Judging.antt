@@ -24,7 +24,6 @@ use Rattle.gateway.specs.Calls.{Gateway}
 use Rattle.store.specs.Cells as C
 use Rattle.store.specs.Layout.{cell}
 use Rattle.store.specs.View.{word, flag, side, maybe-price, wallet, ledger, gateway}
-use Rattle.store.specs.View as View
 use Rattle.store.proofs.Listed.{listed-length}
 use Rattle.clients.proofs.Views.{wallet-at-row}
 use Rattle.orders.specs.declared.Live.{Live}
@@ -64,10 +63,9 @@ module _ (xs : List ℕ) where
       (λ q. ne-eqb (n - 1) w q ∙ sym (ne-eqb n (next (g .core)) (λ h. q (omega (arith, h, e))))) (same? (n - 1) w)
 
   module _ (t : Terms) where
-    pub below-owner : (w : ℕ) → t .owned ≡ true → w ≡ word (cell xs) C.owner-limit → ltb (t .order .account) w ≡ below t g
-    below-owner w f e =
-        ap (ltb (t .order .account)) (e ∙ sym (listed-length (λ i. View.account i (cell xs C.accounts i)) (word (cell xs) C.owner-limit)))
-        ∙ sym (ap (λ (b : Bool). cond b (ltb (t .order .account) (owner-limit (g .core))) true) f)
+    pub below-owner : (r : Bool) → t .owned ≡ true → r ≡ ltb (t .order .account) (owner-limit (g .core)) → r ≡ below t g
+    below-owner r f e =
+        e ∙ sym (ap (λ (b : Bool). cond b (ltb (t .order .account) (owner-limit (g .core))) true) f)
 
     pub below-nobody : t .owned ≡ false → true ≡ below t g
     below-nobody f = sym (ap (λ (b : Bool). cond b (ltb (t .order .account) (owner-limit (g .core))) true) f)

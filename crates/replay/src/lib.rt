@@ -175,7 +175,7 @@ fn is_below(m: &[u8], t: Terms) -> bool
     ensures { λ r. ⌜ r ≡ P.below t (gateway (cell (now (m .entry)))) ⌝ }
 {
     if t.owned {
-        return t.order.account < pending::header::word_at(m, cells::OWNER_LIMIT);
+        return delivery::is_owner(m, t.order.account);
     }
     true
 }
