@@ -43,8 +43,10 @@ pub record Judges (n : ℕ) (e : Event) (below numbers holds : Bool) (g : Gatewa
 judged-is : (n : ℕ) (e : Event) (below numbers holds : Bool) (g : Gateway) → Judges n e below numbers holds g → verdict (tests n below numbers holds g) ≡ verdict (replay-tests (event n e) (g .core) (g .rest))
 unfolding Core.tests
 judged-is n e below numbers holds g j =
-    same-test _ _ 4 _ _ refl
-    (λ _. same-test _ _ 4 _ _ refl (λ f. same-test _ _ 1 _ _ (j .below-is) (λ _. same-test _ _ 8 _ _ (j .numbers-is f) (λ m. same-test _ _ 7 _ _ (j .holds-is m) (λ _. refl)))))
+    same-test (no-session (g .rest .sessions)) (no-session (g .rest .sessions)) 4 _ _ refl
+    (λ _.
+    same-test (in-flight n (g .core)) (in-flight n (g .core)) 4 _ _ refl
+    (λ f. same-test _ _ 1 _ _ (j .below-is) (λ _. same-test _ _ 8 _ _ (j .numbers-is f) (λ m. same-test _ _ 7 _ _ (j .holds-is m) (λ _. refl)))))
 
 -- ---- the call
 

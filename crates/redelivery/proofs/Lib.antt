@@ -1,3 +1,3 @@
 pub mod Calling
 pub mod Orders
-pub mod Kinds
+pub mod Events

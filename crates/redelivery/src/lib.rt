@@ -269,7 +269,10 @@ pub fn replay_event(m: &mut [u8], n: u64, e: Event) -> u64
         Event::Replenished { id, .. } => still(m, n, true, id <= n),
         Event::Cancelled { id, .. } => one(m, n, id, Move::Retire),
         Event::Modified {
-            id, price, leaves, ..
+            id,
+            price,
+            leaves,
+            ..
         } => modified(m, n, id, price, leaves),
         Event::StopPlaced { id, .. } => still(m, n, true, id <= n),
         Event::Triggered { id } => still(m, n, true, id <= n),

@@ -113,41 +113,41 @@ module _ (xs ys : List ℕ) (n r : ℕ) where
   -- ---- in the arms of the match
 
   module _ (e : Event) where
-    as : (f : Event) → e ≡ f → Replays xs ys n r f → Replays xs ys n r e
-    as f q h = subst (Replays xs ys n r) (sym q) h
+    as-said : (f : Event) → e ≡ f → Replays xs ys n r f → Replays xs ys n r e
+    as-said f q h = subst (Replays xs ys n r) (sym q) h
 
     pub as-accepted : (i : ℕ) → e ≡ Accepted i → ((f : Event) → Still n true (leb i n) f (gateway (cell xs)) → Replays xs ys n r f) → Replays xs ys n r e
-    as-accepted i q h = as (Accepted i) q (h (Accepted i) (accepted-still n (gateway (cell xs)) i))
+    as-accepted i q h = as-said (Accepted i) q (h (Accepted i) (accepted-still n (gateway (cell xs)) i))
 
     pub as-triggered : (i : ℕ) → e ≡ Triggered i → ((f : Event) → Still n true (leb i n) f (gateway (cell xs)) → Replays xs ys n r f) → Replays xs ys n r e
-    as-triggered i q h = as (Triggered i) q (h (Triggered i) (triggered-still n (gateway (cell xs)) i))
+    as-triggered i q h = as-said (Triggered i) q (h (Triggered i) (triggered-still n (gateway (cell xs)) i))
 
     pub as-replenished : (i : ℕ) (z : Side) (p : ℤ) (v : ℕ) → e ≡ Replenished i z p v → ((f : Event) → Still n true (leb i n) f (gateway (cell xs)) → Replays xs ys n r f) → Replays xs ys n r e
-    as-replenished i z p v q h = as (Replenished i z p v) q (h (Replenished i z p v) (replenished-still n (gateway (cell xs)) i z p v))
+    as-replenished i z p v q h = as-said (Replenished i z p v) q (h (Replenished i z p v) (replenished-still n (gateway (cell xs)) i z p v))
 
     pub as-stop : (i : ℕ) (z : Side) (t : ℤ) (l : MaybePrice) (v : ℕ) → e ≡ StopPlaced i z t l v → ((f : Event) → Still n true (leb i n) f (gateway (cell xs)) → Replays xs ys n r f) → Replays xs ys n r e
-    as-stop i z t l v q h = as (StopPlaced i z t l v) q (h (StopPlaced i z t l v) (stop-still n (gateway (cell xs)) i z t l v))
+    as-stop i z t l v q h = as-said (StopPlaced i z t l v) q (h (StopPlaced i z t l v) (stop-still n (gateway (cell xs)) i z t l v))
 
     pub as-phase : (p : Phase) → e ≡ PhaseChanged p → ((f : Event) → Still n true true f (gateway (cell xs)) → Replays xs ys n r f) → Replays xs ys n r e
-    as-phase p q h = as (PhaseChanged p) q (h (PhaseChanged p) (phase-still n (gateway (cell xs)) p))
+    as-phase p q h = as-said (PhaseChanged p) q (h (PhaseChanged p) (phase-still n (gateway (cell xs)) p))
 
     pub as-cancelled : (i v : ℕ) (why : CancelReason) → e ≡ Cancelled i v why → ((f : Event) → Moves n i Retire f → Replays xs ys n r f) → Replays xs ys n r e
-    as-cancelled i v why q h = as (Cancelled i v why) q (h (Cancelled i v why) (cancelled-moves n i v why))
+    as-cancelled i v why q h = as-said (Cancelled i v why) q (h (Cancelled i v why) (cancelled-moves n i v why))
 
     pub as-rejected : (i : ℕ) (why : RejectReason) → e ≡ Rejected i why → ((y : RejectReason) → Replays xs ys n r (Rejected i y)) → Replays xs ys n r e
-    as-rejected i why q h = as (Rejected i why) q (h why)
+    as-rejected i why q h = as-said (Rejected i why) q (h why)
 
     pub as-mass : (o k : ℕ) → e ≡ MassCancelled o k → ((y : ℕ) → Replays xs ys n r (MassCancelled o y)) → Replays xs ys n r e
-    as-mass o k q h = as (MassCancelled o k) q (h k)
+    as-mass o k q h = as-said (MassCancelled o k) q (h k)
 
     pub as-rested : (i : ℕ) (z : Side) (p : ℤ) (v w : ℕ) → e ≡ Rested i z p v w → ((f : Event) → Rests i v f → Replays xs ys n r f) → Replays xs ys n r e
-    as-rested i z p v w q h = as (Rested i z p v w) q (h (Rested i z p v w) (at z p w))
+    as-rested i z p v w q h = as-said (Rested i z p v w) q (h (Rested i z p v w) (at z p w))
 
     -- with a price that is read back from its bits
     pub as-modified : (i : ℕ) (p : ℤ) (v w : ℕ) → e ≡ Modified i p v w → mag p < half → ((y : ℕ) → Replays xs ys n r (Modified i (toZ w64 (ofZ w64 p)) y w)) → Replays xs ys n r e
-    as-modified i p v w q l h = as (Modified i (toZ w64 (ofZ w64 p)) v w) (q ∙ ap (λ (y : ℤ). Modified i y v w) (sym (read {x = p} l))) (h v)
+    as-modified i p v w q l h = as-said (Modified i (toZ w64 (ofZ w64 p)) v w) (q ∙ ap (λ (y : ℤ). Modified i y v w) (sym (read {x = p} l))) (h v)
 
     pub as-trade : (t a b : ℕ) (z : Side) (p : ℤ) (v c d : ℕ) → e ≡ Trade t a b z p v c d → mag p < half → Replays xs ys n r (Trade t a b z (toZ w64 (ofZ w64 p)) v c d) → Replays xs ys n r e
-    as-trade t a b z p v c d q l h = as (Trade t a b z (toZ w64 (ofZ w64 p)) v c d) (q ∙ ap (λ (y : ℤ). Trade t a b z y v c d) (sym (read {x = p} l))) h
+    as-trade t a b z p v c d q l h = as-said (Trade t a b z (toZ w64 (ofZ w64 p)) v c d) (q ∙ ap (λ (y : ℤ). Trade t a b z y v c d) (sym (read {x = p} l))) h
 
 pub ruleset kinds = (mass-replays, own-replays, other-replays, rested-replays, modified-replays, trade-replays, as-accepted, as-triggered, as-replenished, as-stop, as-phase, as-cancelled, as-rejected, as-mass, as-rested, as-modified, as-trade, arith)
