@@ -12,9 +12,9 @@ use Rattle.gateway.specs.Basics.{is-some}
 use Rattle.gateway.specs.Fits.{AccountFits}
 use Rattle.gateway.specs.Limits.{owner-slots, out-of-range, exists, has-orders}
 use Rattle.gateway.specs.Ledger.{account, open-of}
-use Rattle.gateway.specs.Core.{Tests, Core, system, owner-limit, account-at, tests}
+use Rattle.gateway.specs.Core.{Core, system, owner-limit, account-at, tests}
 use Rattle.gateway.specs.Entry.{Plan, nothing, refuse, records}
-use Rattle.gateway.specs.Calls.{Gateway, Call, Outcome, call, carry-out, plan, add-account, joined}
+use Rattle.gateway.specs.Calls.{Gateway, Outcome, call, carry-out, plan, add-account, joined}
 use Rattle.store.specs.Cells as C
 use Rattle.store.specs.Layout.{cell}
 use Rattle.store.specs.View.{word, gateway}
@@ -24,7 +24,6 @@ use Rattle.clients.proofs.Views.{account-at-row}
 use Rattle.sound.specs.Sound.{State, Becomes}
 use Rattle.outcome.specs.Between.{Between}
 use Rattle.outcome.specs.Answers.{Ends, Said, Says, verdict}
-use Rattle.outcome.specs.Parts.{rest-of}
 use Rattle.outcome.proofs.Calls.{judged, says-recorded}
 use Rattle.start.specs.Start.{entering}
 

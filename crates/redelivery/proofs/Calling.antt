@@ -7,13 +7,12 @@ use native.Mathlib.Omega.{arith}
 use borrow.Author.Tests.{eq-eqb, ne-eqb}
 use lib.Dec.{eqb}
 use Rattle.orderbook.specs.declared.Event.{Event}
-use Rattle.gateway.specs.Ledger.{changes, step, event}
+use Rattle.gateway.specs.Ledger.{step, event}
 use Rattle.gateway.specs.Core as Core
-use Rattle.gateway.specs.Core.{Pass, system, core-step, owner-limit, in-flight, drop-below, first-places, names-below, numbers-agree, fits-after}
+use Rattle.gateway.specs.Core.{system, core-step, owner-limit, in-flight, drop-below, first-places, names-below, numbers-agree, fits-after}
 use Rattle.gateway.specs.Rest.{no-session, with-delivered}
 use Rattle.gateway.specs.Entry.{Plan, nothing, refuse, records}
 use Rattle.gateway.specs.Fits.{EventFits}
-use Rattle.gateway.specs.Invariant.{Ok}
 use Rattle.gateway.specs.Calls.{Gateway, call, plan, replay-event, replay-tests}
 use Rattle.store.specs.Layout.{cell}
 use Rattle.store.specs.View.{gateway}

@@ -1,5 +1,5 @@
 -- One order changes, or the two of a trade. Assumes nothing.
-use mathlib.Core.Path.{_≡_, refl, sym, ap, ap₂, subst, _∙_}
+use mathlib.Core.Path.{_≡_, refl, sym, ap, ap₂, _∙_}
 use mathlib.Core.Bool.{Bool, true, _&&_}
 use mathlib.Core.List.{List}
 use Prim.Native.Nat.{ℕ}
@@ -7,7 +7,7 @@ use native.Mathlib.Omega.{arith}
 use lib.Dec.{leb}
 use Rattle.orderbook.specs.declared.Event.{Event}
 use Rattle.words.specs.Words.{int}
-use Rattle.gateway.specs.Ledger.{Ledger, paper, change, changes, step, event}
+use Rattle.gateway.specs.Ledger.{paper, change, changes, step, event}
 use Rattle.gateway.specs.Core.{system, core-step, in-flight, names-below, numbers-agree}
 use Rattle.gateway.specs.Rest.{with-delivered}
 use Rattle.gateway.specs.Entry.{nothing}

@@ -7,7 +7,7 @@ use orderbook::Side;
 use table::Found;
 use trades::Deal;
 ghost use mathlib.Core.Path.{_≡_};
-ghost use mathlib.Core.Bool.{true, false};
+ghost use mathlib.Core.Bool.{true};
 ghost use Prim.Native.Nat.{ℕ};
 ghost use Rattle.orderbook.specs.declared.Event as E;
 ghost use Rattle.orderbook.specs.declared.Event.the-variants as Event;

@@ -1,5 +1,5 @@
 -- No session is connected: the first slots, one by one. Assumes nothing.
-use mathlib.Core.Path.{_≡_, refl, sym, ap, subst, _∙_}
+use mathlib.Core.Path.{_≡_, refl, sym, ap, _∙_}
 use mathlib.Core.Bool.{Bool, true, false, false≢true}
 use mathlib.Core.Option.{Option, none, some}
 use mathlib.Core.List.{List, [], _∷_}
@@ -12,11 +12,11 @@ use lib.ListN.{length, getD, take}
 use lib.Seq.{take-all}
 use Rattle.gateway.specs.Basics.{is-some}
 use Rattle.gateway.specs.Limits.{session-slots}
-use Rattle.gateway.specs.Rest.{Session, session-at, no-session}
+use Rattle.gateway.specs.Rest.{Session, no-session}
 use Rattle.store.specs.Cells as C
 use Rattle.store.specs.Layout.{cell}
 use Rattle.clients.specs.declared.Session as Words
-use Rattle.clients.specs.Clients.{session-words, session-in}
+use Rattle.clients.specs.Clients.{session-words}
 use Rattle.clients.proofs.Laws.{absent, in-slot}
 use Rattle.outcome.specs.Parts.{rest-of}
 use Rattle.outcome.proofs.Walk.{slots}

@@ -1,29 +1,29 @@
 -- Each test of a replayed command is the definitions' test. Assumes nothing.
-use mathlib.Core.Path.{_≡_, refl, sym, ap, ap₂, _∙_}
-use mathlib.Core.Bool.{Bool, true, false, cond, not, _||_}
+use mathlib.Core.Path.{_≡_, refl, sym, ap, _∙_}
+use mathlib.Core.Bool.{Bool, true, false, cond, not}
 use mathlib.Core.Logic.{⊎-elim}
 use mathlib.Core.Option.{none}
 use mathlib.Core.List.{List}
 use Prim.Native.Nat.{ℕ, _+_, _-_, _≤_, _<_}
 use native.Mathlib.Omega.{arith}
-use borrow.Author.Tests.{eq-eqb, ne-eqb, eqb-true}
+use borrow.Author.Tests.{eq-eqb, ne-eqb}
 use lib.Dec.{eqb, ltb}
 use lib.IntN.{ℤ, pos, _+ℤ_, _-ℤ_}
-use lib.ListN.{length, getD, List·getD-eq-default}
+use lib.ListN.{getD, List·getD-eq-default}
 use Rattle.orderbook.specs.declared.Side.{Side}
 use Rattle.words.specs.Words.{int}
 use Rattle.words.proofs.Int.{int-zero}
 use Rattle.table.proofs.Live.{same?}
 use Rattle.gateway.specs.Basics.{is-some}
 use Rattle.gateway.specs.Limits.{owner-slots, most-orders, most-in-flight}
-use Rattle.gateway.specs.Ledger.{Ledger, Order, held, order-hold, fits, holds-fit}
+use Rattle.gateway.specs.Ledger.{Ledger, held, order-hold, fits, holds-fit}
 use Rattle.gateway.specs.Core.{owner-limit}
 use Rattle.gateway.specs.Rest.{no-session}
 use Rattle.gateway.specs.Entry.{next}
 use Rattle.gateway.specs.Calls.{Gateway}
 use Rattle.store.specs.Cells as C
 use Rattle.store.specs.Layout.{cell}
-use Rattle.store.specs.View.{word, flag, side, maybe-price, wallet, ledger, gateway}
+use Rattle.store.specs.View.{word, side, wallet, ledger, gateway}
 use Rattle.store.proofs.Listed.{listed-length}
 use Rattle.clients.proofs.Views.{wallet-at-row}
 use Rattle.orders.specs.declared.Live.{Live}

@@ -1,11 +1,10 @@
 -- What a command says, in words. Assumes nothing.
 use mathlib.Core.Path.{_≡_, refl, sym, ap, ap₂, subst, _∙_}
-use mathlib.Core.Bool.{Bool, true, false, cond}
-use mathlib.Core.Option.{none, some}
+use mathlib.Core.Bool.{Bool, true, false}
 use mathlib.Core.List.{[], _∷_}
 use Prim.Native.Nat.{ℕ, _<_}
 use native.Mathlib.Omega.{arith}
-use lib.Dec.{eqb, ltb}
+use lib.Dec.{eqb}
 use lib.IntN.{ℤ}
 use lib.Signed.{mag}
 use mir.Syntax.{w64}
@@ -21,12 +20,11 @@ use Rattle.protocol.specs.Codes.{sideCode}
 use Rattle.words.specs.Words.{half, modulus}
 use Rattle.words.proofs.Int.{read}
 use Rattle.gateway.specs.Basics.{is-some}
-use Rattle.gateway.specs.Ledger.{Order, New, order-of, owner-of, placed}
+use Rattle.gateway.specs.Ledger.{Order, order-of, owner-of, placed}
 use Rattle.gateway.specs.Core.{own-number, owner-below}
 use Rattle.gateway.specs.Bytes.{price-flag, price-word}
 use Rattle.gateway.specs.Fits.{PriceFits}
 use Rattle.pending.specs.Pending.{MaybeFits}
-use Rattle.orders.specs.Orders as Orders
 use Rattle.orderentry.proofs.Testing.{signed, stored}
 use Rattle.replay.specs.declared.Terms.{Terms}
 use Rattle.replay.specs.Replay.{Places, Plain, Reads}

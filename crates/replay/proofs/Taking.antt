@@ -3,7 +3,7 @@ use mathlib.Core.Path.{_≡_, refl, sym, ap, subst, _∙_}
 use mathlib.Core.Bool.{Bool, true, false, cond, not, _||_, false≢true}
 use mathlib.Core.Option.{none}
 use mathlib.Core.List.{List, [], _∷_, _++_, append-nil}
-use Prim.Native.Nat.{ℕ, _+_, _≤_, _<_}
+use Prim.Native.Nat.{ℕ, _+_, _<_}
 use native.Mathlib.Omega.{arith}
 use borrow.Author.Tests.{eq-eqb, ne-eqb, eqb-true, ltb-true}
 use lib.Dec.{eqb, ltb}
@@ -11,7 +11,7 @@ use lib.ListN.{length}
 use Rattle.orderbook.specs.declared.Command.{Command}
 use Rattle.orderbook.specs.declared.Command.the-variants.{Limit, Market, Cancel, Modify, Stop, CancelAll, SetPhase}
 use Rattle.words.specs.Words.{modulus}
-use Rattle.gateway.specs.Limits.{owner-slots, most-orders, most-in-flight, out-of-range, sequence, full, outside, inconsistent}
+use Rattle.gateway.specs.Limits.{most-orders, most-in-flight, out-of-range, sequence, full, outside, inconsistent}
 use Rattle.gateway.specs.Ledger.{Order, Ledger, with-orders, placed, step, command, owner-of, holds-fit}
 use Rattle.gateway.specs.Ledger as Ledger
 use Rattle.gateway.specs.Core.{Pass, system, core-step, owner-limit, places, owner-below}
@@ -19,26 +19,22 @@ use Rattle.gateway.specs.Core as Core
 use Rattle.gateway.specs.Rest.{no-session}
 use Rattle.gateway.specs.Entry.{Plan, nothing, refuse, records, next}
 use Rattle.gateway.specs.Calls.{Gateway, call, plan, replay-command, replay-tests}
-use Rattle.store.specs.Cells as C
 use Rattle.store.specs.Layout.{cell}
-use Rattle.store.specs.View.{word, flag, gateway}
-use Rattle.store.specs.View as View
-use Rattle.store.proofs.Listed.{listed-length}
+use Rattle.store.specs.View.{flag, gateway}
 use Rattle.orders.specs.declared.Live.{Live}
 use Rattle.orders.specs.Orders.{order-of}
-use Rattle.sound.specs.Sound.{State, Becomes}
+use Rattle.sound.specs.Sound.{Becomes}
 use Rattle.live.specs.Live as Live
 use Rattle.live.specs.Live.{with-ledger, placing}
 use Rattle.outcome.specs.Between.{Between}
 use Rattle.outcome.specs.Answers.{Says, verdict}
-use Rattle.outcome.specs.Parts.{rest-of}
 use Rattle.outcome.proofs.Calls.{judged, says-refused, says-recorded}
 use Rattle.outcome.proofs.Laws.{then-becomes}
 use Rattle.commands.specs.Commands.{flying, Unplaced}
 use Rattle.orderentry.proofs.Placing.{placing-needs}
 use Rattle.delivery.proofs.Calls.{passes}
 use Rattle.replay.specs.declared.Terms.{Terms}
-use Rattle.replay.specs.Replay.{Reads, tests, enter, below, has-room, command-tests, CanTake, taken}
+use Rattle.replay.specs.Replay.{Reads, tests, enter, command-tests, CanTake, taken}
 
 -- ---- what was applied is the definitions' command
 
