@@ -29,11 +29,11 @@ use Rattle.sound.proofs.Kept.{becomes}
 use Rattle.sound.proofs.Waiting.{take-off-sound, command-sound}
 use Rattle.outcome.specs.Parts.{with-rest, rest-of}
 use Rattle.outcome.proofs.Laws.{then-becomes}
-use Rattle.commands.specs.Commands.{can-number, flying, Plain, numbered, Unplaced}
+use Rattle.commands.specs.Commands.{can-number, CanFly, flying, Plain, numbered, Unplaced}
 
 -- ---- the tests, by the words of the header
 
-flights-are : (s : Store) → length (gateway s .core .flights) ≡ word s C.flying
+pub flights-are : (s : Store) → length (gateway s .core .flights) ≡ word s C.flying
 flights-are s = listed-length (λ j. in-slot s (word s C.last + 1 + j - word s C.flying)) (word s C.flying)
 
 pub batch-is : (s : Store) → length (gateway s .rest .batch) ≡ word s C.waiting
@@ -74,20 +74,25 @@ module _ (xs : List ℕ) where
         number = ltb-true (next (g .core)) modulus (b .1);
       }
 
+  pub can-fly : can-number g ≡ true → CanFly g
+  can-fly h = let r = room h in record { flight = omega (arith, r .flight, flights-are (cell xs)); number = r .number }
+
 -- ---- the parts
 
 pub ready : {xs : List ℕ} → State xs → Ready xs
 ready st = record { holds = st .holds; bounds = st .sound .tables .ordered .bounds }
 
-pub take-off-needs : {xs : List ℕ} → State xs → can-number (gateway (cell xs)) ≡ true → Ready xs × (word (cell xs) C.last + 1 < modulus) × (word (cell xs) C.flying < most-in-flight)
-take-off-needs {xs} st h = let r = room xs h in (ready st, r .number, r .flight)
+few-fly : (xs : List ℕ) → CanFly (gateway (cell xs)) → word (cell xs) C.flying < most-in-flight
+few-fly xs can = omega (arith, can .flight, flights-are (cell xs))
 
-module _ {xs ys : List ℕ} (st : State xs) (can : can-number (gateway (cell xs)) ≡ true) (sender owner places : ℕ) (h : Is ys (Pending.take-off sender owner places (cell xs))) where
+pub take-off-needs : {xs : List ℕ} → State xs → CanFly (gateway (cell xs)) → Ready xs × (word (cell xs) C.last + 1 < modulus) × (word (cell xs) C.flying < most-in-flight)
+take-off-needs {xs} st can = (ready st, can .number, few-fly xs can)
+
+module _ {xs ys : List ℕ} (st : State xs) (can : CanFly (gateway (cell xs))) (sender owner places : ℕ) (h : Is ys (Pending.take-off sender owner places (cell xs))) where
   flies : Becomes ys (flying sender owner places (gateway (cell xs)))
   flies =
-      let r = room xs can in
-      becomes h (take-off-sound (cell xs) (st .sound) sender owner places (r .flight))
-      (take-off-view sender owner places (cell xs) (r .flight) (st .sound .tables .run))
+      becomes h (take-off-sound (cell xs) (st .sound) sender owner places (few-fly xs can))
+      (take-off-view sender owner places (cell xs) (few-fly xs can) (st .sound .tables .run))
 
   unplaced : Unplaced ys
   unfolding fill

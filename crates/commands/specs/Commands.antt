@@ -24,6 +24,11 @@ abbrev pub can-number : Gateway → Bool
 can-number g =
     ltb (length (g .core .flights)) most-in-flight && (ltb (length (g .rest .batch)) most-in-batch && ltb (next (g .core)) modulus)
 
+-- what is asked of a command that takes off: not 256 in flight, a number left
+pub record CanFly (g : Gateway) : Type 0 where
+  pub flight : length (g .core .flights) < most-in-flight
+  pub number : next (g .core) < modulus
+
 -- the next number is in flight, of a sender (a session's number plus one, or 0 for SYSTEM) and for an owner
 abbrev pub flying : (sender owner places : ℕ) → Gateway → Gateway
 flying sender owner places g =

@@ -58,7 +58,7 @@ pub fn can_number(m: &[u8]) -> bool
 
 // The next number is in flight, for an owner; the sender is a session plus one, 0 for SYSTEM, and `places` 1 where an order is placed.
 pub fn take_off(m: &mut [u8], sender: u64, owner: u64, places: u64)
-    requires { ⌜ State (now m) × (P.can-number (gateway (cell (now m))) ≡ true) ⌝ }
+    requires { ⌜ State (now m) × P.CanFly (gateway (cell (now m))) ⌝ }
     ensures { λ r. ⌜ Becomes (now (m .exit)) (P.flying sender owner places (gateway (cell (now (m .entry))))) × P.Unplaced (now (m .exit)) ⌝ }
 {
     pending::take_off(m, sender, owner, places);

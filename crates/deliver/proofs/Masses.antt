@@ -24,10 +24,8 @@ use Rattle.gateway.specs.Deliver.{about, reports, tick-of}
 use Rattle.gateway.specs.Fits.{EventFits}
 use Rattle.gateway.specs.Invariant.{Ok}
 use Rattle.gateway.specs.Calls.{Gateway, call, deliver-event}
-use Rattle.store.specs.Cells as C
 use Rattle.store.specs.Layout.{cell}
-use Rattle.store.specs.View.{word, account, gateway}
-use Rattle.store.proofs.Listed.{listed-length}
+use Rattle.store.specs.View.{gateway}
 use Rattle.clients.proofs.Links.{session-of-past}
 use Rattle.sound.specs.Sound.{State, Becomes}
 use Rattle.mailbox.specs.Mailbox.{places}
@@ -117,9 +115,6 @@ module _ {b : ℕ → Bool} {e : Event} (s : Bare b e) (xs out : List ℕ) (n : 
 
 -- ---- a mass cancel
 
-pub owner-is : (xs : List ℕ) (o w : ℕ) → w ≡ word (cell xs) C.owner-limit → ltb o w ≡ ltb o (owner-limit (gateway (cell xs) .core))
-owner-is xs o w e = ap (ltb o) (e ∙ sym (listed-length (λ i. account i (cell xs C.accounts i)) (word (cell xs) C.owner-limit)))
-
 pub account-told : (xs : List ℕ) (o to : ℕ) → Hears o to (rest-of xs) → TellsAccount o (record { to = to; «client_ref» = 0 }) (gateway (cell xs))
 account-told xs o to h =
     record {
@@ -155,4 +150,4 @@ module _ (xs out : List ℕ) (n o c : ℕ) (b : Between xs) (below : Bool) (belo
 pub told-fits : {k rows room : ℕ} → k ≡ rows → 0 + k ≤ room → 0 + rows ≤ room
 told-fits e l = omega (arith, e, l)
 
-pub ruleset masses = (bare-judged, owner-is, account-told, nobody-told, mass-refused, arith)
+pub ruleset masses = (bare-judged, account-told, nobody-told, mass-refused, arith)

@@ -7,14 +7,11 @@ use protocol::Outbound;
 use protocol::Report;
 use protocol::ReportKind;
 use reporting::Told;
-use store::cells;
 ghost use mathlib.Core.Path.{_≡_};
 ghost use Prim.Native.Nat.{_+_, _≤_, _<_};
-ghost use lib.Dec.{ltb};
 ghost use lib.ListN.{length};
 ghost use Rattle.orderbook.specs.declared.Event.the-variants.{MassCancelled, PhaseChanged};
 ghost use Rattle.gateway.specs.Limits.{session-slots};
-ghost use Rattle.gateway.specs.Core.{owner-limit};
 ghost use Rattle.gateway.specs.Calls.{call, deliver-event};
 ghost use Rattle.store.specs.Layout.{cell};
 ghost use Rattle.store.specs.View.{gateway};
@@ -47,13 +44,6 @@ fn judge(m: &[u8], n: u64, below: bool, rows: usize, room: usize) -> u64
 
 // ---- a mass cancel
 
-fn is_owner(m: &[u8], owner: u64) -> bool
-    requires { ⌜ State (now m) ⌝ }
-    ensures { λ r. ⌜ r ≡ ltb owner (owner-limit (gateway (cell (now (m .entry))) .core)) ⌝ }
-{
-    owner < pending::header::word_at(m, cells::OWNER_LIMIT)
-}
-
 // The open session of an account of any number.
 fn listener(m: &[u8], owner: usize) -> Told
     requires { ⌜ State (now m) ⌝ }
@@ -73,7 +63,7 @@ fn mass_cancelled(m: &mut [u8], n: u64, owner: u32, count: u32, out: &mut [u8]) 
     requires { ⌜ Between (now m) ⌝ }
     ensures { λ r. ⌜ Gives (call (gateway (cell (now (m .entry)))) (deliver-event n (MassCancelled owner count) (places (length (now (out .entry)))))) r (now (m .entry)) (now (m .exit)) (now (out .entry)) (now (out .exit)) ⌝ }
 {
-    let below = is_owner(m, owner as u64);
+    let below = delivery::is_owner(m, owner as u64);
     let t = listener(m, owner as usize);
     let k = reporting::rows(t);
     let code = judge(m, n, below, k, mailbox::room(out));

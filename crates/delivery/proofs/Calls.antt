@@ -35,7 +35,7 @@ pub code-is : (t : T.Tests) (a b c d e f g h i r : ℕ) → a ≡ check (t .room
     f ≡ check (t .holds) 7 e → g ≡ check (t .agrees) 8 f → h ≡ check (t .numbers) 8 g → i ≡ check (t .below) 1 h → r ≡ check (t .flying) 4 i → r ≡ verdict (tests t)
 code-is t a b c d e f g h i r a-is b-is c-is d-is e-is f-is g-is h-is i-is r-is = rw (r-is, i-is, h-is, g-is, f-is, e-is, d-is, c-is, b-is, a-is) refl
 
-same-test : (b c : Bool) (k v w : ℕ) → b ≡ c → (b ≡ true → v ≡ w) → cond b v k ≡ cond c w k
+pub same-test : (b c : Bool) (k v w : ℕ) → b ≡ c → (b ≡ true → v ≡ w) → cond b v k ≡ cond c w k
 same-test b true k v w e h = ap (λ x. cond x v k) e ∙ h e
 same-test b false k v w e h = ap (λ x. cond x v k) e
 

@@ -1,17 +1,19 @@
 -- The run of numbers that an event moves. Assumes nothing.
-use mathlib.Core.Path.{_≡_, _∙_}
+use mathlib.Core.Path.{_≡_, sym, ap, _∙_}
 use mathlib.Core.Bool.{true, false≢true}
 use mathlib.Core.Logic.{⊎-elim}
 use mathlib.Core.List.{List}
 use Prim.Native.Nat.{ℕ, _+_, _-_, _≤_, _<_}
 use native.Mathlib.Omega.{arith}
 use borrow.Author.Tests.{ltb-true}
+use lib.Dec.{ltb}
 use Rattle.le.proofs.Laws.{lt-or-le}
-use Rattle.gateway.specs.Core.{in-flight}
+use Rattle.gateway.specs.Core.{owner-limit, in-flight}
 use Rattle.gateway.specs.Rest.{with-delivered}
 use Rattle.store.specs.Cells as C
 use Rattle.store.specs.Layout.{cell}
-use Rattle.store.specs.View.{word, gateway, Is}
+use Rattle.store.specs.View.{word, account, gateway, Is}
+use Rattle.store.proofs.Listed.{listed-length}
 use Rattle.pending.specs.Pending as Pending
 use Rattle.pending.proofs.Flights.{in-run, past-run}
 use Rattle.pending.proofs.Views.{land-view, delivered-view}
@@ -43,4 +45,8 @@ module _ {xs : List ℕ} (st : State xs) (n : ℕ) (e : in-flight n (gateway (ce
       let b = run-becomes h in
       then-becomes (with-rest (with-delivered n)) b (becomes k (delivered-sound (cell ys) (b .state .sound) n) (delivered-view n (cell ys)))
 
-pub ruleset runs = (landed-becomes, high, some-number, arith)
+-- an account's number in range
+pub owner-is : (xs : List ℕ) (o w : ℕ) → w ≡ word (cell xs) C.owner-limit → ltb o w ≡ ltb o (owner-limit (gateway (cell xs) .core))
+owner-is xs o w e = ap (ltb o) (e ∙ sym (listed-length (λ i. account i (cell xs C.accounts i)) (word (cell xs) C.owner-limit)))
+
+pub ruleset runs = (owner-is, landed-becomes, high, some-number, arith)

@@ -3,8 +3,8 @@ use store::cells;
 ghost use mathlib.Core.Path.{_≡_};
 ghost use mathlib.Core.Bool.{true};
 ghost use Prim.Native.Nat.{_≤_, _<_};
-ghost use lib.Dec.{leb};
-ghost use Rattle.gateway.specs.Core.{in-flight};
+ghost use lib.Dec.{ltb, leb};
+ghost use Rattle.gateway.specs.Core.{owner-limit, in-flight};
 ghost use Rattle.store.specs.Layout.{cell};
 ghost use Rattle.store.specs.View.{gateway};
 ghost use Rattle.sound.specs.Sound.{State, Becomes};
@@ -26,7 +26,7 @@ pub struct Tests {
 }
 
 // One test before others: its code where it fails, else theirs.
-fn check(ok: bool, code: u64, rest: u64) -> u64
+pub fn check(ok: bool, code: u64, rest: u64) -> u64
     ensures { λ r. ⌜ r ≡ P.check ok code rest ⌝ }
 {
     if ok { rest } else { code }
@@ -46,6 +46,14 @@ pub fn code_of(t: Tests) -> u64
     let numbers = check(t.numbers, outcome::INCONSISTENT, agrees);
     let below = check(t.below, outcome::OUT_OF_RANGE, numbers);
     check(t.flying, outcome::SEQUENCE, below)
+}
+
+// A number below the owner limit.
+pub fn is_owner(m: &[u8], owner: u64) -> bool
+    requires { ⌜ State (now m) ⌝ }
+    ensures { λ r. ⌜ r ≡ ltb owner (owner-limit (gateway (cell (now (m .entry))) .core)) ⌝ }
+{
+    owner < pending::header::word_at(m, cells::OWNER_LIMIT)
 }
 
 pub fn is_flying(m: &[u8], n: u64) -> bool

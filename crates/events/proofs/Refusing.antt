@@ -64,11 +64,11 @@ refused-told n i why c r = refl
 -- ---- a new order
 
 module _ (n : ℕ) (why : RejectReason) (g : Gateway) where
-  own : changes n (Rejected n why) ≡ retire n ∷ []
+  pub own : changes n (Rejected n why) ≡ retire n ∷ []
   unfolding changes
   own = ap (λ (b : Bool). cond b (retire n ∷ []) []) (eq-eqb n n refl)
 
-  own-number : (b : Bool) → numbers-agree n b (Rejected n why) ≡ true
+  pub own-number : (b : Bool) → numbers-agree n b (Rejected n why) ≡ true
   unfolding numbers-agree
   own-number b = ap₂ (λ (x y : Bool). x && (not b || y)) (le-leb n n (omega arith)) (eq-eqb n n refl) ∙ go b
     where
@@ -151,11 +151,11 @@ module _ (xs : List ℕ) (st : State xs) (n i : ℕ) (ne : i ≡ n → ⊥) (why
   abbrev g : Gateway
   g = gateway (cell xs)
 
-  none-changes : changes n (Rejected i why) ≡ []
+  pub none-changes : changes n (Rejected i why) ≡ []
   unfolding changes
   none-changes = ap (λ (b : Bool). cond b (retire i ∷ []) []) (ne-eqb i n ne)
 
-  other-number : in-flight n (g .core) ≡ true → (leb i n && not (flight-places n (cell xs))) ≡ numbers-agree n (first-places (drop-below n (g .core .flights))) (Rejected i why)
+  pub other-number : in-flight n (g .core) ≡ true → (leb i n && not (flight-places n (cell xs))) ≡ numbers-agree n (first-places (drop-below n (g .core .flights))) (Rejected i why)
   unfolding numbers-agree
   other-number f =
       let w = first-in-run (cell xs) (st .sound .tables .run) n f in

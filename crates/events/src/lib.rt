@@ -176,7 +176,7 @@ pub fn cancelled(
 }
 
 // The price's word. That price and quantity fit comes of their types.
-fn price_of(price: i64, leaves: u64) -> u64
+pub fn price_of(price: i64, leaves: u64) -> u64
     ensures { λ r. ⌜ P.Repriced price leaves r ⌝ }
 {
     words::of_i64(price)
@@ -458,7 +458,7 @@ fn order_refused(m: &mut [u8], n: u64, reason: RejectReason, out: &mut [u8]) -> 
 }
 
 // A refusal that names another order is not of a new one.
-fn names_earlier(m: &[u8], n: u64, id: u64) -> bool
+pub fn names_earlier(m: &[u8], n: u64, id: u64) -> bool
     requires { ⌜ State (now m) ⌝ }
     ensures { λ r. ⌜ r ≡ (leb id n && not (P.flight-places n (cell (now (m .entry))))) ⌝ }
 {

@@ -162,15 +162,18 @@ module _ (xs : List ℕ) (st : State xs) (i : ℕ) (o : Live) (at : L.At i o (ce
 -- ---- the order at a place
 
 module _ (xs : List ℕ) (st : State xs) (n : ℕ) (x : Move) (at : Found) (sees : Sees C.order-live order number-of (cell xs) n at) where
+  none-there : at ≡ Nothing → find n (ledger (cell xs) .orders) ≡ none
+  none-there absent = let u : Sees C.order-live order number-of (cell xs) n Nothing = rw absent at sees in u .order
+
+  pub nothing-changed : at ≡ Nothing → Becomes xs (with-ledger (change (change-of n x)) (gateway (cell xs)))
+  nothing-changed absent = record { state = st; gateway-is = sym (ap (λ (l : Ledger). with-ledger (λ _. l) (gateway (cell xs))) (unchanged (of n x) (ledger (cell xs)) (none-there absent))) }
+
   pub nothing-moved : at ≡ Nothing → Becomes xs (moved (change-of n x) (gateway (cell xs)))
   nothing-moved absent = record { state = st; gateway-is = sym same }
     where
-      none-there : find n (ledger (cell xs) .orders) ≡ none
-      none-there = let u : Sees C.order-live order number-of (cell xs) n Nothing = rw absent at sees in u .order
-
       same : moved (change-of n x) (gateway (cell xs)) ≡ gateway (cell xs)
       same =
-          ap₂ (λ (ns : List ℕ) (l : Ledger). with-notices ns (with-ledger (λ _. l) (gateway (cell xs)))) (notices-by n x (ledger (cell xs)) none-there) (unchanged (of n x) (ledger (cell xs)) none-there)
+          ap₂ (λ (ns : List ℕ) (l : Ledger). with-notices ns (with-ledger (λ _. l) (gateway (cell xs)))) (notices-by n x (ledger (cell xs)) (none-there absent)) (unchanged (of n x) (ledger (cell xs)) (none-there absent))
           ∙ ap (λ (ns : List ℕ). record { core = gateway (cell xs) .core; rest = pending (gateway (cell xs) .rest .depth) (gateway (cell xs) .rest .trades) ns (gateway (cell xs) .rest) }) (append-nil (gateway (cell xs) .rest .notices))
 
   module _ (i : ℕ) (found : at ≡ At i) where
@@ -181,7 +184,10 @@ module _ (xs : List ℕ) (st : State xs) (n : ℕ) (x : Move) (at : Found) (sees
         length (change-notices (change-of (number-at i (cell xs)) x) (ledger (cell xs))) + word (cell xs) C.notice-rows ≤ most-notices
     row-room l = subst (λ k. length (change-notices (change-of k x) (ledger (cell xs))) + word (cell xs) C.notice-rows ≤ most-notices) (sym number-is) l
 
+    pub changed : {ys : List ℕ} → Becomes ys (with-ledger (change (change-of (number-at i (cell xs)) x)) (gateway (cell xs))) → Becomes ys (with-ledger (change (change-of n x)) (gateway (cell xs)))
+    changed {ys} b = subst (λ k. Becomes ys (with-ledger (change (change-of k x)) (gateway (cell xs)))) number-is b
+
     pub applied : {ys : List ℕ} → Becomes ys (moved (change-of (number-at i (cell xs)) x) (gateway (cell xs))) → Becomes ys (moved (change-of n x) (gateway (cell xs)))
     applied {ys} b = subst (λ k. Becomes ys (moved (change-of k x) (gateway (cell xs)))) number-is b
 
-pub ruleset applying = (did-fill, did-leaves, did-reprice, did-retire, settled-needs, settled-becomes, not-settled, row-owner, settled-room, hold-room, row-moved, nothing-moved, row-room, applied, arith)
+pub ruleset applying = (did-fill, did-leaves, did-reprice, did-retire, settled-needs, settled-becomes, not-settled, row-owner, settled-room, hold-room, row-moved, nothing-changed, nothing-moved, row-room, changed, applied, arith)

@@ -166,7 +166,7 @@ pub fn few(m: &[u8], notices: u64) -> bool
     notices + n <= MOST_NOTICES
 }
 
-fn change(m: &mut [u8], i: usize, o: Live, x: Move)
+fn change_row(m: &mut [u8], i: usize, o: Live, x: Move)
     requires { ⌜ State (now m) × At i o (cell (now m)) ⌝ }
     ensures { λ r. ⌜ Becomes (now (m .exit)) (with-ledger (change (P.change-of (number-at i (cell (now (m .entry)))) x)) (gateway (cell (now (m .entry))))) ⌝ }
 {
@@ -193,7 +193,7 @@ fn apply_row(m: &mut [u8], i: usize, o: Live, x: Move)
     ensures { λ r. ⌜ Becomes (now (m .exit)) (P.moved (P.change-of (number-at i (cell (now (m .entry)))) x) (gateway (cell (now (m .entry))))) ⌝ }
 {
     let new = hold_after(o, x);
-    change(m, i, o, x);
+    change_row(m, i, o, x);
     notice_settled(m, o.account, x);
     live::notice_hold(m, o.account, o.hold, new);
 }
@@ -206,5 +206,16 @@ pub fn apply(m: &mut [u8], id: u64, at: Found, x: Move)
     if let Found::At(i) = at {
         let o = orders::live_at(m, i);
         apply_row(m, i, o, x);
+    }
+}
+
+// The change without its notices: a replay leaves none.
+pub fn change(m: &mut [u8], id: u64, at: Found, x: Move)
+    requires { ⌜ State (now m) × Sees C.order-live order number-of (cell (now m)) id at ⌝ }
+    ensures { λ r. ⌜ Becomes (now (m .exit)) (with-ledger (change (P.change-of id x)) (gateway (cell (now (m .entry))))) ⌝ }
+{
+    if let Found::At(i) = at {
+        let o = orders::live_at(m, i);
+        change_row(m, i, o, x);
     }
 }

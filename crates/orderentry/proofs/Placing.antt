@@ -52,20 +52,25 @@ use Rattle.orderentry.proofs.Testing.{account-stands, notice-stands, ow
 
 -- ---- numbered, placed and in the batch
 
+-- what is asked of the order of a command that took off, whoever sent it
+pub placing-needs : (xs : List ℕ) {ys : List ℕ} (sender owner places n : ℕ) (o : Live) → n ≡ next (gateway (cell xs) .core) → length (gateway (cell xs) .core .ledger .orders) < most-orders → o .account < owner-slots →
+    Becomes ys (Commands.flying sender owner places (gateway (cell xs))) → Commands.Unplaced ys → State ys × Live.CanPlace n o (cell ys)
+placing-needs xs {ys} sender owner places n o next-is room owner-is b u =
+    let last : word (cell ys) C.last ≡ n = ap (λ (g : Gateway). g .core .ledger .last) (b .gateway-is) ∙ sym next-is in
+    let count = b .state .sound .tables .ordered .counted .live-count in
+    let orders = ap (λ (g : Gateway). length (g .core .ledger .orders)) (b .gateway-is) in (
+      b .state,
+      record {
+        room = omega (arith, count, orders, room);
+        above = λ j l. let m = u j l in omega (arith, m, last);
+        at-most-last = omega (arith, last);
+        owner-is = owner-is;
+      },
+    )
+
 module _ (xs : List ℕ) {ys : List ℕ} (s n : ℕ) (o : Live) (k : Command) (can : CanPlace n o k (gateway (cell xs))) (b : Becomes ys (Commands.flying (s + 1) (o .account) 1 (gateway (cell xs)))) where
   pub place-needs : Commands.Unplaced ys → State ys × Live.CanPlace n o (cell ys)
-  place-needs u =
-      let last : word (cell ys) C.last ≡ n = ap (λ (g : Gateway). g .core .ledger .last) (b .gateway-is) ∙ sym (can .next-is) in
-      let count = b .state .sound .tables .ordered .counted .live-count in
-      let orders = ap (λ (g : Gateway). length (g .core .ledger .orders)) (b .gateway-is) in (
-        b .state,
-        record {
-          room = omega (arith, count, orders, can .room);
-          above = λ j l. let m = u j l in omega (arith, m, last);
-          at-most-last = omega (arith, last);
-          owner-is = can .owner-is;
-        },
-      )
+  place-needs = placing-needs xs (s + 1) (o .account) 1 n o (can .next-is) (can .room) (can .owner-is) b
 
   pub queue-needs : {zs : List ℕ} → Becomes zs (with-ledger (placing n o) (gateway (cell ys))) → State zs × (length (rest-of zs .batch) < most-in-batch) × Batched k
   queue-needs {zs} d =

@@ -35,7 +35,7 @@ use Rattle.wallet.specs.Wallet as W
 use Rattle.risk.specs.Collar.{near, near-market}
 use Rattle.gateway.specs.Basics.{option, is-some}
 use Rattle.gateway.specs.Limits.{owner-slots, most-orders, most-notices}
-use Rattle.gateway.specs.Ledger.{Order, Ledger, command, step, placed, order-of, owner-of, with-orders, price-option, hold, held, fits, holds-fit, open-of}
+use Rattle.gateway.specs.Ledger.{Order, Ledger, command, step, placed, order-of, owner-of, with-orders, wallet-of, price-option, hold, order-hold, held, fits, holds-fit, open-of}
 use Rattle.gateway.specs.Core.{Tests, account-at, fits-after}
 use Rattle.gateway.specs.Entry.{wallet-at, balance-with, most-open, next, is-zero, new-notice, price-of, command-of}
 use Rattle.gateway.specs.Bytes.{price-flag, price-word}
@@ -51,6 +51,7 @@ use Rattle.clients.proofs.Views.{wallet-at-row}
 use Rattle.pending.specs.Pending.{MaybeFits}
 use Rattle.pending.proofs.Commands.{side-back, price-back}
 use Rattle.orders.specs.declared.Live.{Live}
+use Rattle.orders.specs.Orders as Orders
 use Rattle.sound.specs.Sound.{held-cell}
 use Rattle.live.specs.Live.{hold-word, hold-notice}
 use Rattle.live.proofs.Accounts.{hold-is, held-one}
@@ -91,7 +92,7 @@ negative : (h : ℕ) → h < modulus → 9223372036854775807 < h → leZ (pos 0)
 unfolding _⊖_
 negative h f l = ap (leZ (pos 0)) (high h f (omega arith)) ∙ rw (lt-ltb h modulus f) refl
 
-signed : (p : ℤ) → SFits w64 p → Signed p
+pub signed : (p : ℤ) → SFits w64 p → Signed p
 signed p f = word-fits (ofZ w64 p) p (ofZ-fits w64 p f .fits) (int-of p f)
 
 module _ {a : ℕ} {xs : List ℕ} (h : Exists a xs) (w-is : is-some (wallet-at a (gateway (cell xs) .core)) ≡ true) where
@@ -207,20 +208,28 @@ kind-fits Kind.Market f = tt
 kind-fits (Kind.Stop t M.the-variants.None) f = tt
 kind-fits (Kind.Stop t (M.the-variants.Some p)) f = signed p f
 
+-- an order is read back from its words
+pub stored : (a ref v : ℕ) (y : Side) (p : M.MaybePrice) (z f w : ℕ) → z ≡ sideCode y → f ≡ price-flag p → w ≡ price-word p → MaybeFits p → (n : ℕ) →
+    Orders.order-of n (record { account = a; «client_ref» = ref; side = z; priced = f; price = w; leaves = v; hold = 0 })
+    ≡ record { number = n; account = a; client-ref = ref; side = y; price = p; leaves = v }
+stored a ref v y p z f w z-is f-is w-is m n i =
+    record {
+      number = n;
+      account = a;
+      client-ref = ref;
+      side = (ap side z-is ∙ side-back y) i;
+      price = (ap₂ maybe-price f-is w-is ∙ price-back p m) i;
+      leaves = v;
+    }
+
 pub stands : (a : ℕ) (q : NewOrder) (p : M.MaybePrice) (z f w : ℕ) → p ≡ price-of (q .kind) → z ≡ sideCode (q .side) → f ≡ price-flag p → w ≡ price-word p → MaybeFits p → q .«client_ref» < modulus → q .qty < modulus →
     Stands a q (record { account = a; «client_ref» = q .«client_ref»; side = z; priced = f; price = w; leaves = q .qty; hold = 0 })
 stands a q p z f w p-is z-is f-is w-is m c d =
     record {
       is =
-          λ n i.
-          record {
-            number = n;
-            account = a;
-            client-ref = q .«client_ref»;
-            side = (ap side z-is ∙ side-back (q .side)) i;
-            price = (ap₂ maybe-price f-is w-is ∙ price-back p m ∙ p-is) i;
-            leaves = q .qty;
-          };
+          λ n.
+          stored a (q .«client_ref») (q .qty) (q .side) p z f w z-is f-is w-is m n
+          ∙ ap (λ (x : M.MaybePrice). record { number = n; account = a; client-ref = q .«client_ref»; side = q .side; price = x; leaves = q .qty }) p-is;
       fits = (c, (d, kind-fits (q .kind) (subst MaybeFits p-is m)));
     }
 
@@ -264,6 +273,16 @@ order-is n a z q (Kind.Stop t l) = refl
 pub placed-is : (q : NewOrder) (ref n a : ℕ) → placed ref n (owner-of (command-of n a (q .side) (q .qty) (q .kind))) (order-of (command-of n a (q .side) (q .qty) (q .kind))) ≡ the-order q ref n a ∷ []
 placed-is q ref n a = ap₂ (placed ref n) (owner-is n a (q .side) (q .qty) (q .kind)) (order-is n a (q .side) (q .qty) (q .kind))
 
+-- code 7 for any order that comes: the one total that it joins
+pub more-fits : (l : Ledger) (o : Order) → holds-fit l ≡ true →
+    holds-fit (with-orders (l .orders ++ (o ∷ [])) l) ≡ cond (is-some (wallet-of (l .wallets) o)) (fits (held (o .account) (o .side) (l .orders) -ℤ pos 0 +ℤ order-hold o)) true
+more-fits l o fine =
+    holds-swap l swapped fine
+    ∙ ap (λ x. cond (is-some (wallet-of (l .wallets) o)) (fits (held (o .account) (o .side) (l .orders) -ℤ pos 0 +ℤ x)) true) (held-one o)
+  where
+    swapped : Swap (o .account) (o .side) [] (o ∷ []) (l .orders) (l .orders ++ (o ∷ []))
+    swapped = record { low = l .orders; high = []; from = sym (append-nil (l .orders)); to = refl; old-mine = tt; new-mine = ((refl, refl), tt) }
+
 module _ (a : ℕ) (q : NewOrder) (g : Gateway) (fine : holds-fit (g .core .ledger) ≡ true) where
   abbrev l : Ledger
   l = g .core .ledger
@@ -271,21 +290,12 @@ module _ (a : ℕ) (q : NewOrder) (g : Gateway) (fine : holds-fit (g .core .ledg
   abbrev more : List Order
   more = l .orders ++ (the-order q 0 (next (g .core)) a ∷ [])
 
-  swapped : Swap a (q .side) [] (the-order q 0 (next (g .core)) a ∷ []) (l .orders) more
-  swapped = record { low = l .orders; high = []; from = sym (append-nil (l .orders)); to = refl; old-mine = tt; new-mine = ((refl, refl), tt) }
-
   step-is : fits-after (command (next (g .core)) (the-command a q (g .core))) (g .core) ≡ holds-fit (with-orders more l)
   unfolding step holds-fit
   step-is = rw (placed-is q 0 (next (g .core)) a) refl
 
   pub fits-is : hold-fits a (q .side) (hold (q .side) (price-of (q .kind)) (q .qty)) g ≡ fits-after (command (next (g .core)) (the-command a q (g .core))) (g .core)
-  fits-is =
-      sym
-      (step-is ∙ holds-swap l swapped fine
-      ∙ ap (λ x. cond (is-some (wallet-at a (g .core))) (fits (held a (q .side) (l .orders) -ℤ pos 0 +ℤ x)) true) one)
-    where
-      one : held a (q .side) (the-order q 0 (next (g .core)) a ∷ []) ≡ hold (q .side) (price-of (q .kind)) (q .qty)
-      one = held-one (the-order q 0 (next (g .core)) a)
+  fits-is = sym (step-is ∙ more-fits l (the-order q 0 (next (g .core)) a) fine)
 
 -- ---- room for all of it
 

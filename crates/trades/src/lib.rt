@@ -54,7 +54,7 @@ pub struct Party {
 const MOST_TRADES: u64 = 256;
 
 // That price and quantities fit comes of their types.
-fn deal_of(
+pub fn deal_of(
     id: u64,
     taker: u64,
     maker: u64,
@@ -101,7 +101,7 @@ fn find_party(m: &[u8], id: u64, x: Move) -> Party
 // ---- judged
 
 // Two orders, neither later than the command.
-fn numbers_agree(n: u64, taker: u64, maker: u64) -> bool
+pub fn numbers_agree(n: u64, taker: u64, maker: u64) -> bool
     ensures { λ r. ⌜ r ≡ P.numbers n taker maker ⌝ }
 {
     if taker == maker {
@@ -200,7 +200,7 @@ fn settle(m: &mut [u8], d: Deal, at: Found)
 }
 
 // Paper accounts that trade with each other do not move the reference price.
-fn mark(m: &mut [u8], both: bool, price: u64)
+pub fn mark(m: &mut [u8], both: bool, price: u64)
     requires { ⌜ State (now m) ⌝ }
     ensures { λ r. ⌜ Becomes (now (m .exit)) (P.marked both price (gateway (cell (now (m .entry))))) ⌝ }
 {

@@ -1,10 +1,10 @@
-use Rattle.commands.proofs.Numbering.{push-room, push-becomes}
+use Rattle.commands.proofs.Numbering.{can-fly, push-room, push-becomes}
 use borrow.Author.Needs.{needs}
 use Rattle.commands.proofs.push.Statement.{statement}
 use Rattle.commands.proofs.push.Tie as tie
 
 take-off-requires : tie.Need-take-off-requires
-take-off-requires c κs = search needs
+take-off-requires c κs = let s = c .before .before in (s .pre .0, can-fly (s .args .m .now) (s .pre .1))
 
 queue-requires : tie.Need-queue-requires
 queue-requires c κs = let s = c .before .before .before .before .before .before in

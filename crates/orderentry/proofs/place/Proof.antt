@@ -1,3 +1,4 @@
+use Rattle.commands.proofs.Numbering.{can-fly}
 use Rattle.orderentry.proofs.Placing.{place-needs, queue-needs, place-becomes}
 use borrow.Author.Needs.{needs}
 use Rattle.orderentry.proofs.place.Statement.{statement}
@@ -7,7 +8,7 @@ add-take-off : tie.Need-add-take-off
 add-take-off c = search needs
 
 take-off-requires : tie.Need-take-off-requires
-take-off-requires c κs = let p = c .before .before .pre in (p .0, p .2 .can)
+take-off-requires c κs = let s = c .before .before in (s .pre .0, can-fly (s .args .m .now) (s .pre .2 .can))
 
 place-requires : tie.Need-place-requires
 place-requires c κs = let s = c .before .before .before .before .before .before in

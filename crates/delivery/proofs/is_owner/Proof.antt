@@ -1,13 +1,13 @@
-use Rattle.deliver.proofs.Masses.{masses}
+use Rattle.delivery.proofs.Runs.{runs}
 use borrow.Author.Needs.{needs}
-use Rattle.deliver.proofs.is_owner.Statement.{statement}
-use Rattle.deliver.proofs.is_owner.Tie as tie
+use Rattle.delivery.proofs.is_owner.Statement.{statement}
+use Rattle.delivery.proofs.is_owner.Tie as tie
 
 word-at-requires : tie.Need-word-at-requires
 word-at-requires c κs = search needs
 
 returns : tie.Need-returns
-returns c = search masses
+returns c = search runs
 
 pub is-owner-spec : {M : Type 1} → statement M
 is-owner-spec = tie.close (tie.spec word-at-requires returns)

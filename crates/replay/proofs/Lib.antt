@@ -1,0 +1,4 @@
+pub mod Alone
+pub mod Saying
+pub mod Judging
+pub mod Taking
