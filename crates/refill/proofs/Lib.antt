@@ -1,0 +1,4 @@
+pub mod Wallets
+pub mod Table
+pub mod Placing
+pub mod Laws
