@@ -1,4 +1,4 @@
-use Prim.Native.Nat.{_-_, _≤_}
+use Prim.Native.Nat.{_-_, _≤_, _<_}
 use mathlib.Core.Path.{_≡_, refl}
 use native.Mathlib.Omega.{arith}
 use lib.ListN.{length}
@@ -21,10 +21,19 @@ orders-requires : tie.Need-orders-requires Inv-loop μ-loop
 orders-requires c κs = search needs
 
 loop-holds : tie.Need-loop-holds Inv-loop μ-loop
-loop-holds c = search needs
+loop-holds c =
+    let s = c .before .before .before in
+    let few : length (saved-of (s .args .bytes .now) .orders) ≤ most-orders = omega (arith, c .orders .ensures .0, c .orders .ensures .1) in
+    (s .pre .0, s .pre .2, few, none-come (s .args .bytes .now) (s .args .m .now) (s .pre .0) (s .pre .2) few, refl)
 
 come-at-requires : tie.Need-come-at-requires Inv-loop μ-loop
-come-at-requires c κs = search needs
+come-at-requires c κs =
+    let l = c .before .before in
+    let w = l .before in
+    let s = w .before .before .before in
+    let i = l .loop .inv in
+    let h : l .loop .j < length (saved-of (s .args .bytes .now) .orders) = omega (arith, c .before .loop-test .taken, w .orders .ensures .0) in
+    (i .3 .becomes .state, s .pre .1, h, has-room (s .args .bytes .now) (s .args .m .now) (i .0) (i .1) (i .2) (l .loop .j) (l .loop .m) (i .3) h)
 
 add-j : tie.Need-add-j Inv-loop μ-loop
 add-j c = search needs
@@ -33,13 +42,26 @@ loop-less : tie.Need-loop-less Inv-loop μ-loop
 loop-less c = search needs
 
 loop-again : tie.Need-loop-again Inv-loop μ-loop
-loop-again c = search needs
+loop-again c =
+    let o = c .before .before in
+    let t = o .before .before in
+    let l = t .before in
+    let w = l .before in
+    let s = w .before .before .before in
+    let i = l .loop .inv in
+    let h : l .loop .j < length (saved-of (s .args .bytes .now) .orders) = omega (arith, t .loop-test .taken, w .orders .ensures .0) in
+    (i .0, i .1, i .2, more-come (s .args .bytes .now) (s .args .m .now) (i .0) (i .1) (i .2) (l .loop .j) (l .loop .m) (i .3) h _ (o .come-at .ensures), search needs)
 
 same-length : tie.Need-same-length Inv-loop μ-loop
 same-length c = search needs
 
 returns : tie.Need-returns Inv-loop μ-loop
-returns c = search needs
+returns c =
+    let l = c .before in
+    let w = l .before in
+    let s = w .before .before .before in
+    let i = l .loop .inv in
+    all-come (s .args .bytes .now) (s .args .m .now) (i .0) (i .1) (i .2) (l .loop .j) (l .loop .m) (omega (arith, c .loop-test .left, w .orders .ensures .0)) (i .3)
 
 pub come-all-spec : {M : Type 1} → statement M
 come-all-spec =

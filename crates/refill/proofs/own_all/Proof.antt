@@ -29,13 +29,23 @@ loop-less : tie.Need-loop-less Inv-loop μ-loop
 loop-less c = search needs
 
 loop-again : tie.Need-loop-again Inv-loop μ-loop
-loop-again c = search needs
+loop-again c =
+    let o = c .before .before in
+    let t = o .before .before in
+    let l = t .before in
+    let w = l .before in
+    let s = w .before .before .before in
+    (more-owned (s .args .bytes .now) (s .args .m .now) (l .loop .m) _ (l .loop .j) (omega (arith, t .loop-test .taken, w .wallets .ensures .0)) (l .loop .inv .0) (o .own-at .ensures), search needs)
 
 same-length : tie.Need-same-length Inv-loop μ-loop
 same-length c = search needs
 
 returns : tie.Need-returns Inv-loop μ-loop
-returns c = search needs
+returns c =
+    let l = c .before in
+    let w = l .before in
+    let s = w .before .before .before in
+    all-there (s .args .bytes .now) (s .args .m .now) (l .loop .m) (l .loop .j) (omega (arith, c .loop-test .left, w .wallets .ensures .0)) (l .loop .inv .0)
 
 pub own-all-spec : {M : Type 1} → statement M
 own-all-spec =
