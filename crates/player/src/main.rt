@@ -6,6 +6,7 @@ use accounts::Timing;
 use balances::MaybeBalance;
 use commands::MaybeId;
 use libc::STDOUT_FILENO;
+use orderbook::Command;
 use orderbook::Side;
 use outcome::Reply;
 use protocol::Balance;
@@ -456,8 +457,12 @@ fn wanted(fd: i32, row: &[u8]) -> [u8; 24576] {
     want
 }
 
+fn answers(row: &[u8; 128], got: &[u8; 128]) -> bool {
+    agrees(b"answer", row, got)
+}
+
 fn agree(row: &[u8; 128], got: &[u8; 128], want: &[u8; 24576], out: &[u8; 24576]) -> bool {
-    agrees(b"answer", row, got) && agrees(b"rows", want, out)
+    answers(row, got) && agrees(b"rows", want, out)
 }
 
 // The row without its code and count.
@@ -482,18 +487,29 @@ fn play(fd: i32, m: &mut [u8], row: [u8; 128]) -> bool
 }
 
 // A replayed command's row follows its call.
+fn read_command(fd: i32) -> Command {
+    let mut row = [0u8; 96];
+    io::read_full(fd, &mut row);
+    script::command(&tail(&row, 0))
+}
+
+fn replay_command(m: &mut [u8], row: &[u8], k: Command, got: &mut [u8])
+    requires { ⌜ Between (now m) ⌝ }
+    ensures { λ r. ⌜ Between (now (m .exit)) ⌝ }
+{
+    let code = replay::replay_command(m, word(row, 4), k);
+    put(got, 2, code);
+    put(got, 3, 1);
+}
+
 fn play_command(fd: i32, m: &mut [u8], row: [u8; 128]) -> bool
     requires { ⌜ Between (now m) ⌝ }
     ensures { λ r. ⌜ Between (now (m .exit)) ⌝ }
 {
-    let mut given = [0u8; 96];
-    io::read_full(fd, &mut given);
+    let k = read_command(fd);
     let mut got = unanswered(row);
-    let k = script::command(&tail(&given, 0));
-    let code = replay::replay_command(m, word(&row, 4), k);
-    put(&mut got, 2, code);
-    put(&mut got, 3, 1);
-    agrees(b"answer", &row, &got)
+    replay_command(m, &row, k, &mut got);
+    answers(&row, &got)
 }
 
 // Makes the call of the row; whether all is as the file has it.
