@@ -271,6 +271,8 @@ impl File {
             Call::Receive(_, Inbound::NewOrder(order), _) => self.meets(format!("receive NewOrder {}", case(format!("{:?}", order.kind)))),
             Call::Receive(_, message, _) => self.meets(format!("receive {}", case(format!("{message:?}")))),
             Call::Deliver(_, event) => self.meets(format!("event {}", case(format!("{event:?}")))),
+            Call::ReplayEvent(_, event) => self.meets(format!("replayed {}", case(format!("{event:?}")))),
+            Call::ReplayCommand(_, command) => self.meets(format!("replayed {}", case(format!("{command:?}")))),
             _ => {}
         }
         let Seen::Sees(answer, mails) = seen else { return };

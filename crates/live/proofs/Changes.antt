@@ -23,10 +23,10 @@ use Rattle.orders.proofs.Views.{revised, find-at, live-some}
 use Rattle.sound.specs.Sound.{Sound, State, Becomes}
 use Rattle.sound.proofs.Kept.{becomes}
 use Rattle.sound.proofs.Totals.{open-few}
-use Rattle.live.specs.Live.{At, with-ledger, placing, CanPlace, revise, retire, left, pay, place}
+use Rattle.live.specs.Live.{At, with-ledger, placing, CanPlace, Seeds, revise, retire, left, pay, place}
 use Rattle.live.proofs.Views.{revise-view, revise-sound, retire-view, retire-sound, open-some}
 use Rattle.live.proofs.Money.{with-wallets, pay-view, pay-sound, pay-elsewhere}
-use Rattle.live.proofs.Placed.{room, word-kept, place-view, place-sound}
+use Rattle.live.proofs.Placed.{room, word-kept, place-view, place-sound, place-last}
 
 abbrev leaving : ℕ → (Order → Order) → ℕ → Ledger → Ledger
 leaving n f v l = with-orders (Ledger.left n f v (l .orders)) l
@@ -141,6 +141,18 @@ traded-becomes {xs} {ys} st {i} {o} a p q v h k =
 
 pub place-becomes : {xs ys : List ℕ} (st : State xs) (n : ℕ) (o : Live) → CanPlace n o (cell xs) → Is ys (place n o (cell xs)) → Becomes ys (with-ledger (placing n o) (gateway (cell xs)))
 place-becomes {xs} st n o c h = becomes h (place-sound (cell xs) (st .sound) n o c) (place-view (cell xs) (st .sound) n o c)
+
+pub place-seeds : {xs ys : List ℕ} (st : State xs) (n : ℕ) (o : Live) → CanPlace n o (cell xs) → Is ys (place n o (cell xs)) → Seeds n o xs ys
+place-seeds {xs} {ys} st n o c h =
+    let rows : word (cell ys) C.order-rows ≡ word (place n o (cell xs)) C.order-rows = h .same C.header 0 C.order-rows (header-cell C.order-rows (omega arith)) in
+    let b = place-becomes st n o c h in
+    record {
+      becomes = b;
+      last = λ j l.
+          let m : j < word (place n o (cell xs)) C.order-rows = rw (← rows) l in
+          let r : j < order-room = omega (arith, l, b .state .sound .tables .ordered .bounds .orders-fit) in
+          rw (h .same C.orders j C.order-number (order-cell j C.order-number r (omega arith))) (place-last (cell xs) (st .sound) n o c j m);
+    }
 
 -- the table has room, and the count of the account's orders is far from its end
 pub place-room : {xs ys : List ℕ} (st : State xs) (n : ℕ) (o : Live) → CanPlace n o (cell xs) → Is ys (make-room (cell xs)) →

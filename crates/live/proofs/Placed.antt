@@ -165,3 +165,8 @@ module _ (s : Store) (d : Sound s) (n : ℕ) (o : Live) (can : CanPlace n o s) w
             held-swapped place-swapped place-counts (d .held) int-zero (hold-is (o .side) (o .priced) (o .price) (o .leaves) ∙ sym (held-one (order-of n o))) refl (sym (open-one (order-of n o)))
             (each-row (λ r. 0 < r C.order-live → Stored r) (d .held .rows) (λ _. new-stored));
       }
+
+  -- no row has a later number
+  pub place-last : (j : ℕ) → j < word (place n o s) C.order-rows → place n o s C.orders j C.order-number ≤ n
+  unfolding place shift
+  place-last = each-row (λ r. r C.order-number ≤ n) (λ j l. let h = can .above j l in omega arith) (omega arith)

@@ -16,12 +16,13 @@ use Rattle.gateway.specs.Deliver as Deliver
 use Rattle.gateway.specs.Calls.{Gateway}
 use Rattle.gateway.specs.Entry.{noticing}
 use Rattle.store.specs.Cells as C
-use Rattle.store.specs.View.{Store, word, write, flag, side, maybe-price, wallet}
+use Rattle.store.specs.Layout.{cell}
+use Rattle.store.specs.View.{Store, word, write, flag, side, maybe-price, wallet, gateway}
 use Rattle.orders.specs.declared.Live.{Live}
 use Rattle.orders.specs.Orders.{live-row, order-of}
 use Rattle.orders.specs.Orders as Orders
 use Rattle.clients.specs.Clients as Clients
-use Rattle.sound.specs.Sound.{held-cell}
+use Rattle.sound.specs.Sound.{held-cell, Becomes}
 
 -- the row i is that of the live order o
 pub record At (i : ℕ) (o : Live) (s : Store) : Type 0 where
@@ -99,6 +100,11 @@ pub record CanPlace (n : ℕ) (o : Live) (s : Store) : Type 0 where
 
 abbrev pub placing : ℕ → Live → Ledger → Ledger
 placing n o l = with-orders (l .orders ++ (order-of n o ∷ [])) l
+
+-- it was placed, and no row has a later number
+pub record Seeds (n : ℕ) (o : Live) (xs ys : List ℕ) : Type 0 where
+  pub becomes : Becomes ys (with-ledger (placing n o) (gateway (cell xs)))
+  pub last : (j : ℕ) → j < word (cell ys) C.order-rows → cell ys C.orders j C.order-number ≤ n
 
 -- the notices of account a's wallet: that it changed, and that a hold went from one amount to another
 abbrev pub wallet-notice : ℕ → Store → List ℕ

@@ -175,10 +175,10 @@ pub fn traded(m: &mut [u8], i: usize, o: Live, price: u64, qty: u64, leaves: u64
     leave(m, i, o, o.priced, o.price, leaves);
 }
 
-// A new order, numbered above those of the table; its hold is not read but found.
-pub fn place(m: &mut [u8], number: u64, o: Live)
+// A row for a new order, numbered above those of the table; its hold is not read but found.
+fn put(m: &mut [u8], number: u64, o: Live)
     requires { ⌜ State (now m) × P.CanPlace number o (cell (now m)) ⌝ }
-    ensures { λ r. ⌜ Becomes (now (m .exit)) (P.with-ledger (P.placing number o) (gateway (cell (now (m .entry))))) ⌝ }
+    ensures { λ r. ⌜ Is (now (m .exit)) (P.place number o (cell (now (m .entry)))) ⌝ }
 {
     let a = o.account as usize;
     let hold = hold_of(o.side, o.priced, o.price, o.leaves);
@@ -199,6 +199,22 @@ pub fn place(m: &mut [u8], number: u64, o: Live)
     );
     store::set(m, store::ACCOUNTS, a, cells::ACCOUNT_OPEN_ORDERS, open + 1);
     shift(m, a, store::side_of(o.side), 0, hold);
+}
+
+// A new order.
+pub fn place(m: &mut [u8], number: u64, o: Live)
+    requires { ⌜ State (now m) × P.CanPlace number o (cell (now m)) ⌝ }
+    ensures { λ r. ⌜ Becomes (now (m .exit)) (P.with-ledger (P.placing number o) (gateway (cell (now (m .entry))))) ⌝ }
+{
+    put(m, number, o);
+}
+
+// An order of a list that ascends by number, for a state that begins: the next one's number need only be above this one's.
+pub fn seed(m: &mut [u8], number: u64, o: Live)
+    requires { ⌜ State (now m) × P.CanPlace number o (cell (now m)) ⌝ }
+    ensures { λ r. ⌜ P.Seeds number o (now (m .entry)) (now (m .exit)) ⌝ }
+{
+    put(m, number, o);
 }
 
 // A notice that the account's wallet changed, where it has one.

@@ -35,11 +35,11 @@ module _ (s : Slot) (xs : List ℕ) (h : State xs) where
   pub can-enter : CanEnter s xs → s .there ≡ true → s .account .id < word (cell xs) C.owner-limit
   can-enter c t = c .below t
 
-  pub enters-there : (ys : List ℕ) → s .there ≡ true → Becomes ys (entering (s .account) (gateway (cell xs))) × AccountFits (s .account) → Enters s xs ys
-  enters-there ys t b = record { becomes = rw t (b .0); fits = λ _. b .1 }
+  pub enters-there : (ys : List ℕ) → s .there ≡ true → Becomes ys (entering (s .account) (gateway (cell xs))) × AccountFits (s .account) × (word (cell ys) C.order-rows ≡ word (cell xs) C.order-rows) → Enters s xs ys
+  enters-there ys t b = record { becomes = rw t (b .0); fits = λ _. b .1; rows-are = b .2 }
 
   pub enters-none : s .there ≡ false → Enters s xs xs
-  enters-none t = record { becomes = rw t (record { state = h; gateway-is = refl }); fits = λ e. absurd (false≢true (sym t ∙ e)) }
+  enters-none t = record { becomes = rw t (record { state = h; gateway-is = refl }); fits = λ e. absurd (false≢true (sym t ∙ e)); rows-are = refl }
 
 -- ---- one account more
 
@@ -67,7 +67,7 @@ module _ (xs : List ℕ) (r : Roster) where
 
   pub none-admitted : State xs → Admits (present r 0) xs xs
   unfolding present
-  none-admitted h = record { becomes = record { state = h; gateway-is = refl }; fit = tt }
+  none-admitted h = record { becomes = record { state = h; gateway-is = refl }; fit = tt; rows-are = refl }
 
   abbrev slot : ℕ → Slot
   slot i = getD (r .slots) i no-slot
@@ -103,6 +103,7 @@ module _ (xs : List ℕ) (r : Roster) where
                         ∙ sym (admitted-more (present r i) (s .account) g);
                   };
               fit = fit-more (present r i) (s .account) (a .fit) (h .fits t);
+              rows-are = h .rows-are ∙ a .rows-are;
             })
         go false t =
             rw (is false t, append-nil (present r i))
@@ -113,6 +114,7 @@ module _ (xs : List ℕ) (r : Roster) where
                     gateway-is = h .becomes .gateway-is ∙ ap (λ b. cond b (entering (s .account) (gateway (cell ys))) (gateway (cell ys))) t ∙ a .becomes .gateway-is;
                   };
               fit = a .fit;
+              rows-are = h .rows-are ∙ a .rows-are;
             })
 
 -- ---- the start
@@ -150,14 +152,15 @@ present-below limit r h (suc n) = below-append limit (present r n) (option [] (�
         go true t = let e = f t in (rw (e .0) (e .1), tt)
         go false t = tt
 
-pub all-stand : (limit last : ℕ) (t : Timing) (r : Roster) {xs ys : List ℕ} → limit ≤ owner-slots → Numbered limit r → Becomes xs (begun limit last t []) → Admits (present r owner-slots) xs ys →
+pub all-stand : (limit last : ℕ) (t : Timing) (r : Roster) {xs ys : List ℕ} → limit ≤ owner-slots → Numbered limit r → Becomes xs (begun limit last t []) × (word (cell xs) C.order-rows ≡ 0) → Admits (present r owner-slots) xs ys →
     Stands limit last t (present r owner-slots) ys
 all-stand limit last t r few n b a =
     let p = present-below limit r n owner-slots in
     record {
-      becomes = record { state = a .becomes .state; gateway-is = a .becomes .gateway-is ∙ ap (admitted (present r owner-slots)) (b .gateway-is) ∙ admitted-begun limit last t few [] (present r owner-slots) p };
+      becomes = record { state = a .becomes .state; gateway-is = a .becomes .gateway-is ∙ ap (admitted (present r owner-slots)) (b .0 .gateway-is) ∙ admitted-begun limit last t few [] (present r owner-slots) p };
       fit = a .fit;
       below = all-of limit (present r owner-slots) p;
+      no-rows = a .rows-are ∙ b .1;
     }
 
 pub start-limit : (limit last : ℕ) (t : Timing) (r : Roster) {xs : List ℕ} → Becomes xs (begun limit last t []) → Numbered limit r → Numbered (word (cell xs) C.owner-limit) r

@@ -30,6 +30,7 @@ pub record CanEnter (s : Slot) (xs : List ℕ) : Type 0 where
 pub record Enters (s : Slot) (xs ys : List ℕ) : Type 0 where
   pub becomes : Becomes ys (cond (s .there) (entering (s .account) (gateway (cell xs))) (gateway (cell xs)))
   pub fits : s .there ≡ true → AccountFits (s .account)
+  pub rows-are : word (cell ys) C.order-rows ≡ word (cell xs) C.order-rows
 
 abbrev pub admitted : List Account → Gateway → Gateway
 admitted [] g = g
@@ -39,9 +40,11 @@ admitted (a ∷ l) g = admitted l (entering a g)
 pub record Admits (l : List Account) (xs ys : List ℕ) : Type 0 where
   pub becomes : Becomes ys (admitted l (gateway (cell xs)))
   pub fit : AccountsFit l
+  pub rows-are : word (cell ys) C.order-rows ≡ word (cell xs) C.order-rows
 
--- ys holds the start with the accounts l
+-- ys holds the start with the accounts l, and no row of orders
 pub record Stands (limit last : ℕ) (timing : Timing) (l : List Account) (ys : List ℕ) : Type 0 where
   pub becomes : Becomes ys (begun limit last timing l)
   pub fit : AccountsFit l
   pub below : all-below limit l ≡ true
+  pub no-rows : word (cell ys) C.order-rows ≡ 0

@@ -6,6 +6,7 @@ use accounts::Timing;
 use balances::MaybeBalance;
 use commands::MaybeId;
 use libc::STDOUT_FILENO;
+use orderbook::Command;
 use orderbook::Side;
 use outcome::Reply;
 use protocol::Balance;
@@ -134,6 +135,15 @@ fn connect(m: &mut [u8], row: &[u8], got: &mut [u8])
     ensures { λ r. ⌜ Between (now (m .exit)) ⌝ }
 {
     let code = sessions::connect(m, word(row, 4) as usize, word(row, 5));
+    put(got, 2, code);
+}
+
+fn add_account(m: &mut [u8], row: &[u8], got: &mut [u8])
+    requires { ⌜ Between (now m) ⌝ }
+    ensures { λ r. ⌜ Between (now (m .exit)) ⌝ }
+{
+    let a = account(&tail(row, 4));
+    let code = joining::add_account(m, a);
     put(got, 2, code);
 }
 
@@ -303,6 +313,15 @@ fn deliver(m: &mut [u8], row: &[u8], got: &mut [u8], out: &mut [u8])
     reply(got, r);
 }
 
+fn replay_event(m: &mut [u8], row: &[u8], got: &mut [u8])
+    requires { ⌜ Between (now m) ⌝ }
+    ensures { λ r. ⌜ Between (now (m .exit)) ⌝ }
+{
+    let e = script::event(&tail(row, 5));
+    let code = redelivery::replay_event(m, word(row, 4), e);
+    put(got, 2, code);
+}
+
 // A call that is not here differs in its number.
 fn unknown(got: &mut [u8]) {
     put(got, 0, u64::MAX);
@@ -313,6 +332,7 @@ fn call_of_state(m: &mut [u8], row: &[u8], got: &mut [u8], out: &mut [u8])
     ensures { λ r. ⌜ Between (now (m .exit)) ⌝ }
 {
     match word(row, 0) {
+        1 => add_account(m, row, got),
         2 => connect(m, row, got),
         3 => set_paper_collar(m, row, got),
         4 => wallet(m, row, got),
@@ -344,6 +364,7 @@ fn call_of_engine(m: &mut [u8], row: &[u8], got: &mut [u8], out: &mut [u8])
         13 => detach(m, row, got),
         14 => take_batch(m, got, out),
         15 => deliver(m, row, got, out),
+        17 => replay_event(m, row, got),
         _ => unknown(got),
     }
 }
@@ -436,8 +457,12 @@ fn wanted(fd: i32, row: &[u8]) -> [u8; 24576] {
     want
 }
 
+fn answers(row: &[u8; 128], got: &[u8; 128]) -> bool {
+    agrees(b"answer", row, got)
+}
+
 fn agree(row: &[u8; 128], got: &[u8; 128], want: &[u8; 24576], out: &[u8; 24576]) -> bool {
-    agrees(b"answer", row, got) && agrees(b"rows", want, out)
+    answers(row, got) && agrees(b"rows", want, out)
 }
 
 // The row without its code and count.
@@ -461,6 +486,43 @@ fn play(fd: i32, m: &mut [u8], row: [u8; 128]) -> bool
     agree(&row, &got, &want, &out)
 }
 
+// A replayed command's row follows its call.
+fn read_command(fd: i32) -> Command {
+    let mut row = [0u8; 96];
+    io::read_full(fd, &mut row);
+    script::command(&tail(&row, 0))
+}
+
+fn replay_command(m: &mut [u8], row: &[u8], k: Command, got: &mut [u8])
+    requires { ⌜ Between (now m) ⌝ }
+    ensures { λ r. ⌜ Between (now (m .exit)) ⌝ }
+{
+    let code = replay::replay_command(m, word(row, 4), k);
+    put(got, 2, code);
+    put(got, 3, 1);
+}
+
+fn play_command(fd: i32, m: &mut [u8], row: [u8; 128]) -> bool
+    requires { ⌜ Between (now m) ⌝ }
+    ensures { λ r. ⌜ Between (now (m .exit)) ⌝ }
+{
+    let k = read_command(fd);
+    let mut got = unanswered(row);
+    replay_command(m, &row, k, &mut got);
+    answers(&row, &got)
+}
+
+// Makes the call of the row; whether all is as the file has it.
+fn play_row(fd: i32, m: &mut [u8], row: [u8; 128]) -> bool
+    requires { ⌜ Between (now m) ⌝ }
+    ensures { λ r. ⌜ Between (now (m .exit)) ⌝ }
+{
+    if word(&row, 0) == 16 {
+        return play_command(fd, m, row);
+    }
+    play(fd, m, row)
+}
+
 fn say_where(t: Tally) {
     say(b" in list ", t.lists);
     say(b", call ", t.calls);
@@ -471,7 +533,7 @@ fn next_call(fd: i32, m: &mut [u8], row: [u8; 128], t: Tally) -> Tally
     requires { ⌜ Between (now m) ⌝ }
     ensures { λ r. ⌜ Between (now (m .exit)) ⌝ }
 {
-    let more = play(fd, m, row);
+    let more = play_row(fd, m, row);
     let after = Tally {
         lists: t.lists,
         calls: count(t.calls),

@@ -100,7 +100,7 @@ getD-replicate zero (suc i) x = refl
 getD-replicate (suc n) zero x = refl
 getD-replicate (suc n) (suc i) x = getD-replicate n i x
 
-listed-same : {A : Type 0} (x : A) (n : ℕ) → listed (λ i. x) n ≡ replicate n x
+pub listed-same : {A : Type 0} (x : A) (n : ℕ) → listed (λ i. x) n ≡ replicate n x
 unfolding listed
 listed-same x zero = refl
 listed-same x (suc n) = ap (λ l. l ++ (x ∷ [])) (listed-same x n) ∙ more n

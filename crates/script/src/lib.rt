@@ -1,5 +1,6 @@
-// Messages and events in rows of 16 little-endian words: the kind, then the fields in their order.
+// Messages, events and commands in rows of 16 little-endian words: the kind, then the fields in their order.
 use orderbook::CancelReason;
+use orderbook::Command;
 use orderbook::Event;
 use orderbook::MaybePrice;
 use orderbook::MaybeQty;
@@ -20,7 +21,7 @@ ghost use Prim.Native.Nat.{_+_, _%_, _<_};
 ghost use lib.ListN.{length};
 ghost use Rattle.store.specs.View.{side, maybe-price};
 ghost use Rattle.script.specs.Script as P;
-ghost use Rattle.script.specs.Script.{word-at, small-at, code-at, price-at, message-of, event-of};
+ghost use Rattle.script.specs.Script.{word-at, small-at, code-at, price-at, message-of, event-of, command-of};
 
 const TWO_32: u64 = 4_294_967_296;
 
@@ -202,11 +203,11 @@ fn cancel_reason(row: &[u8]) -> CancelReason
     }
 }
 
-fn phase(row: &[u8]) -> Phase
-    requires { ⌜ length (now row) ≡ 128 ⌝ }
-    ensures { λ r. ⌜ r ≡ P.phase-at (now (row .entry)) ⌝ }
+fn phase(row: &[u8], i: usize) -> Phase
+    requires { ⌜ (length (now row) ≡ 128) × (i < 16) ⌝ }
+    ensures { λ r. ⌜ r ≡ P.phase-at (now (row .entry)) i ⌝ }
 {
-    match codes::phase_of(code(row, 1)) {
+    match codes::phase_of(code(row, i)) {
         MaybePhase::Some(phase) => phase,
         MaybePhase::None => Phase::Continuous,
     }
@@ -316,6 +317,91 @@ pub fn event(row: &[u8]) -> Event
             owner: small(row, 1),
             count: small(row, 2),
         },
-        _ => Event::PhaseChanged { phase: phase(row) },
+        _ => Event::PhaseChanged {
+            phase: phase(row, 1),
+        },
+    }
+}
+
+// ---- commands
+
+fn limit_order(row: &[u8]) -> Command
+    requires { ⌜ length (now row) ≡ 128 ⌝ }
+    ensures { λ r. ⌜ r ≡ P.limit-order (now (row .entry)) ⌝ }
+{
+    let side = side(row, 3);
+    let tif = tif(row);
+    let display = maybe_qty(row, 7);
+    Command::Limit {
+        id: word(row, 1),
+        owner: small(row, 2),
+        side,
+        price: price(row, 4),
+        qty: word(row, 5),
+        tif,
+        display,
+    }
+}
+
+fn market_order(row: &[u8]) -> Command
+    requires { ⌜ length (now row) ≡ 128 ⌝ }
+    ensures { λ r. ⌜ r ≡ P.market-order (now (row .entry)) ⌝ }
+{
+    let side = side(row, 3);
+    Command::Market {
+        id: word(row, 1),
+        owner: small(row, 2),
+        side,
+        qty: word(row, 5),
+    }
+}
+
+fn modify_order(row: &[u8]) -> Command
+    requires { ⌜ length (now row) ≡ 128 ⌝ }
+    ensures { λ r. ⌜ r ≡ P.modify-order (now (row .entry)) ⌝ }
+{
+    Command::Modify {
+        id: word(row, 1),
+        owner: small(row, 2),
+        price: price(row, 4),
+        qty: word(row, 5),
+    }
+}
+
+fn stop_order(row: &[u8]) -> Command
+    requires { ⌜ length (now row) ≡ 128 ⌝ }
+    ensures { λ r. ⌜ r ≡ P.stop-order (now (row .entry)) ⌝ }
+{
+    let side = side(row, 3);
+    let limit = maybe_price(row, 10);
+    Command::Stop {
+        id: word(row, 1),
+        owner: small(row, 2),
+        side,
+        trigger: price(row, 9),
+        limit,
+        qty: word(row, 5),
+    }
+}
+
+pub fn command(row: &[u8]) -> Command
+    requires { ⌜ length (now row) ≡ 128 ⌝ }
+    ensures { λ r. ⌜ r ≡ command-of (now (row .entry)) ⌝ }
+{
+    match word(row, 0) {
+        0 => limit_order(row),
+        1 => market_order(row),
+        2 => Command::Cancel {
+            id: word(row, 1),
+            owner: small(row, 2),
+        },
+        3 => modify_order(row),
+        4 => stop_order(row),
+        5 => Command::CancelAll {
+            owner: small(row, 2),
+        },
+        _ => Command::SetPhase {
+            phase: phase(row, 3),
+        },
     }
 }

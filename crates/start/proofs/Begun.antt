@@ -15,6 +15,7 @@ use Rattle.orderbook.specs.declared.MaybePrice.the-variants.{None}
 use Rattle.orderbook.specs.declared.Side.{Side}
 use Rattle.orderbook.specs.declared.Side.the-variants.{Buy, Sell}
 use Rattle.risk.specs.declared.Bucket.{Bucket}
+use Rattle.risk.specs.Throttle as Throttle
 use Rattle.words.specs.Words.{place-of, wrap}
 use Rattle.gateway.specs.Limits.{owner-slots, session-slots}
 use Rattle.gateway.specs.Ledger.{step, held, holds-fit, wallets-fit, fits}
@@ -26,10 +27,12 @@ use Rattle.gateway.proofs.Begin.{accounts-length}
 use Rattle.store.specs.Cells as C
 use Rattle.store.specs.Layout.{cell}
 use Rattle.store.specs.View.{Store, word, fill, listed, gateway, zeros, Is}
+use Rattle.store.proofs.Places.{header-cell}
 use Rattle.store.proofs.Rows.{then-fill}
 use Rattle.table.specs.Live.{live}
 use Rattle.levels.specs.Levels.{size, entries}
 use Rattle.clients.specs.Clients as Clients
+use Rattle.clients.proofs.Rows.{cells-block}
 use Rattle.clients.proofs.Links.{linked-ext, linked-zeros}
 use Rattle.clients.proofs.Limits.{limited-ext, limited-zeros}
 use Rattle.clients.proofs.Views.{add-account-view}
@@ -172,3 +175,17 @@ pub enter-becomes : {xs ys : List ℕ} → State xs → (a : Account) → a .id 
     Is ys (Clients.add-account a (cell xs)) → Becomes ys (entering a (gateway (cell xs)))
 enter-becomes {xs} st a l m r f h =
     becomes h (add-account-sound (cell xs) (st .sound) a m r) (add-account-view a (cell xs) f l (st .sound .tables .ordered .bounds .accounts-fit))
+
+-- no row of orders
+pub start-rows : {a b c : List ℕ} (limit last : ℕ) (t : Timing) → Is a zeros → Is b (fill C.header 0 C.last (last ∷ last ∷ last ∷ []) (cell a)) →
+    Is c (fill C.header 0 C.owner-limit (limit ∷ t .heartbeat ∷ t .«idle_timeout» ∷ []) (cell b)) → word (cell c) C.order-rows ≡ 0
+unfolding fill
+start-rows limit last t p q r =
+    then-fill C.header 0 C.owner-limit (limit ∷ t .heartbeat ∷ t .«idle_timeout» ∷ []) (then-fill C.header 0 C.last (last ∷ last ∷ last ∷ []) p q) r .same C.header 0 C.order-rows (header-cell C.order-rows (omega arith))
+
+-- an account's cells are none of the header's
+pub enter-rows : (xs : List ℕ) {ys : List ℕ} (a : Account) → Is ys (Clients.add-account a (cell xs)) → word (cell ys) C.order-rows ≡ word (cell xs) C.order-rows
+enter-rows xs a h =
+    h .same C.header 0 C.order-rows (header-cell C.order-rows (omega arith))
+    ∙ cells-block C.accounts (a .id) (Clients.bucket-cells (Throttle.full (a .«messages_per_second»))) _ C.header 0 C.order-rows refl
+    ∙ cells-block C.accounts (a .id) (Clients.funds-cells (a .funds)) _ C.header 0 C.order-rows refl ∙ cells-block C.accounts (a .id) (Clients.limit-cells a) (cell xs) C.header 0 C.order-rows refl

@@ -1,7 +1,8 @@
-// The start without orders: the last number, the owner limit and the timing; then the accounts, one by one.
+// The start without orders, and without a row of them: the last number, the owner limit and the timing; then the accounts, one by one.
 use accounts::Account;
 use accounts::Timing;
 use store::cells;
+ghost use mathlib.Core.Path.{_≡_};
 ghost use mathlib.Core.List.{[]};
 ghost use Prim.Native.Nat.{_≤_, _<_};
 ghost use Rattle.gateway.specs.Fits.{AccountFits};
@@ -14,7 +15,7 @@ ghost use Rattle.start.specs.Start as P;
 
 pub fn start(m: &mut [u8], limit: u64, last: u64, timing: Timing)
     requires { ⌜ Holds (now m) × (limit ≤ owner-slots) ⌝ }
-    ensures { λ r. ⌜ Becomes (now (m .exit)) (P.begun limit last timing []) ⌝ }
+    ensures { λ r. ⌜ Becomes (now (m .exit)) (P.begun limit last timing []) × (word (cell (now (m .exit))) C.order-rows ≡ 0) ⌝ }
 {
     store::clear(m);
     store::fill(m, store::HEADER, 0, cells::LAST, &[last, last, last]);
@@ -30,7 +31,7 @@ pub fn start(m: &mut [u8], limit: u64, last: u64, timing: Timing)
 // An account is added; one that was there before is replaced. That its funds fit comes of their type.
 pub fn enter(m: &mut [u8], a: Account)
     requires { ⌜ State (now m) × (a .id < word (cell (now m)) C.owner-limit) ⌝ }
-    ensures { λ r. ⌜ Becomes (now (m .exit)) (P.entering a (gateway (cell (now (m .entry))))) × AccountFits a ⌝ }
+    ensures { λ r. ⌜ Becomes (now (m .exit)) (P.entering a (gateway (cell (now (m .entry))))) × AccountFits a × (word (cell (now (m .exit))) C.order-rows ≡ word (cell (now (m .entry))) C.order-rows) ⌝ }
 {
     clients::add_account(m, a);
 }

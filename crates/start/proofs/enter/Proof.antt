@@ -1,5 +1,5 @@
 use native.Mathlib.Omega.{arith}
-use Rattle.start.proofs.Begun.{enter-becomes}
+use Rattle.start.proofs.Begun.{enter-becomes, enter-rows}
 use borrow.Author.Needs.{needs}
 use Rattle.start.proofs.enter.Statement.{statement}
 use Rattle.start.proofs.enter.Tie as tie
@@ -16,6 +16,7 @@ returns c =
     let added = c .before .before .add-account .ensures in (
       enter-becomes (s .pre .0) _ (s .pre .1) (omega (arith, s .good)) (omega (arith, s .good)) (added .1) (added .0),
       added .1,
+      enter-rows _ (s .args .a) (added .0),
     )
 
 pub enter-spec : {M : Type 1} → statement M

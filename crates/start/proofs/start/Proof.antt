@@ -1,4 +1,4 @@
-use Rattle.start.proofs.Begun.{start-becomes}
+use Rattle.start.proofs.Begun.{start-becomes, start-rows}
 use borrow.Author.Needs.{needs}
 use Rattle.start.proofs.start.Statement.{statement}
 use Rattle.start.proofs.start.Tie as tie
@@ -26,7 +26,7 @@ returns c =
     let f = c .before .before in
     let l = f .before .before .before .before .before in
     let z = l .before .before .before .before .before in
-    start-becomes _ _ _ (z .before .before .before .pre .1) (z .clear .ensures) (l .fill .ensures) (f .fill2 .ensures)
+    (start-becomes _ _ _ (z .before .before .before .pre .1) (z .clear .ensures) (l .fill .ensures) (f .fill2 .ensures), start-rows _ _ _ (z .clear .ensures) (l .fill .ensures) (f .fill2 .ensures))
 
 pub start-spec : {M : Type 1} → statement M
 start-spec =
