@@ -10,7 +10,9 @@ use Rattle.orderbook.specs.declared.MaybePrice.{MaybePrice}
 use Rattle.orderbook.specs.declared.MaybePrice.the-variants.{None, Some}
 use Rattle.words.specs.Words.{int}
 use Rattle.gateway.specs.Limits.{owner-slots}
+use Rattle.gateway.specs.Ledger.{with-orders}
 use Rattle.gateway.specs.Calls.{Gateway}
+use Rattle.gateway.specs.Saved.{Saved}
 use Rattle.store.specs.Cells as C
 use Rattle.store.specs.Layout.{cell}
 use Rattle.store.specs.View.{wallet, maybe-price, gateway, Is}
@@ -23,10 +25,10 @@ use Rattle.sound.proofs.Waiting.{mark-sound}
 use Rattle.live.specs.Live.{with-ledger}
 use Rattle.saved.specs.declared.Reference.{Reference}
 use Rattle.saved.specs.Contents.{saved-of}
-use Rattle.refill.specs.Refill.{with-mark, with-wallets, own-all, placed, refilled, Fits, Blank}
+use Rattle.refill.specs.Refill.{with-mark, own-all, noticed, refilled, Fits, Empty}
 use Rattle.refill.proofs.Wallets.{own-there, own-none, purse-below, own-read, all-restored}
-use Rattle.refill.proofs.Table.{set-last-is, clears}
-use Rattle.refill.proofs.Placing.{place-state, can-place, enter-becomes, notice-fits, come-becomes, read-room, read-comes, placed-becomes}
+use Rattle.refill.proofs.Placing.{can-place, places}
+use Rattle.refill.proofs.Noticing.{account-there, notice-fits, notice-becomes}
 
 -- ---- the reference price
 
@@ -46,26 +48,37 @@ module _ (xs : List ℕ) (st : State xs) (r : Reference) where
 
 -- ---- the whole
 
-module _ (bytes xs : List ℕ) (bl : Blank (gateway (cell xs))) (r : Reference) (r-is : maybe-price (r .marked) (r .price) ≡ saved-of bytes .mark) where
+module _ (bytes xs : List ℕ) (emp : Empty (saved-of bytes) xs) where
+  abbrev s : Saved
+  s = saved-of bytes
+
   abbrev g₀ : Gateway
   g₀ = gateway (cell xs)
 
-  module _ {ys zs : List ℕ} (p : Becomes ys (with-ledger (with-mark (maybe-price (r .marked) (r .price))) g₀)) (q : Becomes zs (with-ledger (own-all (saved-of bytes .wallets)) (gateway (cell ys)))) where
-    so-far : gateway (cell zs) ≡ with-ledger (λ l. own-all (saved-of bytes .wallets) (with-mark (saved-of bytes .mark) l)) g₀
-    so-far = q .gateway-is ∙ ap (with-ledger (own-all (saved-of bytes .wallets))) (p .gateway-is ∙ ap (λ m. with-ledger (with-mark m) g₀) r-is)
+  module _ {ys : List ℕ} (p : Becomes ys (with-ledger (with-orders (saved-of bytes .orders)) (gateway (cell xs)))) where
+    pub still-unmarked : gateway (cell ys) .core .ledger .mark ≡ None
+    still-unmarked = ap (λ (h : Gateway). h .core .ledger .mark) (p .gateway-is) ∙ emp .no-mark
 
-    pub still-blank : Blank (gateway (cell zs))
-    still-blank = record { no-orders = ap (λ (h : Gateway). h .core .ledger .orders) so-far ∙ bl .no-orders; no-flights = ap (λ (h : Gateway). h .core .flights) so-far ∙ bl .no-flights; none-resting = ap (λ (h : Gateway). h .rest .depth .resting) so-far ∙ bl .none-resting; no-notices = ap (λ (h : Gateway). h .rest .notices) so-far ∙ bl .no-notices }
+    module _ {zs us : List ℕ} (r : Reference) (r-is : maybe-price (r .marked) (r .price) ≡ saved-of bytes .mark) (q : Becomes zs (with-ledger (with-mark (maybe-price (r .marked) (r .price))) (gateway (cell ys))))
+             (v : Becomes us (with-ledger (own-all (saved-of bytes .wallets)) (gateway (cell zs)))) where
+      so-far : gateway (cell us) ≡ with-ledger (λ l. own-all (s .wallets) (with-mark (s .mark) (with-orders (s .orders) l))) g₀
+      so-far =
+          v .gateway-is
+          ∙ ap (with-ledger (own-all (s .wallets)))
+          (q .gateway-is ∙ ap (λ m. with-ledger (with-mark m) (gateway (cell ys))) r-is ∙ ap (with-ledger (with-mark (s .mark))) (p .gateway-is))
 
-    pub refill-becomes : {us : List ℕ} → Fits (saved-of bytes) → Becomes us (placed (saved-of bytes) (gateway (cell zs))) → Becomes us (refilled (saved-of bytes) g₀)
-    unfolding refilled
-    refill-becomes f b =
-        record {
-          state = b .state;
-          gateway-is =
-              b .gateway-is ∙ ap (placed (saved-of bytes)) so-far
-              ∙ ap (λ ws. placed (saved-of bytes) (with-ledger (λ l. with-mark (saved-of bytes .mark) (with-wallets ws l)) g₀))
-              (all-restored (saved-of bytes .wallets) (g₀ .core .ledger .wallets) (f .wallets-rise) (listed-length (λ i. wallet (cell xs C.accounts i)) owner-slots));
-        }
+      pub still-unnoticed : length (gateway (cell us) .rest .notices) ≡ 0
+      still-unnoticed = ap (λ (h : Gateway). length (h .rest .notices)) so-far ∙ ap length (emp .no-notices)
 
-pub ruleset laws = (mark-there, mark-none, own-there, own-none, purse-below, own-read, set-last-is, clears, place-state, can-place, enter-becomes, notice-fits, come-becomes, read-room, read-comes, placed-becomes, still-blank, refill-becomes, arith)
+      pub refill-becomes : {ts : List ℕ} → Fits (saved-of bytes) → Becomes ts (noticed (saved-of bytes .orders) (gateway (cell us))) → Becomes ts (refilled (saved-of bytes) (gateway (cell xs)))
+      unfolding refilled
+      refill-becomes f b =
+          record {
+            state = b .state;
+            gateway-is =
+                b .gateway-is ∙ ap (noticed (s .orders)) so-far
+                ∙ ap (λ ws. noticed (s .orders) (with-ledger (λ l. record { last = l .last; wallets = ws; orders = s .orders; mark = s .mark }) g₀))
+                (all-restored (s .wallets) (g₀ .core .ledger .wallets) (f .wallets-rise) (listed-length (λ i. wallet (cell xs C.accounts i)) owner-slots));
+          }
+
+pub ruleset laws = (can-place, places, mark-there, mark-none, own-there, own-none, purse-below, own-read, account-there, notice-fits, notice-becomes, still-unmarked, still-unnoticed, refill-becomes, arith)

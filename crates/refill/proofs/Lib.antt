@@ -1,4 +1,4 @@
 pub mod Wallets
-pub mod Table
 pub mod Placing
+pub mod Noticing
 pub mod Laws

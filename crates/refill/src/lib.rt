@@ -1,24 +1,48 @@
-// A checkpoint's contents go into a state that begins: the reference price, the wallets, and the orders with what they hold (`restore` of document 01).
-use orders::Live;
+// A checkpoint's contents go into a state that begins: the orders, the reference price, the wallets, and the notices of what the orders hold
+// (`restore` of document 01).
 use saved::Purse;
 use saved::Reference;
-use store::cells;
 ghost use mathlib.Core.Path.{_≡_};
 ghost use mathlib.Core.Bool.{true};
-ghost use Prim.Native.Nat.{_<_};
+ghost use Prim.Native.Nat.{_+_, _≤_, _<_};
 ghost use lib.ListN.{length};
 ghost use Rattle.orderbook.specs.declared.MaybePrice.the-variants.{None};
 ghost use Rattle.gateway.specs.Basics.{is-some};
 ghost use Rattle.gateway.specs.Bytes.{decode};
-ghost use Rattle.gateway.specs.Limits.{owner-slots};
-ghost use Rattle.store.specs.Cells as C;
-ghost use Rattle.store.specs.Layout.{cell, Holds};
-ghost use Rattle.store.specs.View.{maybe-price, write, gateway, Is};
-ghost use Rattle.orders.specs.Orders.{order-of};
+ghost use Rattle.gateway.specs.Ledger.{with-orders};
+ghost use Rattle.gateway.specs.Limits.{owner-slots, most-notices};
+ghost use Rattle.gateway.specs.Start.{hold-notice-of};
+ghost use Rattle.store.specs.Layout.{cell};
+ghost use Rattle.store.specs.View.{maybe-price, gateway};
 ghost use Rattle.sound.specs.Sound.{State, Becomes};
-ghost use Rattle.live.specs.Live.{with-ledger};
+ghost use Rattle.live.specs.Live.{with-ledger, with-notices};
 ghost use Rattle.saved.specs.Contents.{saved-of, wallet-of, wallet-at, order-at};
 ghost use Rattle.refill.specs.Refill as P;
+
+// ---- the orders
+
+// The order j takes its place behind the others, and its account holds what it holds.
+fn place_at(m: &mut [u8], bytes: &[u8], j: usize)
+    requires { ⌜ State (now m) × (is-some (decode (now bytes)) ≡ true) × (j < length (saved-of (now bytes) .orders)) × P.HasRoom (order-at (now bytes) j) (cell (now m)) ⌝ }
+    ensures { λ x. ⌜ P.Places (order-at (now (bytes .entry)) j) (now (m .entry)) (now (m .exit)) ⌝ }
+{
+    let number = saved::number(bytes, j);
+    let o = saved::order(bytes, j);
+    live::seed(m, number, o);
+}
+
+// Each order in turn, ascending by number.
+fn place_all(m: &mut [u8], bytes: &[u8])
+    requires { ⌜ P.Empty (saved-of (now bytes)) (now m) × (is-some (decode (now bytes)) ≡ true) × P.Fits (saved-of (now bytes)) ⌝ }
+    ensures { λ x. ⌜ Becomes (now (m .exit)) (with-ledger (with-orders (saved-of (now (bytes .entry)) .orders)) (gateway (cell (now (m .entry))))) ⌝ }
+{
+    let n = saved::orders(bytes);
+    let mut j: usize = 0;
+    while j < n {
+        place_at(m, bytes, j);
+        j += 1;
+    }
+}
 
 // ---- the reference price
 
@@ -64,84 +88,40 @@ fn own_all(m: &mut [u8], bytes: &[u8])
     }
 }
 
-// ---- the orders
+// ---- the notices
 
-fn set_last(m: &mut [u8], number: u64)
-    requires { ⌜ Holds (now m) ⌝ }
-    ensures { λ x. ⌜ Is (now (m .exit)) (write C.header 0 C.last number (cell (now (m .entry)))) ⌝ }
+// The account of the order j is told what it holds, where it has a wallet and that is not 0.
+fn notice_at(m: &mut [u8], bytes: &[u8], j: usize)
+    requires { ⌜ State (now m) × (is-some (decode (now bytes)) ≡ true) × P.Fits (saved-of (now bytes)) × (j < length (saved-of (now bytes) .orders)) × (length (gateway (cell (now m)) .rest .notices) < most-notices) ⌝ }
+    ensures { λ x. ⌜ Becomes (now (m .exit)) (with-notices (hold-notice-of (gateway (cell (now (m .entry))) .core .ledger .wallets) (order-at (now (bytes .entry)) j)) (gateway (cell (now (m .entry))))) ⌝ }
 {
-    store::set(m, store::HEADER, 0, cells::LAST, number);
-}
-
-// No row of the table of orders is in use, and no number is taken.
-fn clear(m: &mut [u8])
-    requires { ⌜ State (now m) × P.Blank (gateway (cell (now m))) ⌝ }
-    ensures { λ x. ⌜ P.Clears (now (m .entry)) (now (m .exit)) ⌝ }
-{
-    set_last(m, 0);
-    store::set(m, store::HEADER, 0, cells::ORDER_ROWS, 0);
-}
-
-// An order takes its number, the highest so far, and its place.
-fn enter(m: &mut [u8], number: u64, o: Live)
-    requires { ⌜ State (now m) × P.HasRoom (order-of number o) (cell (now m)) ⌝ }
-    ensures { λ x. ⌜ Becomes (now (m .exit)) (with-ledger (P.enter (order-of number o)) (gateway (cell (now (m .entry))))) ⌝ }
-{
-    set_last(m, number);
-    live::place(m, number, o);
-}
-
-// And its account is told what it holds.
-fn come(m: &mut [u8], number: u64, o: Live)
-    requires { ⌜ State (now m) × P.HasRoom (order-of number o) (cell (now m)) ⌝ }
-    ensures { λ x. ⌜ Becomes (now (m .exit)) (P.come (order-of number o) (gateway (cell (now (m .entry))))) ⌝ }
-{
-    enter(m, number, o);
+    let o = saved::order(bytes, j);
     let hold = live::hold_of(o.side, o.priced, o.price, o.leaves);
     live::notice_hold(m, o.account, 0, hold);
 }
 
-fn come_at(m: &mut [u8], bytes: &[u8], j: usize)
-    requires { ⌜ State (now m) × (is-some (decode (now bytes)) ≡ true) × (j < length (saved-of (now bytes) .orders)) × P.HasRoom (order-at (now bytes) j) (cell (now m)) ⌝ }
-    ensures { λ x. ⌜ Becomes (now (m .exit)) (P.come (order-at (now (bytes .entry)) j) (gateway (cell (now (m .entry))))) ⌝ }
-{
-    let number = saved::number(bytes, j);
-    let o = saved::order(bytes, j);
-    come(m, number, o);
-}
-
-// Each order in turn, ascending by number: its hold is added to its account's.
-fn come_all(m: &mut [u8], bytes: &[u8])
-    requires { ⌜ P.Empty (now m) × (is-some (decode (now bytes)) ≡ true) × P.Fits (saved-of (now bytes)) ⌝ }
-    ensures { λ x. ⌜ P.Came (saved-of (now (bytes .entry))) (now (m .entry)) (now (m .exit)) ⌝ }
+fn notice_all(m: &mut [u8], bytes: &[u8])
+    requires { ⌜ State (now m) × (is-some (decode (now bytes)) ≡ true) × P.Fits (saved-of (now bytes)) × (length (gateway (cell (now m)) .rest .notices) ≡ 0) ⌝ }
+    ensures { λ x. ⌜ Becomes (now (m .exit)) (P.noticed (saved-of (now (bytes .entry)) .orders) (gateway (cell (now (m .entry))))) ⌝ }
 {
     let n = saved::orders(bytes);
     let mut j: usize = 0;
     while j < n {
-        come_at(m, bytes, j);
+        notice_at(m, bytes, j);
         j += 1;
     }
 }
 
-// The last number follows the orders, and ends as the bytes say.
-fn place_all(m: &mut [u8], bytes: &[u8])
-    requires { ⌜ State (now m) × P.Blank (gateway (cell (now m))) × (is-some (decode (now bytes)) ≡ true) × P.Fits (saved-of (now bytes)) ⌝ }
-    ensures { λ x. ⌜ Becomes (now (m .exit)) (P.placed (saved-of (now (bytes .entry))) (gateway (cell (now (m .entry))))) ⌝ }
-{
-    clear(m);
-    come_all(m, bytes);
-    let last = saved::last(bytes);
-    set_last(m, last);
-}
-
 // ---- the whole
 
+// The contents, into a state with the accounts and the last number and nothing else.
 pub fn refill(m: &mut [u8], bytes: &[u8])
-    requires { ⌜ State (now m) × (gateway (cell (now m)) .core .ledger .mark ≡ None) × P.Blank (gateway (cell (now m))) × (is-some (decode (now bytes)) ≡ true) × P.Fits (saved-of (now bytes)) ⌝ }
+    requires { ⌜ P.Empty (saved-of (now bytes)) (now m) × (is-some (decode (now bytes)) ≡ true) × P.Fits (saved-of (now bytes)) ⌝ }
     ensures { λ x. ⌜ Becomes (now (m .exit)) (P.refilled (saved-of (now (bytes .entry))) (gateway (cell (now (m .entry))))) ⌝ }
 {
+    place_all(m, bytes);
     let r = saved::mark(bytes);
     mark(m, r);
     own_all(m, bytes);
-    place_all(m, bytes);
+    notice_all(m, bytes);
 }

@@ -5,14 +5,12 @@ use lib.ListN.{length}
 use borrow.Author.Needs.{needs}
 use Rattle.gateway.specs.Limits.{most-orders}
 use Rattle.saved.specs.Contents.{saved-of}
-use Rattle.refill.specs.Refill.{Fits, Empty}
-use Rattle.refill.proofs.Placing.{Coming, none-come, has-room, more-come, all-come}
-use Rattle.refill.proofs.come_all.Statement.{statement}
-use Rattle.refill.proofs.come_all.Tie as tie
+use Rattle.refill.proofs.Noticing.{Noticed, none-noticed, notice-room, more-noticed, all-noticed}
+use Rattle.refill.proofs.notice_all.Statement.{statement}
+use Rattle.refill.proofs.notice_all.Tie as tie
 
 abbrev Inv-loop : tie.InvT-loop
-Inv-loop m₀ bytes n j₀ m j =
-    (e : Empty m₀) × (f : Fits (saved-of bytes)) × (few : length (saved-of bytes .orders) ≤ most-orders) × Coming bytes m₀ e f few j m × (length m ≡ length m₀)
+Inv-loop m₀ bytes n j₀ m j = Noticed bytes m₀ j m × (length m ≡ length m₀)
 
 abbrev μ-loop : tie.MeasureT-loop
 μ-loop m₀ bytes n j₀ m j = n - j
@@ -23,17 +21,16 @@ orders-requires c κs = search needs
 loop-holds : tie.Need-loop-holds Inv-loop μ-loop
 loop-holds c =
     let s = c .before .before .before in
-    let few : length (saved-of (s .args .bytes .now) .orders) ≤ most-orders = omega (arith, c .orders .ensures .0, c .orders .ensures .1) in
-    (s .pre .0, s .pre .2, few, none-come (s .args .bytes .now) (s .args .m .now) (s .pre .0) (s .pre .2) few, refl)
+    (none-noticed (s .args .bytes .now) (s .args .m .now) (s .pre .0), refl)
 
-come-at-requires : tie.Need-come-at-requires Inv-loop μ-loop
-come-at-requires c κs =
+notice-at-requires : tie.Need-notice-at-requires Inv-loop μ-loop
+notice-at-requires c κs =
     let l = c .before .before in
     let w = l .before in
     let s = w .before .before .before in
-    let i = l .loop .inv in
     let h : l .loop .j < length (saved-of (s .args .bytes .now) .orders) = omega (arith, c .before .loop-test .taken, w .orders .ensures .0) in
-    (i .3 .becomes .state, s .pre .1, h, has-room (s .args .bytes .now) (s .args .m .now) (i .0) (i .1) (i .2) (l .loop .j) (l .loop .m) (i .3) h)
+    let few : length (saved-of (s .args .bytes .now) .orders) ≤ most-orders = omega (arith, w .orders .ensures .0, w .orders .ensures .1) in
+    (l .loop .inv .0 .state, s .pre .1, s .pre .2, h, notice-room (s .args .bytes .now) (s .args .m .now) (l .loop .j) (l .loop .m) (l .loop .inv .0) h few (s .pre .3))
 
 add-j : tie.Need-add-j Inv-loop μ-loop
 add-j c = search needs
@@ -48,9 +45,8 @@ loop-again c =
     let l = t .before in
     let w = l .before in
     let s = w .before .before .before in
-    let i = l .loop .inv in
     let h : l .loop .j < length (saved-of (s .args .bytes .now) .orders) = omega (arith, t .loop-test .taken, w .orders .ensures .0) in
-    (i .0, i .1, i .2, more-come (s .args .bytes .now) (s .args .m .now) (i .0) (i .1) (i .2) (l .loop .j) (l .loop .m) (i .3) h _ (o .come-at .ensures), search needs)
+    (more-noticed (s .args .bytes .now) (s .args .m .now) (l .loop .j) (l .loop .m) (l .loop .inv .0) h _ (o .notice-at .ensures), search needs)
 
 same-length : tie.Need-same-length Inv-loop μ-loop
 same-length c = search needs
@@ -60,18 +56,17 @@ returns c =
     let l = c .before in
     let w = l .before in
     let s = w .before .before .before in
-    let i = l .loop .inv in
-    all-come (s .args .bytes .now) (s .args .m .now) (i .0) (i .1) (i .2) (l .loop .j) (l .loop .m) (omega (arith, c .loop-test .left, w .orders .ensures .0)) (i .3)
+    all-noticed (s .args .bytes .now) (s .args .m .now) (l .loop .j) (l .loop .m) (omega (arith, c .loop-test .left, w .orders .ensures .0)) (l .loop .inv .0)
 
-pub come-all-spec : {M : Type 1} → statement M
-come-all-spec =
+pub notice-all-spec : {M : Type 1} → statement M
+notice-all-spec =
     tie.close
     (tie.spec
     Inv-loop
     μ-loop
     orders-requires
     loop-holds
-    come-at-requires
+    notice-at-requires
     add-j
     loop-less
     loop-again

@@ -1,10 +1,10 @@
 use Rattle.refill.proofs.Laws.{laws}
 use borrow.Author.Needs.{needs}
-use Rattle.refill.proofs.come.Statement.{statement}
-use Rattle.refill.proofs.come.Tie as tie
+use Rattle.refill.proofs.notice_at.Statement.{statement}
+use Rattle.refill.proofs.notice_at.Tie as tie
 
-enter-requires : tie.Need-enter-requires
-enter-requires c κs = search needs
+order-requires : tie.Need-order-requires
+order-requires c κs = search needs
 
 hold-of-requires : tie.Need-hold-of-requires
 hold-of-requires c κs = search needs
@@ -18,6 +18,6 @@ same-length c = search needs
 returns : tie.Need-returns
 returns c = search laws
 
-pub come-spec : {M : Type 1} → statement M
-come-spec =
-    tie.close (tie.spec enter-requires hold-of-requires notice-hold-requires same-length returns)
+pub notice-at-spec : {M : Type 1} → statement M
+notice-at-spec =
+    tie.close (tie.spec order-requires hold-of-requires notice-hold-requires same-length returns)
