@@ -1,12 +1,11 @@
 -- The reference price, and the whole. Assumes nothing.
 use Prim.Native.Nat.{ℕ}
-use mathlib.Core.Path.{_≡_, refl, sym, ap, subst, _∙_}
+use mathlib.Core.Path.{_≡_, sym, ap, subst, _∙_}
 use mathlib.Core.Bool.{Bool, cond, not}
 use mathlib.Core.List.{List}
 use native.Mathlib.Omega.{arith}
 use borrow.Author.Tests.{eq-eqb, ne-eqb}
 use lib.ListN.{length}
-use Rattle.orderbook.specs.declared.MaybePrice.{MaybePrice}
 use Rattle.orderbook.specs.declared.MaybePrice.the-variants.{None, Some}
 use Rattle.words.specs.Words.{int}
 use Rattle.gateway.specs.Limits.{owner-slots}
@@ -60,7 +59,7 @@ module _ (bytes xs : List ℕ) (emp : Empty (saved-of bytes) xs) where
     still-unmarked = ap (λ (h : Gateway). h .core .ledger .mark) (p .gateway-is) ∙ emp .no-mark
 
     module _ {zs us : List ℕ} (r : Reference) (r-is : maybe-price (r .marked) (r .price) ≡ saved-of bytes .mark) (q : Becomes zs (with-ledger (with-mark (maybe-price (r .marked) (r .price))) (gateway (cell ys))))
-             (v : Becomes us (with-ledger (own-all (saved-of bytes .wallets)) (gateway (cell zs)))) where
+        (v : Becomes us (with-ledger (own-all (saved-of bytes .wallets)) (gateway (cell zs)))) where
       so-far : gateway (cell us) ≡ with-ledger (λ l. own-all (s .wallets) (with-mark (s .mark) (with-orders (s .orders) l))) g₀
       so-far =
           v .gateway-is

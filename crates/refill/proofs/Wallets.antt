@@ -19,14 +19,14 @@ use Rattle.table.specs.Live.{Each}
 use Rattle.gateway.specs.Basics.{is-some}
 use Rattle.gateway.specs.Limits.{owner-slots}
 use Rattle.gateway.specs.Table.{Rises}
-use Rattle.gateway.specs.Saved.{Saved, slots}
+use Rattle.gateway.specs.Saved.{slots}
 use Rattle.gateway.specs.Start.{restored-wallet, restored-wallets}
 use Rattle.gateway.specs.Calls.{Gateway}
 use Rattle.gateway.proofs.Base.{split}
 use Rattle.store.specs.Cells as C
 use Rattle.store.specs.Layout.{cell}
 use Rattle.store.specs.View.{Row, wallet, flag, gateway, Is}
-use Rattle.store.proofs.Listed.{listed-at, listed-set, listed-length}
+use Rattle.store.proofs.Listed.{listed-at, listed-set}
 use Rattle.clients.specs.Clients as Clients
 use Rattle.clients.proofs.Views.{money-view}
 use Rattle.sound.specs.Sound.{State, Becomes}
@@ -195,9 +195,6 @@ module _ (bytes : List ℕ) where
   -- the first j
   abbrev pub Owned : ℕ → List ℕ → List ℕ → Type 0
   Owned j xs ys = Becomes ys (with-ledger (own-all (take j l)) (gateway (cell xs)))
-
-  pub none-owned : (xs : List ℕ) → State xs → Owned 0 xs xs
-  none-owned xs st = record { state = st; gateway-is = refl }
 
   pub more-owned : (xs ys zs : List ℕ) (j : ℕ) → j < length l → Owned j xs ys → Becomes zs (with-ledger (own (wallet-at bytes j)) (gateway (cell ys))) → Owned (j + 1) xs zs
   more-owned xs ys zs j h a b =

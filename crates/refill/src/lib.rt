@@ -4,7 +4,7 @@ use saved::Purse;
 use saved::Reference;
 ghost use mathlib.Core.Path.{_≡_};
 ghost use mathlib.Core.Bool.{true};
-ghost use Prim.Native.Nat.{_+_, _≤_, _<_};
+ghost use Prim.Native.Nat.{_<_};
 ghost use lib.ListN.{length};
 ghost use Rattle.orderbook.specs.declared.MaybePrice.the-variants.{None};
 ghost use Rattle.gateway.specs.Basics.{is-some};

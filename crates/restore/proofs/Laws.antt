@@ -1,20 +1,19 @@
 -- The start: what was judged is what the definition judges, and what is written is the gateway that it begins with. Assumes nothing.
 use Prim.Native.Nat.{ℕ, suc, _≤_, _<_}
 use mathlib.Core.Path.{_≡_, refl, sym, ap, subst, _∙_}
-use mathlib.Core.Bool.{Bool, true, false, cond, not, false≢true}
+use mathlib.Core.Bool.{Bool, true, false, cond, not}
 use mathlib.Core.Option.{Option, none, some}
-use mathlib.Core.List.{List, [], _∷_, _++_}
+use mathlib.Core.List.{List, [], _∷_}
 use native.Mathlib.Omega.{arith}
 use borrow.Author.Tests.{leb-true, eq-eqb, ne-eqb, not-true, not-false}
-use lib.Dec.{eqb, leb}
-use lib.ListN.{length, getD}
+use lib.Dec.{eqb}
+use lib.ListN.{getD}
 use Rattle.accounts.specs.declared.Account.{Account}
 use Rattle.accounts.specs.declared.Timing.{Timing}
 use Rattle.gateway.specs.Basics.{option, each, is-some}
 use Rattle.gateway.specs.Bytes.{decode}
 use Rattle.gateway.specs.Limits.{owner-slots, outside, malformed}
 use Rattle.gateway.specs.Core.{Pass}
-use Rattle.gateway.specs.Fits.{Bytes}
 use Rattle.gateway.specs.Invariant.{Ok}
 use Rattle.gateway.specs.Ledger.{holds-fit}
 use Rattle.gateway.specs.Calls.{Gateway}
@@ -29,18 +28,18 @@ use Rattle.store.specs.View.{gateway}
 use Rattle.sound.specs.Sound.{Becomes}
 use Rattle.start.specs.Start.{begun}
 use Rattle.outcome.specs.Answers.{verdict}
-use Rattle.outcome.specs.Between.{Between}
 use Rattle.roster.specs.declared.Roster.{Roster}
 use Rattle.roster.specs.Rostered.{Numbered, Gathered}
 use Rattle.opening.specs.Opening.{present, Stands}
-use Rattle.opening.specs.Starts.{Begun, Starts, Begins}
+use Rattle.opening.specs.Starts.{Starts, Begins}
 use Rattle.opening.proofs.Tables.{present-table, gathered-table}
 use Rattle.saved.specs.Contents.{nothing, saved-of}
 use Rattle.saved.proofs.Decoded.{decoded}
+use Rattle.saved.proofs.Laws.{all-bytes}
 use Rattle.totals.specs.Totals.{wallets-fit}
 use Rattle.refill.specs.Refill.{refilled, Fits, Empty}
 use Rattle.restore.specs.Judging.{entry-tests, roster-tests, code-of, restored, Restored}
-use Rattle.restore.proofs.Verdicts.{start-judged, verdict-append, codes-append, passes, entry-codes, one-above, one-below, order-late, order-above, order-fine, order-judged, one-fails, owners-below, orders-inside, limit-above, account-above, wallet-above, orders-decide}
+use Rattle.restore.proofs.Verdicts.{start-judged, verdict-append, codes-append, passes, entry-codes, order-late, order-above, order-fine, order-judged, owners-below, orders-inside, limit-above, account-above, wallet-above, orders-decide}
 use Rattle.restore.proofs.Rosters.{verdict-is}
 
 -- ---- judging
@@ -130,11 +129,6 @@ table-decides : (limit : ℕ) (timing : Timing) (k l : List Account) (s : Saved)
 unfolding restored
 table-decides limit timing k l s e = ap (λ t. begin timing (restored-ledger t s) t empty-depth (each (hold-notice-of (restored-ledger t s .wallets)) (s .orders))) e
 
--- the bytes of a slice, as the definitions have them
-all-bytes : (xs : List ℕ) → ((i : ℕ) → getD xs i 0 < 256) → Bytes xs
-all-bytes [] f = tt
-all-bytes (x ∷ xs) f = (f 0, all-bytes xs (λ i. f (suc i)))
-
 -- ---- the call
 
 module _ (limit : ℕ) (timing : Timing) (r : Roster) (bytes : List ℕ) (c : ℕ) (c-is : c ≡ code-of limit r bytes) where
@@ -207,4 +201,4 @@ module _ (limit : ℕ) (timing : Timing) (r : Roster) (bytes : List ℕ) (c : �
           fine : Begin.Begins limit (present r owner-slots) (started (restored limit timing (present r owner-slots) (saved-of bytes)))
           fine = subst (Begin.Begins limit (present r owner-slots)) (begins (present r owner-slots) own) (restore-begins limit (present r owner-slots) timing bytes (d .fit) (all-bytes bytes small))
 
-pub ruleset laws = (one-above, order-late, order-above, order-fine, order-judged, one-fails, limit-above, account-above, wallet-above, orders-decide, no-checkpoint, is-checkpoint, entry-fails, total-outside, all-fine, open-empty, is-restored, restore-refused, arith)
+pub ruleset laws = (order-late, order-above, order-fine, order-judged, limit-above, account-above, wallet-above, orders-decide, no-checkpoint, is-checkpoint, entry-fails, total-outside, all-fine, open-empty, is-restored, restore-refused, arith)

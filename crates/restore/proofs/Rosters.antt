@@ -1,6 +1,6 @@
 -- A roster says what the definitions say of any list of accounts that it is of. Assumes nothing.
 use Prim.Native.Nat.{ℕ, suc, _≤_, _<_}
-use mathlib.Core.Path.{_≡_, refl, sym, ap, ap₂, subst, _∙_}
+use mathlib.Core.Path.{_≡_, refl, sym, ap, ap₂, _∙_}
 use mathlib.Core.Bool.{Bool, true, false, cond, _&&_}
 use mathlib.Core.Logic.{⊎-elim}
 use mathlib.Core.Option.{Option, none, some}
@@ -8,7 +8,7 @@ use mathlib.Core.List.{List, [], _∷_, _++_}
 use native.Mathlib.Omega.{arith}
 use borrow.Author.Tests.{leb-true}
 use lib.Dec.{leb}
-use lib.ListN.{length, getD, List·getD-eq-default}
+use lib.ListN.{getD, List·getD-eq-default}
 use lib.Seq.{ext-getD}
 use Rattle.accounts.specs.declared.Account.{Account}
 use Rattle.accounts.specs.declared.Funds.{Funds}
@@ -17,8 +17,7 @@ use Rattle.gateway.specs.Limits.{owner-slots, outside}
 use Rattle.gateway.specs.Ledger.{Order, holds-fit, wallet-fits}
 use Rattle.gateway.specs.Ledger as Ledger
 use Rattle.gateway.specs.Saved.{Saved, slots}
-use Rattle.gateway.specs.Start.{accounts-of, all-below, by-slot, funds-in, wallets-below, order-tests, restored-wallet, restored-wallets, restored-ledger, restore-tests}
-use Rattle.gateway.proofs.Base.{split}
+use Rattle.gateway.specs.Start.{accounts-of, all-below, by-slot, funds-in, wallets-below, order-tests, restored-wallets, restored-ledger, restore-tests}
 use Rattle.gateway.proofs.Restore.{by-slot-at, by-slot-length}
 use Rattle.store.specs.View.{listed}
 use Rattle.store.proofs.Listed.{listed-at, listed-length}

@@ -1,11 +1,11 @@
 -- The verdict on a list of tests, and on the orders one by one. Assumes nothing.
 use Prim.Native.Nat.{ℕ, suc, _+_, _≤_, _<_}
-use mathlib.Core.Path.{_≡_, refl, sym, ap, ap₂, subst, _∙_}
+use mathlib.Core.Path.{_≡_, refl, sym, ap, ap₂, _∙_}
 use mathlib.Core.Bool.{Bool, true, false, cond, not, _&&_, and-eq-true-iff}
 use mathlib.Core.List.{List, [], _∷_, _++_}
 use native.Mathlib.Numerals.{add-one}
 use native.Mathlib.Omega.{arith}
-use borrow.Author.Tests.{lt-ltb, le-ltb, ltb-true, ltb-false, lt-leb, le-leb, leb-true, eq-eqb, ne-eqb, not-true, not-false}
+use borrow.Author.Tests.{lt-ltb, le-ltb, ltb-true, lt-leb, le-leb, leb-true, eq-eqb, ne-eqb, not-true, not-false}
 use lib.Dec.{eqb, ltb, leb}
 use lib.ListN.{length, drop}
 use lib.Seq.{drop-cons, drop-length}
@@ -17,7 +17,7 @@ use Rattle.gateway.specs.Ledger.{Order}
 use Rattle.gateway.specs.Invariant.{Inside}
 use Rattle.gateway.specs.Saved.{Saved}
 use Rattle.gateway.specs.Calls.{Gateway}
-use Rattle.gateway.specs.Start.{Started, not-started, started, start-unless, wallets-below, order-tests}
+use Rattle.gateway.specs.Start.{not-started, started, start-unless, wallets-below, order-tests}
 use Rattle.orders.specs.declared.Live.{Live}
 use Rattle.outcome.specs.Answers.{verdict}
 use Rattle.outcome.proofs.Calls.{codes}

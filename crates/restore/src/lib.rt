@@ -23,9 +23,6 @@ const FOREIGN: u64 = 2;
 
 const MALFORMED: u64 = 11;
 
-// The highest owner limit.
-const OWNER_SLOTS: u64 = 256;
-
 // ---- judging
 
 // Whether every wallet of the bytes is one of an account below the owner limit.
@@ -90,7 +87,7 @@ fn judge_entries(limit: u64, below: bool, bytes: &[u8]) -> u64
     requires { ⌜ is-some (decode (now bytes)) ≡ true ⌝ }
     ensures { λ r. ⌜ r ≡ verdict (P.entry-tests limit below (saved-of (now (bytes .entry)))) ⌝ }
 {
-    if OWNER_SLOTS < limit {
+    if (clients::OWNER_SLOTS as u64) < limit {
         return outcome::FULL;
     }
     if !below {

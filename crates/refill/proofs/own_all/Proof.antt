@@ -1,9 +1,9 @@
 use Prim.Native.Nat.{_-_}
-use mathlib.Core.Path.{_≡_, refl}
+use mathlib.Core.Path.{_≡_}
 use native.Mathlib.Omega.{arith}
 use lib.ListN.{length}
 use borrow.Author.Needs.{needs}
-use Rattle.refill.proofs.Wallets.{Owned, none-owned, more-owned, all-there}
+use Rattle.refill.proofs.Wallets.{Owned, more-owned, all-there}
 use Rattle.refill.proofs.own_all.Statement.{statement}
 use Rattle.refill.proofs.own_all.Tie as tie
 

@@ -2,7 +2,6 @@ use Rattle.refill.proofs.Laws.{laws}
 use borrow.Author.Needs.{needs}
 use Rattle.refill.proofs.refill.Statement.{statement}
 use Rattle.refill.proofs.refill.Tie as tie
-use Rattle.saved.proofs.mark.Reads as mark-reads′
 
 place-all-requires : tie.Need-place-all-requires
 place-all-requires c κs = search needs
