@@ -74,7 +74,7 @@ pub record Fits (s : Saved) : Type 0 where
   pub orders-rise : Rises number-of 0 (s .orders)
   pub inside : Each (Inside (s .last) owner-slots) (s .orders)
 
--- nothing but the last number has come yet, and no row of orders is in use
+-- the accounts and the last number are there and nothing else, and no row of orders is in use
 pub record Empty (s : Saved) (xs : List ℕ) : Type 0 where
   pub state : State xs
   pub no-rows : word (cell xs) C.order-rows ≡ 0

@@ -18,7 +18,7 @@ ghost use Rattle.saved.specs.Contents.{saved-of, order-at};
 ghost use Rattle.refill.specs.Refill.{Fits};
 ghost use Rattle.restore.specs.Judging as P;
 
-// Refusals that no call has.
+// Two of the codes of document 01 that only a start answers.
 const FOREIGN: u64 = 2;
 
 const MALFORMED: u64 = 11;
