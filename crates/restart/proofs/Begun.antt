@@ -3,7 +3,7 @@ use Prim.Native.Nat.{ℕ}
 use mathlib.Core.Bool.{true, false, not, and-eq-true-iff}
 use mathlib.Core.Path.{_≡_, refl, sym, ap}
 use mathlib.Core.Option.{Option, none, some}
-use mathlib.Core.List.{List, [], _∷_, _++_}
+use mathlib.Core.List.{List, [], _∷_}
 use native.Mathlib.Omega.{arith}
 use lib.Dec.{eqb}
 use Rattle.accounts.specs.declared.Account.{Account}
@@ -24,24 +24,10 @@ use Rattle.store.specs.View.{gateway}
 use Rattle.outcome.specs.Between.{Between}
 use Rattle.outcome.proofs.Calls.{codes}
 use Rattle.opening.specs.Starts.{Starts}
+use Rattle.opening.proofs.Codes.{codes-append, listed-codes, order-codes, code-not-0}
 use Rattle.restart.specs.Chain.{Opened, by-set-up, by-restore}
-use Rattle.restart.proofs.Plans.{code-not-0}
 
 -- ---- no refusal has the code 0
-
-codes-append : (ts us : Tests ℕ) → codes ts ≡ true → codes us ≡ true → codes (ts ++ us) ≡ true
-codes-append [] us p q = q
-codes-append (t ∷ ts) us p q =
-    let e = and-eq-true-iff (not (eqb (t .0) 0)) (codes ts) .0 p in
-    rw (e .0) (codes-append ts us (e .1) q)
-
-listed-codes : (limit last : ℕ) (xs : List Listed) (os : List Order) → codes (listed-tests limit last xs os) ≡ true
-listed-codes limit last xs [] = refl
-listed-codes limit last xs (o ∷ os) = listed-codes limit last xs os
-
-order-codes : (limit last : ℕ) (os : List Order) → codes (order-tests limit last os) ≡ true
-order-codes limit last [] = refl
-order-codes limit last (o ∷ os) = order-codes limit last os
 
 -- the code of a start that is refused, else 1
 abbrev fails : Started → ℕ
