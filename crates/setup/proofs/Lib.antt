@@ -1,3 +1,4 @@
 pub mod Earliest
 pub mod Numbers
 pub mod Judged
+pub mod Seeded
