@@ -7,10 +7,14 @@ use native.Mathlib.Omega.{arith}
 use borrow.Author.Tests.{not-true}
 use lib.Dec.{eqb}
 use Rattle.orderbook.specs.declared.Listed.{Listed}
-use Rattle.gateway.specs.Ledger.{Order}
+use Rattle.accounts.specs.declared.Account.{Account}
+use Rattle.gateway.specs.Limits.{outside}
+use Rattle.gateway.specs.Ledger.{Order, holds-fit}
+use Rattle.gateway.specs.Saved.{Saved}
+use Rattle.gateway.specs.Listing.{listed-orders}
 use Rattle.gateway.specs.Core.{Tests, Pass}
 use Rattle.gateway.specs.Calls.{Gateway}
-use Rattle.gateway.specs.Start.{Started, not-started, started, start-unless, listed-tests, order-tests}
+use Rattle.gateway.specs.Start.{Started, not-started, started, start-unless, accounts-of, listed-tests, entry-tests, total-tests, set-up-tests, order-tests, saved-tests, restore-tests, restored-ledger}
 use Rattle.outcome.specs.Answers.{verdict}
 use Rattle.outcome.proofs.Calls.{codes}
 
@@ -27,6 +31,12 @@ listed-codes limit last xs (o ∷ os) = listed-codes limit last xs os
 pub order-codes : (limit last : ℕ) (os : List Order) → codes (order-tests limit last os) ≡ true
 order-codes limit last [] = refl
 order-codes limit last (o ∷ os) = order-codes limit last os
+
+pub set-up-codes : (limit last : ℕ) (l : List Account) (xs : List Listed) → codes (set-up-tests limit last l xs) ≡ true
+set-up-codes limit last l xs = codes-append (entry-tests limit last l xs) (total-tests limit last l xs) (listed-codes limit last xs (listed-orders xs)) refl
+
+pub restore-codes : (limit : ℕ) (l : List Account) (s : Saved) → codes (restore-tests limit l s) ≡ true
+restore-codes limit l s = codes-append (saved-tests limit l s) ((outside, holds-fit (restored-ledger (accounts-of limit l) s)) ∷ []) (order-codes limit (s .last) (s .orders)) refl
 
 -- ---- a code that tests have is not 0
 

@@ -11,20 +11,18 @@ use Rattle.accounts.specs.declared.Timing.{Timing}
 use Rattle.orderbook.specs.declared.Listed.{Listed}
 use Rattle.gateway.specs.Basics.{option}
 use Rattle.gateway.specs.Limits.{malformed}
-use Rattle.gateway.specs.Ledger.{Order}
 use Rattle.gateway.specs.Core.{Tests}
-use Rattle.gateway.specs.Listing.{listed-orders}
 use Rattle.gateway.specs.Saved.{Saved}
 use Rattle.gateway.specs.Bytes.{decode}
 use Rattle.gateway.specs.Calls.{Gateway}
-use Rattle.gateway.specs.Start.{Started, not-started, started, start-unless, listed-tests, entry-tests, total-tests, set-up-tests, order-tests, saved-tests, restore-tests, set-up, restore, restore-saved}
+use Rattle.gateway.specs.Start.{Started, not-started, started, start-unless, set-up-tests, restore-tests, set-up, restore, restore-saved}
 use Rattle.gateway.proofs.Restart.{Demand3, after-set-up, after-restore}
 use Rattle.store.specs.Layout.{cell}
 use Rattle.store.specs.View.{gateway}
 use Rattle.outcome.specs.Between.{Between}
 use Rattle.outcome.proofs.Calls.{codes}
 use Rattle.opening.specs.Starts.{Starts}
-use Rattle.opening.proofs.Codes.{codes-append, listed-codes, order-codes, code-not-0}
+use Rattle.opening.proofs.Codes.{set-up-codes, restore-codes, code-not-0}
 use Rattle.restart.specs.Chain.{Opened, by-set-up, by-restore}
 
 -- ---- no refusal has the code 0
@@ -42,14 +40,12 @@ refused-not-0 ((k, false) ∷ ts) g c e = code-not-0 k ts c e
 
 set-up-not-0 : (limit last : ℕ) (l : List Account) (xs : List Listed) (timing : Timing) → fails (set-up limit last l xs timing) ≡ 0 → ⊥
 unfolding set-up
-set-up-not-0 limit last l xs timing =
-    refused-not-0 (set-up-tests limit last l xs) _
-    (codes-append (entry-tests limit last l xs) (total-tests limit last l xs) (listed-codes limit last xs (listed-orders xs)) refl)
+set-up-not-0 limit last l xs timing = refused-not-0 (set-up-tests limit last l xs) _ (set-up-codes limit last l xs)
 
 restore-not-0 : (limit : ℕ) (l : List Account) (timing : Timing) (s : Option Saved) → fails (option (not-started malformed) (restore-saved limit l timing) s) ≡ 0 → ⊥
 unfolding restore-saved
 restore-not-0 limit l timing none e = omega (arith, e)
-restore-not-0 limit l timing (some s) e = refused-not-0 (restore-tests limit l s) _ (codes-append (saved-tests limit l s) _ (order-codes limit (s .last) (s .orders)) refl) e
+restore-not-0 limit l timing (some s) e = refused-not-0 (restore-tests limit l s) _ (restore-codes limit l s) e
 
 -- what the contract says of a start that answers 0
 record Begins (s : Started) (ys : List ℕ) : Type 0 where
