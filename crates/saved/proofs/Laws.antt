@@ -265,7 +265,7 @@ pub section-told : (xs : List ℕ) (r : ℕ) → Start xs r → take (length xs 
 section-told xs r s = take-all (length xs - r) (drop r xs) (rw length-drop (le-refl _)) ∙ s .is
 
 -- the bytes of a slice, as the definitions have them
-all-bytes : (xs : List ℕ) → ((i : ℕ) → getD xs i 0 < 256) → Bytes xs
+pub all-bytes : (xs : List ℕ) → ((i : ℕ) → getD xs i 0 < 256) → Bytes xs
 all-bytes [] f = tt
 all-bytes (x ∷ xs) f = (f 0, all-bytes xs (λ i. f (suc i)))
 

@@ -1,0 +1,4 @@
+pub mod Wallets
+pub mod Placing
+pub mod Noticing
+pub mod Laws
