@@ -56,11 +56,11 @@ cancel-some xs k m p e f g = rw (← e, ← f, g) refl
 pub cancel-none : (xs : List ℕ) (k : ℕ) (m : MaybeCancelReason.MaybeCancelReason) → k ≡ code-at xs 3 → m ≡ cancelReasonOf k → m ≡ MaybeCancelReason.the-variants.None → CancelReason.the-variants.Requested ≡ cancel-at xs
 cancel-none xs k m e f g = rw (← e, ← f, g) refl
 
-pub phase-some : (xs : List ℕ) (k : ℕ) (m : MaybePhase.MaybePhase) (p : Phase.Phase) → k ≡ code-at xs 1 → m ≡ phaseOf k → m ≡ MaybePhase.the-variants.Some p → p ≡ phase-at xs
-phase-some xs k m p e f g = rw (← e, ← f, g) refl
+pub phase-some : (xs : List ℕ) (i k : ℕ) (m : MaybePhase.MaybePhase) (p : Phase.Phase) → k ≡ code-at xs i → m ≡ phaseOf k → m ≡ MaybePhase.the-variants.Some p → p ≡ phase-at xs i
+phase-some xs i k m p e f g = rw (← e, ← f, g) refl
 
-pub phase-none : (xs : List ℕ) (k : ℕ) (m : MaybePhase.MaybePhase) → k ≡ code-at xs 1 → m ≡ phaseOf k → m ≡ MaybePhase.the-variants.None → Phase.the-variants.Continuous ≡ phase-at xs
-phase-none xs k m e f g = rw (← e, ← f, g) refl
+pub phase-none : (xs : List ℕ) (i k : ℕ) (m : MaybePhase.MaybePhase) → k ≡ code-at xs i → m ≡ phaseOf k → m ≡ MaybePhase.the-variants.None → Phase.the-variants.Continuous ≡ phase-at xs i
+phase-none xs i k m e f g = rw (← e, ← f, g) refl
 
 -- ---- an event by its kind
 
@@ -99,7 +99,7 @@ module _ (xs : List ℕ) (k : ℕ) (e : k ≡ word-at xs 0) where
   pub is-stop-placed : (v : Event) → k ≡ 7 → v ≡ stop-placed xs → v ≡ event-of xs
   is-stop-placed v h f = f ∙ by-kind 7 h
 
-  pub is-phase : (p : Phase.Phase) → (k ≡ 0 → ⊥) → (k ≡ 1 → ⊥) → (k ≡ 2 → ⊥) → (k ≡ 3 → ⊥) → (k ≡ 4 → ⊥) → (k ≡ 5 → ⊥) → (k ≡ 6 → ⊥) → (k ≡ 7 → ⊥) → (k ≡ 8 → ⊥) → (k ≡ 9 → ⊥) → p ≡ phase-at xs → Ev.PhaseChanged p ≡ event-of xs
+  pub is-phase : (p : Phase.Phase) → (k ≡ 0 → ⊥) → (k ≡ 1 → ⊥) → (k ≡ 2 → ⊥) → (k ≡ 3 → ⊥) → (k ≡ 4 → ⊥) → (k ≡ 5 → ⊥) → (k ≡ 6 → ⊥) → (k ≡ 7 → ⊥) → (k ≡ 8 → ⊥) → (k ≡ 9 → ⊥) → p ≡ phase-at xs 1 → Ev.PhaseChanged p ≡ event-of xs
   unfolding event-of
   is-phase p h0 h1 h2 h3 h4 h5 h6 h7 h8 h9 f = rw (← e, ne-eqb k 0 h0, ne-eqb k 1 h1, ne-eqb k 2 h2, ne-eqb k 3 h3, ne-eqb k 4 h4, ne-eqb k 5 h5, ne-eqb k 6 h6, ne-eqb k 7 h7, ne-eqb k 8 h8, ne-eqb k 9 h9, f) refl
 

@@ -102,8 +102,8 @@ reject-at xs = reject-or (rejectReasonOf (code-at xs 2))
 abbrev pub cancel-at : List ℕ → CancelReason.CancelReason
 cancel-at xs = cancel-or (cancelReasonOf (code-at xs 3))
 
-abbrev pub phase-at : List ℕ → Phase.Phase
-phase-at xs = phase-or (phaseOf (code-at xs 1))
+abbrev pub phase-at : List ℕ → ℕ → Phase.Phase
+phase-at xs i = phase-or (phaseOf (code-at xs i))
 
 abbrev pub traded : List ℕ → Event
 traded xs = Ev.Trade (word-at xs 1) (word-at xs 2) (word-at xs 3) (side (word-at xs 4)) (price-at xs 5) (word-at xs 6) (word-at xs 7) (word-at xs 8)
@@ -135,7 +135,7 @@ event-by k xs =
     (cond (eqb k 7) (stop-placed xs)
     (cond (eqb k 8) (Ev.Triggered (word-at xs 1))
     (cond (eqb k 9) (Ev.MassCancelled (small-at xs 1) (small-at xs 2))
-    (Ev.PhaseChanged (phase-at xs)))))))))))
+    (Ev.PhaseChanged (phase-at xs 1)))))))))))
 
 unfoldable pub event-of : List ℕ → Event
 event-of xs = event-by (word-at xs 0) xs
