@@ -490,7 +490,7 @@ fn play(fd: i32, m: &mut [u8], row: [u8; 128]) -> bool
 fn read_command(fd: i32) -> Command {
     let mut row = [0u8; 96];
     io::read_full(fd, &mut row);
-    script::command(&tail(&row, 0))
+    script::records::command(&row)
 }
 
 fn replay_command(m: &mut [u8], row: &[u8], k: Command, got: &mut [u8])

@@ -3,7 +3,7 @@ use Prim.Native.Nat.{ℕ}
 use mathlib.Core.Bool.{true, false, not, and-eq-true-iff}
 use mathlib.Core.Path.{_≡_, refl, sym, ap}
 use mathlib.Core.Option.{Option, none, some}
-use mathlib.Core.List.{List, [], _∷_, _++_}
+use mathlib.Core.List.{List, [], _∷_}
 use native.Mathlib.Omega.{arith}
 use lib.Dec.{eqb}
 use Rattle.accounts.specs.declared.Account.{Account}
@@ -11,37 +11,21 @@ use Rattle.accounts.specs.declared.Timing.{Timing}
 use Rattle.orderbook.specs.declared.Listed.{Listed}
 use Rattle.gateway.specs.Basics.{option}
 use Rattle.gateway.specs.Limits.{malformed}
-use Rattle.gateway.specs.Ledger.{Order}
 use Rattle.gateway.specs.Core.{Tests}
-use Rattle.gateway.specs.Listing.{listed-orders}
 use Rattle.gateway.specs.Saved.{Saved}
 use Rattle.gateway.specs.Bytes.{decode}
 use Rattle.gateway.specs.Calls.{Gateway}
-use Rattle.gateway.specs.Start.{Started, not-started, started, start-unless, listed-tests, entry-tests, total-tests, set-up-tests, order-tests, saved-tests, restore-tests, set-up, restore, restore-saved}
+use Rattle.gateway.specs.Start.{Started, not-started, started, start-unless, set-up-tests, restore-tests, set-up, restore, restore-saved}
 use Rattle.gateway.proofs.Restart.{Demand3, after-set-up, after-restore}
 use Rattle.store.specs.Layout.{cell}
 use Rattle.store.specs.View.{gateway}
 use Rattle.outcome.specs.Between.{Between}
 use Rattle.outcome.proofs.Calls.{codes}
 use Rattle.opening.specs.Starts.{Starts}
+use Rattle.opening.proofs.Codes.{set-up-codes, restore-codes, code-not-0}
 use Rattle.restart.specs.Chain.{Opened, by-set-up, by-restore}
-use Rattle.restart.proofs.Plans.{code-not-0}
 
 -- ---- no refusal has the code 0
-
-codes-append : (ts us : Tests ℕ) → codes ts ≡ true → codes us ≡ true → codes (ts ++ us) ≡ true
-codes-append [] us p q = q
-codes-append (t ∷ ts) us p q =
-    let e = and-eq-true-iff (not (eqb (t .0) 0)) (codes ts) .0 p in
-    rw (e .0) (codes-append ts us (e .1) q)
-
-listed-codes : (limit last : ℕ) (xs : List Listed) (os : List Order) → codes (listed-tests limit last xs os) ≡ true
-listed-codes limit last xs [] = refl
-listed-codes limit last xs (o ∷ os) = listed-codes limit last xs os
-
-order-codes : (limit last : ℕ) (os : List Order) → codes (order-tests limit last os) ≡ true
-order-codes limit last [] = refl
-order-codes limit last (o ∷ os) = order-codes limit last os
 
 -- the code of a start that is refused, else 1
 abbrev fails : Started → ℕ
@@ -56,14 +40,12 @@ refused-not-0 ((k, false) ∷ ts) g c e = code-not-0 k ts c e
 
 set-up-not-0 : (limit last : ℕ) (l : List Account) (xs : List Listed) (timing : Timing) → fails (set-up limit last l xs timing) ≡ 0 → ⊥
 unfolding set-up
-set-up-not-0 limit last l xs timing =
-    refused-not-0 (set-up-tests limit last l xs) _
-    (codes-append (entry-tests limit last l xs) (total-tests limit last l xs) (listed-codes limit last xs (listed-orders xs)) refl)
+set-up-not-0 limit last l xs timing = refused-not-0 (set-up-tests limit last l xs) _ (set-up-codes limit last l xs)
 
 restore-not-0 : (limit : ℕ) (l : List Account) (timing : Timing) (s : Option Saved) → fails (option (not-started malformed) (restore-saved limit l timing) s) ≡ 0 → ⊥
 unfolding restore-saved
 restore-not-0 limit l timing none e = omega (arith, e)
-restore-not-0 limit l timing (some s) e = refused-not-0 (restore-tests limit l s) _ (codes-append (saved-tests limit l s) _ (order-codes limit (s .last) (s .orders)) refl) e
+restore-not-0 limit l timing (some s) e = refused-not-0 (restore-tests limit l s) _ (restore-codes limit l s) e
 
 -- what the contract says of a start that answers 0
 record Begins (s : Started) (ys : List ℕ) : Type 0 where

@@ -1,24 +1,16 @@
 -- Plans that tests guard. Assumes nothing.
 use Prim.Native.Nat.{ℕ}
-use mathlib.Core.Bool.{Bool, true, false, not, and-eq-true-iff}
-use mathlib.Core.Path.{_≡_, refl, sym, ap, _∙_}
+use mathlib.Core.Bool.{true, false, not, and-eq-true-iff}
+use mathlib.Core.Path.{_≡_, refl}
 use mathlib.Core.Logic.{_⊎_, inl, inr}
 use mathlib.Core.List.{[], _∷_}
-use native.Mathlib.Omega.{arith}
 use lib.Dec.{eqb}
 use Rattle.gateway.specs.Core.{Tests}
 use Rattle.gateway.specs.Entry.{Plan, refuse, unless}
 use Rattle.outcome.proofs.Calls.{codes}
+use Rattle.opening.proofs.Codes.{code-not-0}
 
--- a code that the tests have is not 0
-pub code-not-0 : (k : ℕ) (ts : Tests ℕ) → codes ((k, false) ∷ ts) ≡ true → k ≡ 0 → ⊥
-code-not-0 k ts c e =
-    absurd
-    (let z : _≡_ {A = Bool} false true = ap (λ n. not (eqb n 0)) (sym e) ∙ and-eq-true-iff (not (eqb k 0)) (codes ts) .0 c .0 in
-    let n : _≡_ {A = ℕ} 0 1 = cc in
-    omega (arith, n))
-
--- they lead to a refusal with a code, or to the plan behind them
+-- tests lead to a refusal with a code, or to the plan behind them
 abbrev pub Either : Tests ℕ → Plan → Type 0
 Either ts p = ((k : ℕ) × (unless ts refuse p ≡ refuse k) × (k ≡ 0 → ⊥)) ⊎ (unless ts refuse p ≡ p)
 

@@ -1,1 +1,3 @@
 pub mod Script
+pub mod Strict
+pub mod Records

@@ -1,12 +1,10 @@
--- Rows of 16 little-endian words: a message, an event or a command, its kind and then its fields. A kind above the last reads as the last, and another code that no case has as the first.
+-- Rows of 16 little-endian words: a message or an event, its kind and then its fields. A kind above the last reads as the last, and another code that no case has as the first.
 use Prim.Native.Nat.{ℕ, _*_, _%_}
 use mathlib.Core.Bool.{cond}
 use mathlib.Core.List.{List}
 use lib.Dec.{eqb}
 use lib.IntN.{ℤ}
 use lib.ListN.{length}
-use Rattle.orderbook.specs.declared.Command.{Command}
-use Rattle.orderbook.specs.declared.Command.the-variants as Cmd
 use Rattle.orderbook.specs.declared.Event.{Event}
 use Rattle.orderbook.specs.declared.Event.the-variants as Ev
 use Rattle.orderbook.specs.declared.CancelReason as CancelReason
@@ -141,29 +139,3 @@ event-by k xs =
 
 unfoldable pub event-of : List ℕ → Event
 event-of xs = event-by (word-at xs 0) xs
-
--- ---- commands, in the cells of a row of the batch; a phase change has its phase in that of the side
-
-abbrev pub limit-order : List ℕ → Command
-limit-order xs =
-    Cmd.Limit (word-at xs 1) (small-at xs 2) (side (word-at xs 3)) (price-at xs 4) (word-at xs 5) (tif-at xs) (maybe-qty (word-at xs 7) (word-at xs 8))
-
-abbrev pub market-order : List ℕ → Command
-market-order xs = Cmd.Market (word-at xs 1) (small-at xs 2) (side (word-at xs 3)) (word-at xs 5)
-
-abbrev pub modify-order : List ℕ → Command
-modify-order xs = Cmd.Modify (word-at xs 1) (small-at xs 2) (price-at xs 4) (word-at xs 5)
-
-abbrev pub stop-order : List ℕ → Command
-stop-order xs = Cmd.Stop (word-at xs 1) (small-at xs 2) (side (word-at xs 3)) (price-at xs 9) (maybe-price (word-at xs 10) (word-at xs 11)) (word-at xs 5)
-
-abbrev pub command-by : ℕ → List ℕ → Command
-command-by k xs =
-    cond (eqb k 0) (limit-order xs)
-    (cond (eqb k 1) (market-order xs)
-    (cond (eqb k 2) (Cmd.Cancel (word-at xs 1) (small-at xs 2))
-    (cond (eqb k 3) (modify-order xs)
-    (cond (eqb k 4) (stop-order xs) (cond (eqb k 5) (Cmd.CancelAll (small-at xs 2)) (Cmd.SetPhase (phase-at xs 3)))))))
-
-unfoldable pub command-of : List ℕ → Command
-command-of xs = command-by (word-at xs 0) xs

@@ -1,6 +1,9 @@
-// Messages, events and commands in rows of 16 little-endian words: the kind, then the fields in their order.
+// Messages, events, commands and accounts in rows of little-endian words, each with a test of whether a row is one. The readers take any row;
+// the entry points test it first. A message and an event have 16 words: the kind, then the fields in their order.
+pub mod records;
+pub mod strict;
+
 use orderbook::CancelReason;
-use orderbook::Command;
 use orderbook::Event;
 use orderbook::MaybePrice;
 use orderbook::MaybeQty;
@@ -17,51 +20,51 @@ use protocol::codes::MaybePhase;
 use protocol::codes::MaybeRejectReason;
 use protocol::codes::MaybeTimeInForce;
 ghost use mathlib.Core.Path.{_≡_};
-ghost use Prim.Native.Nat.{_+_, _%_, _<_};
+ghost use Prim.Native.Nat.{_+_, _*_, _%_, _≤_};
 ghost use lib.ListN.{length};
 ghost use Rattle.store.specs.View.{side, maybe-price};
 ghost use Rattle.script.specs.Script as P;
-ghost use Rattle.script.specs.Script.{word-at, small-at, code-at, price-at, message-of, event-of, command-of};
+ghost use Rattle.script.specs.Script.{word-at, small-at, code-at, price-at, message-of, event-of};
 
 const TWO_32: u64 = 4_294_967_296;
 
 fn word(row: &[u8], i: usize) -> u64
-    requires { ⌜ (length (now row) ≡ 128) × (i < 16) ⌝ }
+    requires { ⌜ 8 * i + 8 ≤ length (now row) ⌝ }
     ensures { λ r. ⌜ r ≡ word-at (now (row .entry)) i ⌝ }
 {
     le::get_u64(row, 8 * i)
 }
 
 fn small(row: &[u8], i: usize) -> u32
-    requires { ⌜ (length (now row) ≡ 128) × (i < 16) ⌝ }
+    requires { ⌜ 8 * i + 8 ≤ length (now row) ⌝ }
     ensures { λ r. ⌜ r ≡ small-at (now (row .entry)) i ⌝ }
 {
     (word(row, i) % TWO_32) as u32
 }
 
 fn code(row: &[u8], i: usize) -> u8
-    requires { ⌜ (length (now row) ≡ 128) × (i < 16) ⌝ }
+    requires { ⌜ 8 * i + 8 ≤ length (now row) ⌝ }
     ensures { λ r. ⌜ r ≡ code-at (now (row .entry)) i ⌝ }
 {
     (word(row, i) % 256) as u8
 }
 
 fn side(row: &[u8], i: usize) -> Side
-    requires { ⌜ (length (now row) ≡ 128) × (i < 16) ⌝ }
+    requires { ⌜ 8 * i + 8 ≤ length (now row) ⌝ }
     ensures { λ r. ⌜ r ≡ side (word-at (now (row .entry)) i) ⌝ }
 {
     store::side_of(word(row, i))
 }
 
 fn price(row: &[u8], i: usize) -> i64
-    requires { ⌜ (length (now row) ≡ 128) × (i < 16) ⌝ }
+    requires { ⌜ 8 * i + 8 ≤ length (now row) ⌝ }
     ensures { λ r. ⌜ r ≡ price-at (now (row .entry)) i ⌝ }
 {
     words::to_i64(word(row, i))
 }
 
 fn maybe_price(row: &[u8], i: usize) -> MaybePrice
-    requires { ⌜ (length (now row) ≡ 128) × (i < 15) ⌝ }
+    requires { ⌜ 8 * i + 16 ≤ length (now row) ⌝ }
     ensures { λ r. ⌜ r ≡ maybe-price (word-at (now (row .entry)) i) (word-at (now (row .entry)) (i + 1)) ⌝ }
 {
     if word(row, i) == 0 {
@@ -71,7 +74,7 @@ fn maybe_price(row: &[u8], i: usize) -> MaybePrice
 }
 
 fn maybe_qty(row: &[u8], i: usize) -> MaybeQty
-    requires { ⌜ (length (now row) ≡ 128) × (i < 15) ⌝ }
+    requires { ⌜ 8 * i + 16 ≤ length (now row) ⌝ }
     ensures { λ r. ⌜ r ≡ P.maybe-qty (word-at (now (row .entry)) i) (word-at (now (row .entry)) (i + 1)) ⌝ }
 {
     if word(row, i) == 0 {
@@ -83,7 +86,7 @@ fn maybe_qty(row: &[u8], i: usize) -> MaybeQty
 // ---- messages
 
 fn tif(row: &[u8]) -> TimeInForce
-    requires { ⌜ length (now row) ≡ 128 ⌝ }
+    requires { ⌜ 56 ≤ length (now row) ⌝ }
     ensures { λ r. ⌜ r ≡ P.tif-at (now (row .entry)) ⌝ }
 {
     match codes::tif_of(code(row, 6)) {
@@ -204,7 +207,7 @@ fn cancel_reason(row: &[u8]) -> CancelReason
 }
 
 fn phase(row: &[u8], i: usize) -> Phase
-    requires { ⌜ (length (now row) ≡ 128) × (i < 16) ⌝ }
+    requires { ⌜ 8 * i + 8 ≤ length (now row) ⌝ }
     ensures { λ r. ⌜ r ≡ P.phase-at (now (row .entry)) i ⌝ }
 {
     match codes::phase_of(code(row, i)) {
@@ -319,89 +322,6 @@ pub fn event(row: &[u8]) -> Event
         },
         _ => Event::PhaseChanged {
             phase: phase(row, 1),
-        },
-    }
-}
-
-// ---- commands
-
-fn limit_order(row: &[u8]) -> Command
-    requires { ⌜ length (now row) ≡ 128 ⌝ }
-    ensures { λ r. ⌜ r ≡ P.limit-order (now (row .entry)) ⌝ }
-{
-    let side = side(row, 3);
-    let tif = tif(row);
-    let display = maybe_qty(row, 7);
-    Command::Limit {
-        id: word(row, 1),
-        owner: small(row, 2),
-        side,
-        price: price(row, 4),
-        qty: word(row, 5),
-        tif,
-        display,
-    }
-}
-
-fn market_order(row: &[u8]) -> Command
-    requires { ⌜ length (now row) ≡ 128 ⌝ }
-    ensures { λ r. ⌜ r ≡ P.market-order (now (row .entry)) ⌝ }
-{
-    let side = side(row, 3);
-    Command::Market {
-        id: word(row, 1),
-        owner: small(row, 2),
-        side,
-        qty: word(row, 5),
-    }
-}
-
-fn modify_order(row: &[u8]) -> Command
-    requires { ⌜ length (now row) ≡ 128 ⌝ }
-    ensures { λ r. ⌜ r ≡ P.modify-order (now (row .entry)) ⌝ }
-{
-    Command::Modify {
-        id: word(row, 1),
-        owner: small(row, 2),
-        price: price(row, 4),
-        qty: word(row, 5),
-    }
-}
-
-fn stop_order(row: &[u8]) -> Command
-    requires { ⌜ length (now row) ≡ 128 ⌝ }
-    ensures { λ r. ⌜ r ≡ P.stop-order (now (row .entry)) ⌝ }
-{
-    let side = side(row, 3);
-    let limit = maybe_price(row, 10);
-    Command::Stop {
-        id: word(row, 1),
-        owner: small(row, 2),
-        side,
-        trigger: price(row, 9),
-        limit,
-        qty: word(row, 5),
-    }
-}
-
-pub fn command(row: &[u8]) -> Command
-    requires { ⌜ length (now row) ≡ 128 ⌝ }
-    ensures { λ r. ⌜ r ≡ command-of (now (row .entry)) ⌝ }
-{
-    match word(row, 0) {
-        0 => limit_order(row),
-        1 => market_order(row),
-        2 => Command::Cancel {
-            id: word(row, 1),
-            owner: small(row, 2),
-        },
-        3 => modify_order(row),
-        4 => stop_order(row),
-        5 => Command::CancelAll {
-            owner: small(row, 2),
-        },
-        _ => Command::SetPhase {
-            phase: phase(row, 3),
         },
     }
 }

@@ -75,7 +75,7 @@ getD-any (x ∷ l) zero d f h = refl
 getD-any (x ∷ l) (suc i) d f h = getD-any l i d f (omega arith)
 
 module _ (xs : List ℕ) (j : ℕ) where
-  row-live : j < rows xs → getD (map live (listing xs)) j no-order ≡ live (row xs j)
+  pub row-live : j < rows xs → getD (map live (listing xs)) j no-order ≡ live (row xs j)
   row-live h =
       getD-any (map live (listing xs)) j no-order (live (row xs j)) (rw (length-map (listing xs) live, rows-are xs) h)
       ∙ List·getD-map live (listing xs) j (row xs j) ∙ ap live (listed-at (row xs) (rows xs) j (row xs j) h)

@@ -1,0 +1,190 @@
+-- An entry point answers as its call does, or 11 and nothing changed. Assumes nothing.
+use Prim.Native.Nat.{ℕ, suc, _+_, _-_, _*_, _%_, _≤_}
+use mathlib.Core.Path.{_≡_, refl, sym, ap, subst, _∙_}
+use mathlib.Core.Bool.{Bool, true, false, cond, _&&_, false≢true, and-eq-true-iff}
+use mathlib.Core.Option.{Option, none, some}
+use mathlib.Core.List.{List}
+use native.Mathlib.Omega.{arith}
+use borrow.Author.Needs.{needs}
+use borrow.Author.Tests.{eq-eqb, ne-eqb, eqb-true}
+use lib.Dec.{eqb}
+use lib.ListN.{length}
+use Rattle.orderbook.specs.declared.Side.{Side}
+use Rattle.orderbook.specs.declared.Event.{Event}
+use Rattle.orderbook.specs.declared.Command.{Command}
+use Rattle.protocol.specs.declared.Inbound.{Inbound}
+use Rattle.protocol.specs.declared.LogoutReason.{LogoutReason}
+use Rattle.protocol.specs.declared.codes.MaybeLogoutReason as M
+use Rattle.protocol.specs.Codes.{logoutOf}
+use Rattle.accounts.specs.declared.Account.{Account}
+use Rattle.risk.specs.declared.MaybePercent as Percent
+use Rattle.risk.specs.Collar.{percent-of}
+use Rattle.gateway.specs.Limits.{malformed}
+use Rattle.gateway.specs.Rest.{Mail}
+use Rattle.gateway.specs.Entry.{Answer, nothing, account-was, wallet-is}
+use Rattle.gateway.specs.Calls as C
+use Rattle.gateway.specs.Calls.{Call, call, Outcome, refused}
+use Rattle.store.specs.Layout.{cell, cells, Holds}
+use Rattle.store.specs.View as View
+use Rattle.store.specs.View.{gateway, maybe}
+use Rattle.outcome.specs.Between.{Between}
+use Rattle.outcome.specs.Answers.{Ends, Answers, Said}
+use Rattle.protocol.specs.declared.Balance.{Balance}
+use Rattle.balances.specs.declared.MaybeBalance as Ba
+use Rattle.balances.specs.Balances.{maybe-balance}
+use Rattle.commands.specs.declared.MaybeId as Id
+use Rattle.commands.specs.Commands.{maybe-id}
+use Rattle.listing.specs.Rows.{row-bytes, rows}
+use Rattle.script.specs.Script.{word-at, message-of, event-of}
+use Rattle.script.specs.Strict.{is-message, is-event, is-command, is-account, message-fits, event-fits, owned-fits, account-fits}
+use Rattle.script.specs.Records.{command-of, account-of}
+use Rattle.script.proofs.Tests.{both, both-no}
+use Rattle.edge.specs.declared.Wallet.{Wallet}
+use Rattle.edge.specs.declared.Account as A
+use Rattle.edge.specs.Entering.{Lent, whole, asked, Enters}
+use Rattle.edge.specs.Values.{is-reason, reason-or, wallet-in, no-wallet, IsWallet, account-in, IsAccount, entries-fit, is-listing}
+
+-- ---- the length
+
+pub is-whole-yes : (ok : Bool) (xs : List ℕ) → length xs ≡ 467200 → ok ≡ whole ok xs
+unfolding whole
+is-whole-yes ok xs h = rw (eq-eqb (length xs) 467200 h) refl
+
+pub is-whole-no : (ok : Bool) (xs : List ℕ) → (length xs ≡ 467200 → ⊥) → false ≡ whole ok xs
+unfolding whole
+is-whole-no ok xs h = rw (ne-eqb (length xs) 467200 h) refl
+
+module _ (xs : List ℕ) (b d : Bool) (e : b ≡ whole d xs) (t : b ≡ true) where
+  parts : (eqb (length xs) (8 * cells) ≡ true) × (d ≡ true)
+  unfolding whole
+  parts = and-eq-true-iff (eqb (length xs) (8 * cells)) d .0 (sym e ∙ t)
+
+  pub lent-between : Lent xs → Between xs
+  lent-between l = l .between (eqb-true (length xs) (8 * cells) (parts .0))
+
+-- a row of the right kind has its length
+sized : (n k : ℕ) (q : Bool) → (eqb n k && q) ≡ true → n ≡ k
+sized n k q e = eqb-true n k (and-eq-true-iff (eqb n k) q .0 e .0)
+
+module _ (ys : List ℕ) (b d : Bool) (xs : List ℕ) where
+  pub message-sized : d ≡ is-message xs → b ≡ whole d ys → b ≡ true → length xs ≡ 128
+  unfolding is-message
+  message-sized f e t = sized (length xs) 128 (message-fits (word-at xs 0) xs) (sym f ∙ parts ys b d e t .1)
+
+  pub event-sized : d ≡ is-event xs → b ≡ whole d ys → b ≡ true → length xs ≡ 128
+  unfolding is-event
+  event-sized f e t = sized (length xs) 128 (event-fits (word-at xs 0) xs) (sym f ∙ parts ys b d e t .1)
+
+  pub command-sized : d ≡ is-command xs → b ≡ whole d ys → b ≡ true → length xs ≡ 96
+  unfolding is-command
+  command-sized f e t = sized (length xs) 96 (owned-fits xs) (sym f ∙ parts ys b d e t .1)
+
+  pub account-sized : d ≡ is-account xs → b ≡ whole d ys → b ≡ true → length xs ≡ 56
+  unfolding is-account
+  account-sized f e t = sized (length xs) 56 (account-fits xs) (sym f ∙ parts ys b d e t .1)
+
+-- ---- the call, and its refusal
+
+module _ (xs : List ℕ) (b d ok : Bool) (kept : Type 0) (tells : Answer → List Mail → Type 0) (x : Call) (f : d ≡ ok) (e : b ≡ whole d xs) where
+  is : (c : Bool) → b ≡ c → asked ok xs x ≡ cond c (call (gateway (cell xs)) x) (refused malformed)
+  unfolding asked
+  is c t = ap (λ (z : Bool). cond z (call (gateway (cell xs)) x) (refused malformed)) (ap (λ (z : Bool). whole z xs) (sym f) ∙ sym e ∙ t)
+
+  pub entered : (code : ℕ) (ys : List ℕ) → b ≡ true → Answers (call (gateway (cell xs)) x) kept tells code xs ys → Enters (asked ok xs x) kept tells code xs ys
+  entered code ys t h =
+      record {
+        ends = subst (λ (o : Outcome). Ends o kept tells code xs ys) (sym (is true t)) (h .ends);
+        lent = record { between = λ k. h .between };
+      }
+
+  pub malformed-no : b ≡ false → Lent xs → kept → Enters (asked ok xs x) kept tells 11 xs xs
+  unfolding Ends
+  malformed-no t l k =
+      record {
+        ends = subst (λ (o : Outcome). Ends o kept tells 11 xs xs) (sym (is false t)) (record { code-is = refl; state-kept = refl; rest-kept = k });
+        lent = l;
+      }
+
+-- ---- a call whose argument was read
+
+module _ (xs ys : List ℕ) (b d ok : Bool) (kept : Type 0) (tells : Answer → List Mail → Type 0) (code : ℕ) (f : d ≡ ok) (e : b ≡ whole d xs) (t : b ≡ true) where
+  entered-as : (x y : Call) → x ≡ y → Answers (call (gateway (cell xs)) x) kept tells code xs ys → Enters (asked ok xs y) kept tells code xs ys
+  entered-as x y q h = subst (λ (z : Call). Enters (asked ok xs z) kept tells code xs ys) q (entered xs b d ok kept tells x f e code ys t h)
+
+  pub received : (s time room : ℕ) (row : List ℕ) (v : Inbound) → v ≡ message-of row → Answers (call (gateway (cell xs)) (C.receive-from s v time room)) kept tells code xs ys → Enters (asked ok xs (C.receive-from s (message-of row) time room)) kept tells code xs ys
+  received s time room row v q h = entered-as _ _ (ap (λ (z : Inbound). C.receive-from s z time room) q) h
+
+  pub delivered : (n room : ℕ) (row : List ℕ) (v : Event) → v ≡ event-of row → Answers (call (gateway (cell xs)) (C.deliver-event n v room)) kept tells code xs ys → Enters (asked ok xs (C.deliver-event n (event-of row) room)) kept tells code xs ys
+  delivered n room row v q h = entered-as _ _ (ap (λ (z : Event). C.deliver-event n z room) q) h
+
+  pub redelivered : (n : ℕ) (row : List ℕ) (v : Event) → v ≡ event-of row → Answers (call (gateway (cell xs)) (C.replay-event n v)) kept tells code xs ys → Enters (asked ok xs (C.replay-event n (event-of row))) kept tells code xs ys
+  redelivered n row v q h = entered-as _ _ (ap (C.replay-event n) q) h
+
+  pub replayed : (n : ℕ) (row : List ℕ) (v : Command) → v ≡ command-of row → Answers (call (gateway (cell xs)) (C.replay-command n v)) kept tells code xs ys → Enters (asked ok xs (C.replay-command n (command-of row))) kept tells code xs ys
+  replayed n row v q h = entered-as _ _ (ap (C.replay-command n) q) h
+
+  pub joined : (row : List ℕ) (v : Account) → v ≡ account-of row → Answers (call (gateway (cell xs)) (C.add-account v)) kept tells code xs ys → Enters (asked ok xs (C.add-account (account-of row))) kept tells code xs ys
+  joined row v q h = entered-as _ _ (ap C.add-account q) h
+
+  pub ended : (s why room : ℕ) (v : LogoutReason) → v ≡ reason-or (logoutOf why) → Answers (call (gateway (cell xs)) (C.end-session s v room)) kept tells code xs ys → Enters (asked ok xs (C.end-session s (reason-or (logoutOf why)) room)) kept tells code xs ys
+  ended s why room v q h = entered-as _ _ (ap (λ (z : LogoutReason). C.end-session s z room) q) h
+
+  pub levelled : (n room : ℕ) (v : Side) → v ≡ View.side n → Answers (call (gateway (cell xs)) (C.depth-levels v room)) kept tells code xs ys → Enters (asked ok xs (C.depth-levels (View.side n) room)) kept tells code xs ys
+  levelled n room v q h = entered-as _ _ (ap (λ (z : Side). C.depth-levels z room) q) h
+
+  pub collared : (n p : ℕ) (v : Percent.MaybePercent) → percent-of v ≡ maybe n p → Answers (call (gateway (cell xs)) (C.set-paper-collar (percent-of v))) kept tells code xs ys → Enters (asked ok xs (C.set-paper-collar (maybe n p))) kept tells code xs ys
+  collared n p v q h = entered-as _ _ (ap C.set-paper-collar q) h
+
+-- ---- values
+
+pub reason-yes : (why : ℕ) (m : M.MaybeLogoutReason) (x : LogoutReason) → m ≡ logoutOf why → m ≡ M.the-variants.Some x → true ≡ is-reason (logoutOf why)
+reason-yes why m x e f = rw (← e, f) refl
+
+pub reason-no : (why : ℕ) (m : M.MaybeLogoutReason) → m ≡ logoutOf why → m ≡ M.the-variants.None → false ≡ is-reason (logoutOf why)
+reason-no why m e f = rw (← e, f) refl
+
+pub listing-yes : (xs : List ℕ) (b : Bool) → length xs % 64 ≡ 0 → b ≡ entries-fit xs (rows xs) → b ≡ is-listing xs
+unfolding is-listing
+listing-yes xs b h f = rw (eq-eqb (length xs % 64) 0 h) f
+
+pub listing-no : (xs : List ℕ) → (length xs % 64 ≡ 0 → ⊥) → false ≡ is-listing xs
+unfolding is-listing
+listing-no xs h = rw (ne-eqb (length xs % 64) 0 h) refl
+
+pub some-balance : (v : Ba.MaybeBalance) (x : Balance) → v ≡ Ba.the-variants.Some x → maybe-balance v ≡ some x
+some-balance v x e = ap maybe-balance e
+
+pub no-balance : (v : Ba.MaybeBalance) (w : Wallet) → v ≡ Ba.the-variants.None → w ≡ no-wallet 0 → IsWallet v w
+no-balance v w e f = subst (IsWallet v) (sym f) (record { code-is = refl; same = ap maybe-balance e })
+
+pub some-id : (v : Id.MaybeId) (i : ℕ) → v ≡ Id.the-variants.Some i → maybe-id v ≡ some i
+some-id v i e = ap maybe-id e
+
+pub no-id : (v : Id.MaybeId) → v ≡ Id.the-variants.None → maybe-id v ≡ none
+no-id v e = ap maybe-id e
+
+pub no-percent : (n p : ℕ) → n ≡ 0 → percent-of Percent.the-variants.None ≡ maybe n p
+no-percent n p h = rw (eq-eqb n 0 h) refl
+
+pub a-percent : (n p : ℕ) → (n ≡ 0 → ⊥) → percent-of (Percent.the-variants.Some p) ≡ maybe n p
+a-percent n p h = rw (ne-eqb n 0 h) refl
+
+module _ (xs ys : List ℕ) (b : Bool) (e : b ≡ whole true xs) where
+  pub wallet-told : (a : ℕ) (v : Ba.MaybeBalance) (w : Wallet) → b ≡ true → IsWallet v w → Answers (call (gateway (cell xs)) (C.wallet a)) (Unit {0}) (Said (wallet-is (maybe-balance v))) 0 xs ys → Enters (asked true xs (C.wallet a)) (Unit {0}) (Said (wallet-is (wallet-in w))) (w .code) xs ys
+  wallet-told a v w t i h =
+      subst (λ (c : ℕ). Enters (asked true xs (C.wallet a)) (Unit {0}) (Said (wallet-is (wallet-in w))) c xs ys) (sym (i .code-is))
+      (subst (λ (o : _). Enters (asked true xs (C.wallet a)) (Unit {0}) (Said (wallet-is o)) 0 xs ys) (i .same)
+      (entered xs b true true (Unit {0}) (Said (wallet-is (maybe-balance v))) (C.wallet a) refl e 0 ys t h))
+
+  pub wallet-malformed : (a : ℕ) (w : Wallet) → b ≡ false → Lent xs → w ≡ no-wallet 11 → Enters (asked true xs (C.wallet a)) (Unit {0}) (Said (wallet-is (wallet-in w))) (w .code) xs xs
+  wallet-malformed a w t l q =
+      subst (λ (c : ℕ). Enters (asked true xs (C.wallet a)) (Unit {0}) (Said (wallet-is (wallet-in w))) c xs xs) (sym (ap (λ (z : Wallet). z .code) q))
+      (malformed-no xs b true true (Unit {0}) (Said (wallet-is (wallet-in w))) (C.wallet a) refl e t l tt)
+
+  pub account-told : (s : ℕ) (v : Id.MaybeId) (a : A.Account) → b ≡ true → IsAccount v a → Answers (call (gateway (cell xs)) (C.detach s)) (Unit {0}) (Said (account-was (maybe-id v))) 0 xs ys → Enters (asked true xs (C.detach s)) (Unit {0}) (Said (account-was (account-in a))) (a .code) xs ys
+  account-told s v a t i h =
+      subst (λ (c : ℕ). Enters (asked true xs (C.detach s)) (Unit {0}) (Said (account-was (account-in a))) c xs ys) (sym (i .code-is))
+      (subst (λ (o : Option ℕ). Enters (asked true xs (C.detach s)) (Unit {0}) (Said (account-was o)) 0 xs ys) (i .same)
+      (entered xs b true true (Unit {0}) (Said (account-was (maybe-id v))) (C.detach s) refl e 0 ys t h))
+
+pub ruleset laws = (needs, both, both-no, is-whole-yes, is-whole-no, lent-between, message-sized, event-sized, command-sized, account-sized, entered, malformed-no, received, delivered, redelivered, replayed, joined, ended, levelled, collared, reason-yes, reason-no, listing-yes, listing-no, some-balance, no-balance, some-id, no-id, no-percent, a-percent, wallet-told, wallet-malformed, account-told)

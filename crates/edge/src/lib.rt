@@ -1,0 +1,467 @@
+// The calls of document 01 for programs that link this library: the methods of `Exchange` of exchange.rs, on numbers and byte slices.
+// A slice arrives as its address and its length. Bytes that have not a state's length, a row of another length than its own, and a number outside
+// its enum or its integer type get 11 and change nothing. What the caller has to see to is document 01's premise alone (`Lent`).
+mod listings;
+
+use balances::MaybeBalance;
+use commands::MaybeId;
+use protocol::LogoutReason;
+use protocol::codes;
+use protocol::codes::MaybeLogoutReason;
+use risk::MaybePercent;
+ghost use mathlib.Core.Path.{_≡_};
+ghost use mathlib.Core.Bool.{true};
+ghost use Prim.Native.Nat.{_/_};
+ghost use lib.Dec.{leb};
+ghost use lib.ListN.{length, drop};
+ghost use Rattle.protocol.specs.Codes.{logoutOf};
+ghost use Rattle.risk.specs.Collar.{percent-of};
+ghost use Rattle.gateway.specs.Entry.{nothing, account-was, wallet-is, number-is};
+ghost use Rattle.gateway.specs.Calls as C;
+ghost use Rattle.store.specs.View as View;
+ghost use Rattle.mailbox.specs.Mailbox.{places};
+ghost use Rattle.listing.specs.Rows.{listing};
+ghost use Rattle.saved.specs.Contents.{order-section};
+ghost use Rattle.script.specs.Script.{message-of, event-of};
+ghost use Rattle.script.specs.Strict.{is-message, is-event, is-command, is-account};
+ghost use Rattle.script.specs.Records.{command-of, account-of};
+ghost use Rattle.edge.specs.Entering.{Lent, whole, asked, Gives, Lists, Writes, Says};
+ghost use Rattle.edge.specs.Values as P;
+
+// The refusal of what is not well formed.
+const MALFORMED: u64 = 11;
+
+// A code, and how many rows (of a checkpoint: bytes) were written.
+#[repr(C)]
+pub struct Reply {
+    pub code: u64,
+    pub count: usize,
+}
+
+// A code, and a number.
+#[repr(C)]
+pub struct Number {
+    pub code: u64,
+    pub number: u64,
+}
+
+// A code; whether there is an account, and which.
+#[repr(C)]
+pub struct Account {
+    pub code: u64,
+    pub there: u64,
+    pub account: u64,
+}
+
+// A code; whether there is a wallet, and what is in it and held.
+#[repr(C)]
+pub struct Wallet {
+    pub code: u64,
+    pub there: u64,
+    pub cash: i64,
+    pub position: i64,
+    pub cash_held: i64,
+    pub position_held: i64,
+}
+
+// Whether the bytes have a state's length, and what is lent beside them is well formed.
+fn is_whole(m: &[u8], ok: bool) -> bool
+    ensures { λ r. ⌜ r ≡ whole ok (now (m .entry)) ⌝ }
+{
+    if m.len() == store::SIZE {
+        return ok;
+    }
+    false
+}
+
+// ---- the state, read and set
+
+#[no_mangle]
+pub extern "C" fn rowanchess_last_seq(m: &[u8]) -> Number
+    requires { ⌜ Lent (now m) ⌝ }
+    ensures { λ r. ⌜ Says (number-is (r .number)) (asked true (now (m .entry)) C.last-seq) (r .code) (now (m .entry)) (now (m .entry)) ⌝ }
+{
+    if is_whole(m, true) {
+        return Number {
+            code: 0,
+            number: commands::last_seq(m),
+        };
+    }
+    Number {
+        code: MALFORMED,
+        number: 0,
+    }
+}
+
+fn wallet_of(b: MaybeBalance) -> Wallet
+    ensures { λ r. ⌜ P.IsWallet b r ⌝ }
+{
+    match b {
+        MaybeBalance::Some(x) => Wallet {
+            code: 0,
+            there: 1,
+            cash: x.cash,
+            position: x.position,
+            cash_held: x.cash_held,
+            position_held: x.position_held,
+        },
+        MaybeBalance::None => no_wallet(0),
+    }
+}
+
+fn no_wallet(code: u64) -> Wallet
+    ensures { λ r. ⌜ r ≡ P.no-wallet code ⌝ }
+{
+    Wallet {
+        code,
+        there: 0,
+        cash: 0,
+        position: 0,
+        cash_held: 0,
+        position_held: 0,
+    }
+}
+
+#[no_mangle]
+pub extern "C" fn rowanchess_wallet(m: &[u8], account: u32) -> Wallet
+    requires { ⌜ Lent (now m) ⌝ }
+    ensures { λ r. ⌜ Says (wallet-is (P.wallet-in r)) (asked true (now (m .entry)) (C.wallet account)) (r .code) (now (m .entry)) (now (m .entry)) ⌝ }
+{
+    if is_whole(m, true) {
+        let b = balances::wallet(m, account);
+        return wallet_of(b);
+    }
+    no_wallet(MALFORMED)
+}
+
+// The levels of a side, best price first: rows of 3 words. A side is 0 for buy, 1 for sell.
+#[no_mangle]
+pub extern "C" fn rowanchess_levels(m: &[u8], side: u64, out: &mut [u8]) -> Reply
+    requires { ⌜ Lent (now m) ⌝ }
+    ensures { λ r. ⌜ Lists 24 (asked (leb side 1) (now (m .entry)) (C.depth-levels (View.side side) (length (now (out .entry)) / 24))) r (now (m .entry)) (now (m .entry)) (now (out .entry)) (now (out .exit)) ⌝ }
+{
+    if is_whole(m, side <= 1) {
+        let s = store::side_of(side);
+        let r = depth::levels(m, s, out);
+        return Reply {
+            code: r.code,
+            count: r.count,
+        };
+    }
+    Reply {
+        code: MALFORMED,
+        count: 0,
+    }
+}
+
+fn percent_of(there: u64, percent: u32) -> MaybePercent
+    ensures { λ r. ⌜ percent-of r ≡ View.maybe there percent ⌝ }
+{
+    if there == 0 {
+        return MaybePercent::None;
+    }
+    MaybePercent::Some(percent)
+}
+
+// `there` is 0 for no collar, else 1.
+#[no_mangle]
+pub extern "C" fn rowanchess_set_paper_collar(m: &mut [u8], there: u64, percent: u32) -> u64
+    requires { ⌜ Lent (now m) ⌝ }
+    ensures { λ r. ⌜ Says nothing (asked (leb there 1) (now (m .entry)) (C.set-paper-collar (View.maybe there percent))) r (now (m .entry)) (now (m .exit)) ⌝ }
+{
+    if is_whole(m, there <= 1) {
+        let p = percent_of(there, percent);
+        orderentry::collar::set_paper_collar(m, p);
+        return 0;
+    }
+    MALFORMED
+}
+
+// ---- sessions
+
+#[no_mangle]
+pub extern "C" fn rowanchess_connect(m: &mut [u8], session: usize, time: u64) -> u64
+    requires { ⌜ Lent (now m) ⌝ }
+    ensures { λ r. ⌜ Says nothing (asked true (now (m .entry)) (C.connect session time)) r (now (m .entry)) (now (m .exit)) ⌝ }
+{
+    if is_whole(m, true) {
+        return sessions::connect(m, session, time);
+    }
+    MALFORMED
+}
+
+// `row` is a message.
+#[no_mangle]
+pub extern "C" fn rowanchess_receive(m: &mut [u8], session: usize, row: &[u8], time: u64, out: &mut [u8]) -> Reply
+    requires { ⌜ Lent (now m) ⌝ }
+    ensures { λ r. ⌜ Gives (asked (is-message (now (row .entry))) (now (m .entry)) (C.receive-from session (message-of (now (row .entry))) time (places (length (now (out .entry)))))) r (now (m .entry)) (now (m .exit)) (now (out .entry)) (now (out .exit)) ⌝ }
+{
+    if is_whole(m, script::strict::is_message(row)) {
+        let message = script::message(row);
+        let r = exchange::receive(m, session, message, time, out);
+        return Reply {
+            code: r.code,
+            count: r.count,
+        };
+    }
+    Reply {
+        code: MALFORMED,
+        count: 0,
+    }
+}
+
+#[no_mangle]
+pub extern "C" fn rowanchess_tick(m: &mut [u8], time: u64, out: &mut [u8]) -> Reply
+    requires { ⌜ Lent (now m) ⌝ }
+    ensures { λ r. ⌜ Gives (asked true (now (m .entry)) (C.tick time (places (length (now (out .entry)))))) r (now (m .entry)) (now (m .exit)) (now (out .entry)) (now (out .exit)) ⌝ }
+{
+    if is_whole(m, true) {
+        let r = ticks::tick(m, time, out);
+        return Reply {
+            code: r.code,
+            count: r.count,
+        };
+    }
+    Reply {
+        code: MALFORMED,
+        count: 0,
+    }
+}
+
+#[no_mangle]
+pub extern "C" fn rowanchess_publish(m: &mut [u8], out: &mut [u8]) -> Reply
+    requires { ⌜ Lent (now m) ⌝ }
+    ensures { λ r. ⌜ Gives (asked true (now (m .entry)) (C.publish (places (length (now (out .entry)))))) r (now (m .entry)) (now (m .exit)) (now (out .entry)) (now (out .exit)) ⌝ }
+{
+    if is_whole(m, true) {
+        let r = feed::publish(m, out);
+        return Reply {
+            code: r.code,
+            count: r.count,
+        };
+    }
+    Reply {
+        code: MALFORMED,
+        count: 0,
+    }
+}
+
+fn is_reason(why: u8) -> bool
+    ensures { λ r. ⌜ r ≡ P.is-reason (logoutOf why) ⌝ }
+{
+    match codes::logout_of(why) {
+        MaybeLogoutReason::Some(_) => true,
+        MaybeLogoutReason::None => false,
+    }
+}
+
+fn reason(why: u8) -> LogoutReason
+    ensures { λ r. ⌜ r ≡ P.reason-or (logoutOf why) ⌝ }
+{
+    match codes::logout_of(why) {
+        MaybeLogoutReason::Some(x) => x,
+        MaybeLogoutReason::None => LogoutReason::Requested,
+    }
+}
+
+// `why` is the code of a reason to log out.
+#[no_mangle]
+pub extern "C" fn rowanchess_end(m: &mut [u8], session: usize, why: u8, out: &mut [u8]) -> Reply
+    requires { ⌜ Lent (now m) ⌝ }
+    ensures { λ r. ⌜ Gives (asked (P.is-reason (logoutOf why)) (now (m .entry)) (C.end-session session (P.reason-or (logoutOf why)) (places (length (now (out .entry)))))) r (now (m .entry)) (now (m .exit)) (now (out .entry)) (now (out .exit)) ⌝ }
+{
+    if is_whole(m, is_reason(why)) {
+        let x = reason(why);
+        let r = sessions::end(m, session, x, out);
+        return Reply {
+            code: r.code,
+            count: r.count,
+        };
+    }
+    Reply {
+        code: MALFORMED,
+        count: 0,
+    }
+}
+
+#[no_mangle]
+pub extern "C" fn rowanchess_shut_down(m: &mut [u8], out: &mut [u8]) -> Reply
+    requires { ⌜ Lent (now m) ⌝ }
+    ensures { λ r. ⌜ Gives (asked true (now (m .entry)) (C.shut-down (places (length (now (out .entry)))))) r (now (m .entry)) (now (m .exit)) (now (out .entry)) (now (out .exit)) ⌝ }
+{
+    if is_whole(m, true) {
+        let r = sessions::shut_down(m, out);
+        return Reply {
+            code: r.code,
+            count: r.count,
+        };
+    }
+    Reply {
+        code: MALFORMED,
+        count: 0,
+    }
+}
+
+#[no_mangle]
+pub extern "C" fn rowanchess_disconnect(m: &mut [u8], session: usize) -> u64
+    requires { ⌜ Lent (now m) ⌝ }
+    ensures { λ r. ⌜ Says nothing (asked true (now (m .entry)) (C.disconnect session)) r (now (m .entry)) (now (m .exit)) ⌝ }
+{
+    if is_whole(m, true) {
+        return commands::disconnect(m, session);
+    }
+    MALFORMED
+}
+
+fn account_of(a: MaybeId) -> Account
+    ensures { λ r. ⌜ P.IsAccount a r ⌝ }
+{
+    match a {
+        MaybeId::Some(id) => Account {
+            code: 0,
+            there: 1,
+            account: id as u64,
+        },
+        MaybeId::None => Account {
+            code: 0,
+            there: 0,
+            account: 0,
+        },
+    }
+}
+
+#[no_mangle]
+pub extern "C" fn rowanchess_detach(m: &mut [u8], session: usize) -> Account
+    requires { ⌜ Lent (now m) ⌝ }
+    ensures { λ r. ⌜ Says (account-was (P.account-in r)) (asked true (now (m .entry)) (C.detach session)) (r .code) (now (m .entry)) (now (m .exit)) ⌝ }
+{
+    if is_whole(m, true) {
+        let a = commands::detach(m, session);
+        return account_of(a);
+    }
+    Account {
+        code: MALFORMED,
+        there: 0,
+        account: 0,
+    }
+}
+
+// ---- the engine
+
+#[no_mangle]
+pub extern "C" fn rowanchess_take_batch(m: &mut [u8], out: &mut [u8]) -> Reply
+    requires { ⌜ Lent (now m) ⌝ }
+    ensures { λ r. ⌜ Lists 96 (asked true (now (m .entry)) (C.take-batch (places (length (now (out .entry)))))) r (now (m .entry)) (now (m .exit)) (now (out .entry)) (now (out .exit)) ⌝ }
+{
+    if is_whole(m, true) {
+        let r = commands::take_batch(m, out);
+        return Reply {
+            code: r.code,
+            count: r.count,
+        };
+    }
+    Reply {
+        code: MALFORMED,
+        count: 0,
+    }
+}
+
+// `row` is an event of the command `n`.
+#[no_mangle]
+pub extern "C" fn rowanchess_deliver(m: &mut [u8], n: u64, row: &[u8], out: &mut [u8]) -> Reply
+    requires { ⌜ Lent (now m) ⌝ }
+    ensures { λ r. ⌜ Gives (asked (is-event (now (row .entry))) (now (m .entry)) (C.deliver-event n (event-of (now (row .entry))) (places (length (now (out .entry)))))) r (now (m .entry)) (now (m .exit)) (now (out .entry)) (now (out .exit)) ⌝ }
+{
+    if is_whole(m, script::strict::is_event(row)) {
+        let e = script::event(row);
+        let r = deliver::deliver(m, n, e, out);
+        return Reply {
+            code: r.code,
+            count: r.count,
+        };
+    }
+    Reply {
+        code: MALFORMED,
+        count: 0,
+    }
+}
+
+// ---- restarting
+
+// `row` is an account.
+#[no_mangle]
+pub extern "C" fn rowanchess_add_account(m: &mut [u8], row: &[u8]) -> u64
+    requires { ⌜ Lent (now m) ⌝ }
+    ensures { λ r. ⌜ Says nothing (asked (is-account (now (row .entry))) (now (m .entry)) (C.add-account (account-of (now (row .entry))))) r (now (m .entry)) (now (m .exit)) ⌝ }
+{
+    if is_whole(m, script::strict::is_account(row)) {
+        let a = script::records::account(row);
+        return joining::add_account(m, a);
+    }
+    MALFORMED
+}
+
+// `row` is the command `n`.
+#[no_mangle]
+pub extern "C" fn rowanchess_replay_command(m: &mut [u8], n: u64, row: &[u8]) -> u64
+    requires { ⌜ Lent (now m) ⌝ }
+    ensures { λ r. ⌜ Says nothing (asked (is-command (now (row .entry))) (now (m .entry)) (C.replay-command n (command-of (now (row .entry))))) r (now (m .entry)) (now (m .exit)) ⌝ }
+{
+    if is_whole(m, script::strict::is_command(row)) {
+        let k = script::records::command(row);
+        return replay::replay_command(m, n, k);
+    }
+    MALFORMED
+}
+
+// `row` is an event of the command `n`.
+#[no_mangle]
+pub extern "C" fn rowanchess_replay_event(m: &mut [u8], n: u64, row: &[u8]) -> u64
+    requires { ⌜ Lent (now m) ⌝ }
+    ensures { λ r. ⌜ Says nothing (asked (is-event (now (row .entry))) (now (m .entry)) (C.replay-event n (event-of (now (row .entry))))) r (now (m .entry)) (now (m .exit)) ⌝ }
+{
+    if is_whole(m, script::strict::is_event(row)) {
+        let e = script::event(row);
+        return redelivery::replay_event(m, n, e);
+    }
+    MALFORMED
+}
+
+// `list` is a book listing: rows of 8 words.
+#[no_mangle]
+pub extern "C" fn rowanchess_finish(m: &mut [u8], list: &[u8]) -> u64
+    requires { ⌜ Lent (now m) ⌝ }
+    ensures { λ r. ⌜ Says nothing (asked (P.is-listing (now (list .entry))) (now (m .entry)) (C.finish (listing (now (list .entry))))) r (now (m .entry)) (now (m .exit)) ⌝ }
+{
+    if is_whole(m, listings::is_listing(list)) {
+        return finish::finish(m, list);
+    }
+    MALFORMED
+}
+
+// The bytes of a checkpoint, at the front of `out`.
+#[no_mangle]
+pub extern "C" fn rowanchess_checkpoint(m: &[u8], out: &mut [u8]) -> Reply
+    requires { ⌜ Lent (now m) ⌝ }
+    ensures { λ r. ⌜ Writes (asked true (now (m .entry)) (C.checkpoint (length (now (out .entry))))) r (now (m .entry)) (now (m .entry)) (now (out .entry)) (now (out .exit)) ⌝ }
+{
+    if is_whole(m, true) {
+        let r = checkpoint::checkpoint(m, out);
+        return Reply {
+            code: r.code,
+            count: r.count,
+        };
+    }
+    Reply {
+        code: MALFORMED,
+        count: 0,
+    }
+}
+
+// Where the order section of a checkpoint's bytes starts; it goes to their end. The end itself where they are no checkpoint.
+#[no_mangle]
+pub extern "C" fn rowanchess_order_section(bytes: &[u8]) -> usize
+    ensures { λ r. ⌜ drop r (now (bytes .entry)) ≡ order-section (now (bytes .entry)) ⌝ }
+{
+    bytes.len() - saved::order_section(bytes).len()
+}
