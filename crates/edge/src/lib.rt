@@ -192,7 +192,13 @@ pub extern "C" fn rowanchess_connect(m: &mut [u8], session: usize, time: u64) ->
 
 // `row` is a message.
 #[no_mangle]
-pub extern "C" fn rowanchess_receive(m: &mut [u8], session: usize, row: &[u8], time: u64, out: &mut [u8]) -> Reply
+pub extern "C" fn rowanchess_receive(
+    m: &mut [u8],
+    session: usize,
+    row: &[u8],
+    time: u64,
+    out: &mut [u8],
+) -> Reply
     requires { ⌜ Lent (now m) ⌝ }
     ensures { λ r. ⌜ Gives (asked (is-message (now (row .entry))) (now (m .entry)) (C.receive-from session (message-of (now (row .entry))) time (places (length (now (out .entry)))))) r (now (m .entry)) (now (m .exit)) (now (out .entry)) (now (out .exit)) ⌝ }
 {

@@ -1,7 +1,8 @@
 -- The start: what was judged is what the definition judges, and what is written is the gateway that it begins with. Assumes nothing.
-use Prim.Native.Nat.{ℕ, suc, _≤_, _<_}
+use Prim.Native.Nat.{ℕ, _≤_, _<_}
 use mathlib.Core.Path.{_≡_, refl, sym, ap, subst, _∙_}
 use mathlib.Core.Bool.{Bool, true, false, cond, not}
+use mathlib.Core.Logic.{⊎-elim}
 use mathlib.Core.Option.{Option, none, some}
 use mathlib.Core.List.{List, [], _∷_}
 use native.Mathlib.Omega.{arith}
@@ -10,15 +11,15 @@ use lib.Dec.{eqb}
 use lib.ListN.{getD}
 use Rattle.accounts.specs.declared.Account.{Account}
 use Rattle.accounts.specs.declared.Timing.{Timing}
+use Rattle.table.proofs.Live.{same?}
 use Rattle.gateway.specs.Basics.{option, each, is-some}
 use Rattle.gateway.specs.Bytes.{decode}
 use Rattle.gateway.specs.Limits.{owner-slots, outside, malformed}
 use Rattle.gateway.specs.Core.{Pass}
 use Rattle.gateway.specs.Invariant.{Ok}
-use Rattle.gateway.specs.Ledger.{holds-fit}
 use Rattle.gateway.specs.Calls.{Gateway}
 use Rattle.gateway.specs.Saved.{Saved}
-use Rattle.gateway.specs.Start.{Started, not-started, started, accounts-of, all-below, restored-ledger, restore-tests, hold-notice-of, empty-depth, begin, restore-saved, restore}
+use Rattle.gateway.specs.Start.{Started, not-started, started, accounts-of, restored-ledger, restore-tests, hold-notice-of, empty-depth, begin, restore-saved, restore}
 use Rattle.gateway.proofs.Begin as Begin
 use Rattle.gateway.proofs.Begin.{restore-begins}
 use Rattle.gateway.proofs.Bytes.{decode-fits}
@@ -32,6 +33,7 @@ use Rattle.roster.specs.declared.Roster.{Roster}
 use Rattle.roster.specs.Rostered.{Numbered, Gathered}
 use Rattle.opening.specs.Opening.{present, Stands}
 use Rattle.opening.specs.Starts.{Starts, Begins}
+use Rattle.opening.proofs.Codes.{codes-append, verdict-append, restore-codes, passes, start-refused, start-accepted}
 use Rattle.opening.proofs.Tables.{present-table, gathered-table}
 use Rattle.saved.specs.Contents.{nothing, saved-of}
 use Rattle.saved.proofs.Decoded.{decoded}
@@ -39,7 +41,7 @@ use Rattle.saved.proofs.Laws.{all-bytes}
 use Rattle.totals.specs.Totals.{wallets-fit}
 use Rattle.refill.specs.Refill.{refilled, Fits, Empty}
 use Rattle.restore.specs.Judging.{entry-tests, roster-tests, code-of, restored, Restored}
-use Rattle.restore.proofs.Verdicts.{start-judged, verdict-append, codes-append, passes, entry-codes, order-late, order-above, order-fine, order-judged, owners-below, orders-inside, limit-above, account-above, wallet-above, orders-decide}
+use Rattle.restore.proofs.Verdicts.{entry-codes, order-late, order-above, order-fine, order-judged, owners-below, orders-inside, limit-above, account-above, wallet-above, orders-decide}
 use Rattle.restore.proofs.Rosters.{verdict-is}
 
 -- ---- judging
@@ -112,8 +114,15 @@ module _ (limit : ℕ) (timing : Timing) (r : Roster) (l : List Account) (h : Ga
   saved-is : (c : ℕ) (s : Saved) → c ≡ verdict (roster-tests limit r s) → restore-saved limit l timing s ≡ cond (eqb c 0) (started (restored limit timing l s)) (not-started c)
   unfolding restore-saved restored
   saved-is c s e =
-      start-judged (restore-tests limit l s) (restored limit timing l s) (codes-append (entry-tests limit (all-below limit l) s) ((outside, holds-fit (restored-ledger (accounts-of limit l) s)) ∷ []) (entry-codes limit (all-below limit l) s) refl)
-      ∙ ap (λ k. cond (eqb k 0) (started (restored limit timing l s)) (not-started k)) (verdict-is limit l r h s ∙ sym e)
+      let v : verdict (restore-tests limit l s) ≡ c = verdict-is limit l r h s ∙ sym e in
+      ⊎-elim
+      (λ (z : c ≡ 0).
+      start-accepted (restore-tests limit l s) (restored limit timing l s) (restore-codes limit l s) (v ∙ z)
+      ∙ sym (ap (λ b. cond b (started (restored limit timing l s)) (not-started c)) (eq-eqb c 0 z)))
+      (λ n.
+      start-refused (restore-tests limit l s) (restored limit timing l s) (restore-codes limit l s) (λ z. n (sym v ∙ z)) ∙ ap not-started v
+      ∙ sym (ap (λ b. cond b (started (restored limit timing l s)) (not-started c)) (ne-eqb c 0 n)))
+      (same? c 0)
 
   decoded-is : (c : ℕ) (o : Option Saved) → c ≡ cond (is-some o) (verdict (roster-tests limit r (option nothing (λ s. s) o))) malformed →
       option (not-started malformed) (restore-saved limit l timing) o ≡ cond (eqb c 0) (started (restored limit timing l (option nothing (λ s. s) o))) (not-started c)

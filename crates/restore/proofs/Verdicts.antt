@@ -2,7 +2,7 @@
 use Prim.Native.Nat.{ℕ, suc, _+_, _≤_, _<_}
 use mathlib.Core.Path.{_≡_, refl, sym, ap, ap₂, _∙_}
 use mathlib.Core.Bool.{Bool, true, false, cond, not, _&&_, and-eq-true-iff}
-use mathlib.Core.List.{List, [], _∷_, _++_}
+use mathlib.Core.List.{List, [], _∷_}
 use native.Mathlib.Numerals.{add-one}
 use native.Mathlib.Omega.{arith}
 use borrow.Author.Tests.{lt-ltb, le-ltb, ltb-true, lt-leb, le-leb, leb-true, eq-eqb, ne-eqb, not-true, not-false}
@@ -12,51 +12,20 @@ use lib.Seq.{drop-cons, drop-length}
 use Rattle.accounts.specs.declared.Funds.{Funds}
 use Rattle.table.specs.Live.{Each}
 use Rattle.gateway.specs.Limits.{owner-slots}
-use Rattle.gateway.specs.Core.{Tests, Pass}
+use Rattle.gateway.specs.Core.{Pass}
 use Rattle.gateway.specs.Ledger.{Order}
 use Rattle.gateway.specs.Invariant.{Inside}
 use Rattle.gateway.specs.Saved.{Saved}
-use Rattle.gateway.specs.Calls.{Gateway}
-use Rattle.gateway.specs.Start.{not-started, started, start-unless, wallets-below, order-tests}
+use Rattle.gateway.specs.Start.{wallets-below, order-tests}
 use Rattle.orders.specs.declared.Live.{Live}
 use Rattle.outcome.specs.Answers.{verdict}
 use Rattle.outcome.proofs.Calls.{codes}
+use Rattle.opening.proofs.Codes.{order-codes}
 use Rattle.saved.specs.declared.Purse.{Purse}
 use Rattle.saved.specs.Contents.{saved-of, wallet-of, wallet-at, no-wallet, order-at, no-order, Reads}
 use Rattle.restore.specs.Judging.{order-code, code-at, entry-tests}
 
--- ---- a list of tests; that no code is 0 is `codes`
-
-pub start-judged : (ts : Tests ℕ) (g : Gateway) → codes ts ≡ true → start-unless ts g ≡ cond (eqb (verdict ts) 0) (started g) (not-started (verdict ts))
-unfolding start-unless
-start-judged [] g e = refl
-start-judged ((k, true) ∷ ts) g e = start-judged ts g (and-eq-true-iff (not (eqb k 0)) (codes ts) .0 e .1)
-start-judged ((k, false) ∷ ts) g e = rw (not-true (eqb k 0) (and-eq-true-iff (not (eqb k 0)) (codes ts) .0 e .0)) refl
-
-pub verdict-append : (ts us : Tests ℕ) → codes ts ≡ true → verdict (ts ++ us) ≡ cond (eqb (verdict ts) 0) (verdict us) (verdict ts)
-verdict-append [] us e = refl
-verdict-append ((k, true) ∷ ts) us e = verdict-append ts us (and-eq-true-iff (not (eqb k 0)) (codes ts) .0 e .1)
-verdict-append ((k, false) ∷ ts) us e = rw (not-true (eqb k 0) (and-eq-true-iff (not (eqb k 0)) (codes ts) .0 e .0)) refl
-
-pub codes-append : (ts us : Tests ℕ) → codes ts ≡ true → codes us ≡ true → codes (ts ++ us) ≡ true
-codes-append [] us e f = f
-codes-append (t ∷ ts) us e f =
-    let p = and-eq-true-iff (not (eqb (t .0) 0)) (codes ts) .0 e in
-    ap₂ (λ x y. x && y) (p .0) (codes-append ts us (p .1) f)
-
-pub passes : (ts : Tests ℕ) → codes ts ≡ true → verdict ts ≡ 0 → Pass ts
-passes [] e v = tt
-passes ((k, true) ∷ ts) e v = (refl, passes ts (and-eq-true-iff (not (eqb k 0)) (codes ts) .0 e .1) v)
-passes ((k, false) ∷ ts) e v =
-    let z : eqb k 0 ≡ false = not-true (eqb k 0) (and-eq-true-iff (not (eqb k 0)) (codes ts) .0 e .0) in
-    let y : eqb k 0 ≡ true = eq-eqb k 0 v in
-    let w : _≡_ {A = Bool} true false = cc in
-    absurd (let q : _≡_ {A = ℕ} 0 1 = cc in omega (arith, q))
-
-pub order-codes : (limit last : ℕ) (os : List Order) → codes (order-tests limit last os) ≡ true
-order-codes limit last [] = refl
-order-codes limit last (o ∷ os) = order-codes limit last os
-
+-- no code is 0
 pub entry-codes : (limit : ℕ) (b : Bool) (s : Saved) → codes (entry-tests limit b s) ≡ true
 entry-codes limit b s = order-codes limit (s .last) (s .orders)
 
