@@ -1,0 +1,165 @@
+//! Times delivering on the proved library, on the published `Exchange` and on a plain Rust program over the standard library's maps, in one run,
+//! and prints a table. Nothing is asserted.
+
+mod draw;
+mod plain;
+mod proved;
+mod published;
+
+use std::hint::black_box;
+use std::time::{Duration, Instant};
+
+use orderbook::Event;
+
+use draw::{Book, EVENTS, Message, Turn};
+use plain::Plain;
+use proved::Proved;
+use published::Published;
+
+pub const TOKEN: u64 = 7;
+
+/// Timed rounds of one million events in all.
+const ROUNDS: usize = 25;
+const TURNS: usize = 1_000_000 / EVENTS / ROUNDS;
+
+/// Every other account has a wallet: cash and seats.
+pub fn funds(account: usize) -> Option<(i64, i64)> {
+    (account % 2 == 0).then_some((1 << 60, 1 << 60))
+}
+
+/// A gateway under test.
+pub trait Column {
+    fn receive(&mut self, session: usize, message: Message, now: u64);
+    fn take_batch(&mut self) -> usize;
+    fn deliver(&mut self, n: u64, event: Event);
+    /// How many messages were sent since the last publishing.
+    fn publish(&mut self) -> usize;
+    fn wallets(&self) -> Vec<[i64; 4]>;
+}
+
+/// What was spent in `deliver`, what in the whole loop, and how many messages were sent.
+#[derive(Default)]
+struct Spent {
+    deliver: Duration,
+    whole: Duration,
+    sent: usize,
+}
+
+/// As a host does: a batch of messages, their commands taken, their events delivered, then a publishing.
+fn run(column: &mut impl Column, turns: &[Turn], now: &mut u64) -> Spent {
+    let mut spent = Spent::default();
+    let start = Instant::now();
+    for turn in turns {
+        *now += 1_000_000;
+        for &(session, message) in &turn.messages {
+            column.receive(session, message, *now);
+        }
+        black_box(column.take_batch());
+        let from = Instant::now();
+        for &(n, event) in &turn.events {
+            column.deliver(n, event);
+        }
+        spent.deliver += from.elapsed();
+        spent.sent += column.publish();
+    }
+    spent.whole = start.elapsed();
+    spent
+}
+
+fn median(mut numbers: Vec<f64>) -> f64 {
+    numbers.sort_by(f64::total_cmp);
+    numbers[numbers.len() / 2]
+}
+
+/// Medians over the rounds, nanoseconds an event: of the proved library, the published `Exchange` and the plain program.
+struct Line {
+    deliver: [f64; 3],
+    whole: [f64; 3],
+}
+
+fn measure(live: usize, prices: u64) -> Line {
+    let mut book = Book::new(prices);
+    let (mut a, mut b, mut c) = (Proved::new(), Published::new(), Plain::new());
+    let mut clocks = [0u64; 3];
+    let mut sent = [0; 3];
+    let mut fills = Vec::new();
+    while book.orders.len() < live {
+        fills.push(book.fill((live - book.orders.len()).min(32)));
+    }
+    let warm: Vec<Turn> = (0..TURNS).map(|_| book.turn()).collect();
+    for turns in [&fills, &warm] {
+        sent[0] += run(&mut a, turns, &mut clocks[0]).sent;
+        sent[1] += run(&mut b, turns, &mut clocks[1]).sent;
+        sent[2] += run(&mut c, turns, &mut clocks[2]).sent;
+    }
+    let mut deliver: [Vec<f64>; 3] = Default::default();
+    let mut whole: [Vec<f64>; 3] = Default::default();
+    for round in 0..ROUNDS {
+        let turns: Vec<Turn> = (0..TURNS).map(|_| book.turn()).collect();
+        for k in 0..3 {
+            let at = (round + k) % 3;
+            let spent = match at {
+                0 => run(&mut a, &turns, &mut clocks[0]),
+                1 => run(&mut b, &turns, &mut clocks[1]),
+                _ => run(&mut c, &turns, &mut clocks[2]),
+            };
+            let events = (TURNS * EVENTS) as f64;
+            deliver[at].push(spent.deliver.as_nanos() as f64 / events);
+            whole[at].push(spent.whole.as_nanos() as f64 / events);
+            sent[at] += spent.sent;
+        }
+    }
+    let same = a.wallets() == b.wallets() && b.wallets() == c.wallets();
+    if a.refused != 0 || sent[0] != sent[1] || sent[1] != sent[2] || !same {
+        println!("the columns differ: {} refused, messages {sent:?}, wallets alike: {same}", a.refused);
+    }
+    Line {
+        deliver: deliver.map(median),
+        whole: whole.map(median),
+    }
+}
+
+/// The median of some calls, in microseconds.
+fn each(mut call: impl FnMut()) -> f64 {
+    let times = (0..101).map(|_| {
+        let start = Instant::now();
+        call();
+        start.elapsed().as_nanos() as f64 / 1_000.0
+    });
+    median(times.collect())
+}
+
+/// The calls of a restart at 1,024 live orders.
+fn restarting() {
+    let mut book = Book::new(2_000);
+    let mut a = Proved::new();
+    while book.orders.len() < 1_024 {
+        let turn = book.fill(32);
+        run(&mut a, &[turn], &mut 0);
+    }
+    let list = proved::listing(&book.orders);
+    let checkpoint = each(|| {
+        black_box(a.checkpoint());
+    });
+    let finish = each(|| a.finish(&list));
+    println!("\nAt 1,024 live orders: checkpoint {checkpoint:.1} µs, finish {finish:.1} µs ({} refused).\n", a.refused);
+}
+
+fn main() {
+    println!("| live orders | prices a side | part | proved, ns | published, ns | plain, ns | of the published | of the plain |");
+    println!("|---|---|---|---|---|---|---|---|");
+    let mut asked = None;
+    for (live, prices) in [(100, 120), (300, 120), (1_000, 120), (1_000, 2_000)] {
+        let live = live - live / 20;
+        let line = measure(live, prices);
+        for (part, [a, b, c]) in [("deliver", line.deliver), ("whole loop", line.whole)] {
+            println!("| {live} | {prices} | {part} | {a:.1} | {b:.1} | {c:.1} | {:.2} | {:.2} |", a / b, a / c);
+        }
+        if (live, prices) == (950, 120) {
+            asked = Some(line.deliver);
+        }
+    }
+    restarting();
+    let [a, b, c] = asked.expect("it was measured");
+    println!("deliver: {:.2} of the standard maps, {:.2} of the published Exchange", a / c, a / b);
+}
