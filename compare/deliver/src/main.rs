@@ -18,8 +18,8 @@ use published::Published;
 
 pub const TOKEN: u64 = 7;
 
-/// Timed rounds of one million events in all.
-const ROUNDS: usize = 25;
+/// Timed rounds of one million events in all. Many short ones: the other work of the machine then spoils few of them.
+const ROUNDS: usize = 625;
 const TURNS: usize = 1_000_000 / EVENTS / ROUNDS;
 
 /// Every other account has a wallet: cash and seats.
@@ -119,6 +119,51 @@ fn measure(live: usize, prices: u64) -> Line {
     }
 }
 
+const KINDS: [&str; 4] = ["accepted", "trade", "rested", "cancelled"];
+
+/// Nanoseconds of each event, by its place among the four of an order. A clock is read around each, and what that takes alone is taken off.
+fn by_kind(column: &mut impl Column, turns: &[Turn]) -> [f64; 4] {
+    let mut times: [Vec<f64>; 4] = Default::default();
+    let (mut now, mut alone) = (1 << 40, Vec::new());
+    for turn in turns {
+        now += 1_000_000;
+        for &(session, message) in &turn.messages {
+            column.receive(session, message, now);
+        }
+        black_box(column.take_batch());
+        for (place, &(n, event)) in turn.events.iter().enumerate() {
+            let from = Instant::now();
+            column.deliver(n, event);
+            times[place % 4].push(from.elapsed().as_nanos() as f64);
+            let from = Instant::now();
+            alone.push(from.elapsed().as_nanos() as f64);
+        }
+        black_box(column.publish());
+    }
+    let alone = median(alone);
+    times.map(|times| median(times) - alone)
+}
+
+fn kinds(live: usize, prices: u64) {
+    let mut book = Book::new(prices);
+    let mut turns = Vec::new();
+    while book.orders.len() < live {
+        turns.push(book.fill((live - book.orders.len()).min(32)));
+    }
+    let (mut a, mut b, mut c) = (Proved::new(), Published::new(), Plain::new());
+    run(&mut a, &turns, &mut 0);
+    run(&mut b, &turns, &mut 0);
+    run(&mut c, &turns, &mut 0);
+    let turns: Vec<Turn> = (0..4_000).map(|_| book.turn()).collect();
+    let (a, b, c) = (by_kind(&mut a, &turns), by_kind(&mut b, &turns), by_kind(&mut c, &turns));
+    println!("\nEach kind alone, {live} live orders, {prices} prices a side:\n");
+    println!("| event | proved, ns | published, ns | plain, ns |");
+    println!("|---|---|---|---|");
+    for (k, name) in KINDS.iter().enumerate() {
+        println!("| {name} | {:.0} | {:.0} | {:.0} |", a[k], b[k], c[k]);
+    }
+}
+
 /// The median of some calls, in microseconds.
 fn each(mut call: impl FnMut()) -> f64 {
     let times = (0..101).map(|_| {
@@ -159,6 +204,7 @@ fn main() {
             asked = Some(line.deliver);
         }
     }
+    kinds(950, 120);
     restarting();
     let [a, b, c] = asked.expect("it was measured");
     println!("deliver: {:.2} of the standard maps, {:.2} of the published Exchange", a / c, a / b);

@@ -59,6 +59,7 @@ impl Published {
             column.exchange.receive(session, login, 0, &mut column.mail);
             column.exchange.receive(session, Inbound::Subscribe, 0, &mut column.mail);
         }
+        column.mail.0.clear();
         column
     }
 }
