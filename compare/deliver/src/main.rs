@@ -156,7 +156,7 @@ fn kinds(live: usize, prices: u64) {
     run(&mut c, &turns, &mut 0);
     let turns: Vec<Turn> = (0..4_000).map(|_| book.turn()).collect();
     let (a, b, c) = (by_kind(&mut a, &turns), by_kind(&mut b, &turns), by_kind(&mut c, &turns));
-    println!("\nEach kind alone, {live} live orders, {prices} prices a side:\n");
+    println!("Each kind alone, {live} live orders, {prices} prices a side:\n");
     println!("| event | proved, ns | published, ns | plain, ns |");
     println!("|---|---|---|---|");
     for (k, name) in KINDS.iter().enumerate() {
@@ -183,27 +183,32 @@ fn restarting() {
         run(&mut a, &[turn], &mut 0);
     }
     let list = proved::listing(&book.orders);
+    let bytes = a.checkpoint();
     let checkpoint = each(|| {
         black_box(a.checkpoint());
     });
     let finish = each(|| a.finish(&list));
-    println!("\nAt 1,024 live orders: checkpoint {checkpoint:.1} µs, finish {finish:.1} µs ({} refused).\n", a.refused);
+    println!("\nAt 1,024 live orders: checkpoint {checkpoint:.1} µs ({bytes} bytes), finish {finish:.1} µs; {} refused.\n", a.refused);
 }
 
 fn main() {
     println!("| live orders | prices a side | part | proved, ns | published, ns | plain, ns | of the published | of the plain |");
     println!("|---|---|---|---|---|---|---|---|");
-    let mut asked = None;
+    let (mut asked, mut plot) = (None, String::new());
     for (live, prices) in [(100, 120), (300, 120), (1_000, 120), (1_000, 2_000)] {
         let live = live - live / 20;
         let line = measure(live, prices);
         for (part, [a, b, c]) in [("deliver", line.deliver), ("whole loop", line.whole)] {
             println!("| {live} | {prices} | {part} | {a:.1} | {b:.1} | {c:.1} | {:.2} | {:.2} |", a / b, a / c);
         }
+        let ratio = line.deliver[0] / line.deliver[2];
+        let bar = "#".repeat((40.0 * ratio) as usize);
+        plot += &format!("{live:>5} live, {prices:>5} prices  {bar} {ratio:.2}\n");
         if (live, prices) == (950, 120) {
             asked = Some(line.deliver);
         }
     }
+    println!("\nDelivering, proved / plain:\n\n{plot}");
     kinds(950, 120);
     restarting();
     let [a, b, c] = asked.expect("it was measured");
