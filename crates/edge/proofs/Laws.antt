@@ -59,8 +59,11 @@ module _ (xs : List ℕ) (b d : Bool) (e : b ≡ whole d xs) (t : b ≡ true) wh
   unfolding whole
   parts = and-eq-true-iff (eqb (length xs) (8 * cells)) d .0 (sym e ∙ t)
 
+  pub whole-holds : Holds xs
+  whole-holds = eqb-true (length xs) (8 * cells) (parts .0)
+
   pub lent-between : Lent xs → Between xs
-  lent-between l = l .between (eqb-true (length xs) (8 * cells) (parts .0))
+  lent-between l = l .between whole-holds
 
 -- a row of the right kind has its length
 sized : (n k : ℕ) (q : Bool) → (eqb n k && q) ≡ true → n ≡ k

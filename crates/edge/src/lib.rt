@@ -3,6 +3,7 @@
 // its enum or its integer type get 11 and change nothing. What the caller has to see to is document 01's premise alone (`Lent`).
 mod listings;
 
+use accounts::Timing;
 use balances::MaybeBalance;
 use commands::MaybeId;
 use protocol::LogoutReason;
@@ -11,6 +12,7 @@ use protocol::codes::MaybeLogoutReason;
 use risk::MaybePercent;
 ghost use mathlib.Core.Path.{_≡_};
 ghost use mathlib.Core.Bool.{true};
+ghost use mathlib.Core.List.{[]};
 ghost use Prim.Native.Nat.{_/_};
 ghost use lib.Dec.{leb};
 ghost use lib.ListN.{length, drop};
@@ -18,6 +20,8 @@ ghost use Rattle.protocol.specs.Codes.{logoutOf};
 ghost use Rattle.risk.specs.Collar.{percent-of};
 ghost use Rattle.gateway.specs.Entry.{nothing, account-was, wallet-is, number-is};
 ghost use Rattle.gateway.specs.Calls as C;
+ghost use Rattle.gateway.specs.Start.{set-up};
+ghost use Rattle.store.specs.Layout.{Holds};
 ghost use Rattle.store.specs.View as View;
 ghost use Rattle.mailbox.specs.Mailbox.{places};
 ghost use Rattle.listing.specs.Rows.{listing};
@@ -25,7 +29,8 @@ ghost use Rattle.saved.specs.Contents.{order-section};
 ghost use Rattle.script.specs.Script.{message-of, event-of};
 ghost use Rattle.script.specs.Strict.{is-message, is-event, is-command, is-account};
 ghost use Rattle.script.specs.Records.{command-of, account-of};
-ghost use Rattle.edge.specs.Entering.{Lent, whole, asked, Gives, Lists, Writes, Says};
+ghost use Rattle.opening.specs.Starts.{Starts};
+ghost use Rattle.edge.specs.Entering.{Lent, whole, begins, asked, Gives, Lists, Writes, Says};
 ghost use Rattle.edge.specs.Values as P;
 
 // The refusal of what is not well formed.
@@ -72,6 +77,44 @@ fn is_whole(m: &[u8], ok: bool) -> bool
         return ok;
     }
     false
+}
+
+// ---- the start
+
+fn begin(m: &mut [u8], limit: u64, last: u64, timing: Timing) -> u64
+    requires { ⌜ Holds (now m) ⌝ }
+    ensures { λ r. ⌜ Starts (set-up limit last [] [] timing) r (now (m .entry)) (now (m .exit)) ⌝ }
+{
+    if 256 < limit {
+        return outcome::FULL;
+    }
+    start::start(m, limit, last, timing);
+    0
+}
+
+// Set-up without accounts and orders: the bytes become a state. Accounts join by `rowanchess_add_account`.
+#[no_mangle]
+pub extern "C" fn rowanchess_begin(
+    m: &mut [u8],
+    limit: u64,
+    last: u64,
+    heartbeat: u64,
+    idle_timeout: u64,
+) -> u64
+    ensures { λ r. ⌜ Starts (begins (now (m .entry)) limit last (record { heartbeat = heartbeat; «idle_timeout» = «idle_timeout» })) r (now (m .entry)) (now (m .exit)) ⌝ }
+{
+    if is_whole(m, true) {
+        return begin(
+            m,
+            limit,
+            last,
+            Timing {
+                heartbeat,
+                idle_timeout,
+            },
+        );
+    }
+    MALFORMED
 }
 
 // ---- the state, read and set

@@ -1,0 +1,216 @@
+//! Times delivering on the proved library, on the published `Exchange` and on a plain Rust program over the standard library's maps, in one run,
+//! and prints a table. Nothing is asserted.
+
+mod draw;
+mod plain;
+mod proved;
+mod published;
+
+use std::hint::black_box;
+use std::time::{Duration, Instant};
+
+use orderbook::Event;
+
+use draw::{Book, EVENTS, Message, Turn};
+use plain::Plain;
+use proved::Proved;
+use published::Published;
+
+pub const TOKEN: u64 = 7;
+
+/// Timed rounds of one million events in all. Many short ones: the other work of the machine then spoils few of them.
+const ROUNDS: usize = 625;
+const TURNS: usize = 1_000_000 / EVENTS / ROUNDS;
+
+/// Every other account has a wallet: cash and seats.
+pub fn funds(account: usize) -> Option<(i64, i64)> {
+    (account % 2 == 0).then_some((1 << 60, 1 << 60))
+}
+
+/// A gateway under test.
+pub trait Column {
+    fn receive(&mut self, session: usize, message: Message, now: u64);
+    fn take_batch(&mut self) -> usize;
+    fn deliver(&mut self, n: u64, event: Event);
+    /// How many messages were sent since the last publishing.
+    fn publish(&mut self) -> usize;
+    fn wallets(&self) -> Vec<[i64; 4]>;
+}
+
+/// What was spent in `deliver`, what in the whole loop, and how many messages were sent.
+#[derive(Default)]
+struct Spent {
+    deliver: Duration,
+    whole: Duration,
+    sent: usize,
+}
+
+/// As a host does: a batch of messages, their commands taken, their events delivered, then a publishing.
+fn run(column: &mut impl Column, turns: &[Turn], now: &mut u64) -> Spent {
+    let mut spent = Spent::default();
+    let start = Instant::now();
+    for turn in turns {
+        *now += 1_000_000;
+        for &(session, message) in &turn.messages {
+            column.receive(session, message, *now);
+        }
+        black_box(column.take_batch());
+        let from = Instant::now();
+        for &(n, event) in &turn.events {
+            column.deliver(n, event);
+        }
+        spent.deliver += from.elapsed();
+        spent.sent += column.publish();
+    }
+    spent.whole = start.elapsed();
+    spent
+}
+
+fn median(mut numbers: Vec<f64>) -> f64 {
+    numbers.sort_by(f64::total_cmp);
+    numbers[numbers.len() / 2]
+}
+
+/// Medians over the rounds, nanoseconds an event: of the proved library, the published `Exchange` and the plain program.
+struct Line {
+    deliver: [f64; 3],
+    whole: [f64; 3],
+}
+
+fn measure(live: usize, prices: u64) -> Line {
+    let mut book = Book::new(prices);
+    let (mut a, mut b, mut c) = (Proved::new(), Published::new(), Plain::new());
+    let mut clocks = [0u64; 3];
+    let mut sent = [0; 3];
+    let mut fills = Vec::new();
+    while book.orders.len() < live {
+        fills.push(book.fill((live - book.orders.len()).min(32)));
+    }
+    let warm: Vec<Turn> = (0..TURNS).map(|_| book.turn()).collect();
+    for turns in [&fills, &warm] {
+        sent[0] += run(&mut a, turns, &mut clocks[0]).sent;
+        sent[1] += run(&mut b, turns, &mut clocks[1]).sent;
+        sent[2] += run(&mut c, turns, &mut clocks[2]).sent;
+    }
+    let mut deliver: [Vec<f64>; 3] = Default::default();
+    let mut whole: [Vec<f64>; 3] = Default::default();
+    for round in 0..ROUNDS {
+        let turns: Vec<Turn> = (0..TURNS).map(|_| book.turn()).collect();
+        for k in 0..3 {
+            let at = (round + k) % 3;
+            let spent = match at {
+                0 => run(&mut a, &turns, &mut clocks[0]),
+                1 => run(&mut b, &turns, &mut clocks[1]),
+                _ => run(&mut c, &turns, &mut clocks[2]),
+            };
+            let events = (TURNS * EVENTS) as f64;
+            deliver[at].push(spent.deliver.as_nanos() as f64 / events);
+            whole[at].push(spent.whole.as_nanos() as f64 / events);
+            sent[at] += spent.sent;
+        }
+    }
+    let same = a.wallets() == b.wallets() && b.wallets() == c.wallets();
+    if a.refused != 0 || sent[0] != sent[1] || sent[1] != sent[2] || !same {
+        println!("the columns differ: {} refused, messages {sent:?}, wallets alike: {same}", a.refused);
+    }
+    Line {
+        deliver: deliver.map(median),
+        whole: whole.map(median),
+    }
+}
+
+const KINDS: [&str; 4] = ["accepted", "trade", "rested", "cancelled"];
+
+/// Nanoseconds of each event, by its place among the four of an order. A clock is read around each, and what that takes alone is taken off.
+fn by_kind(column: &mut impl Column, turns: &[Turn]) -> [f64; 4] {
+    let mut times: [Vec<f64>; 4] = Default::default();
+    let (mut now, mut alone) = (1 << 40, Vec::new());
+    for turn in turns {
+        now += 1_000_000;
+        for &(session, message) in &turn.messages {
+            column.receive(session, message, now);
+        }
+        black_box(column.take_batch());
+        for (place, &(n, event)) in turn.events.iter().enumerate() {
+            let from = Instant::now();
+            column.deliver(n, event);
+            times[place % 4].push(from.elapsed().as_nanos() as f64);
+            let from = Instant::now();
+            alone.push(from.elapsed().as_nanos() as f64);
+        }
+        black_box(column.publish());
+    }
+    let alone = median(alone);
+    times.map(|times| median(times) - alone)
+}
+
+fn kinds(live: usize, prices: u64) {
+    let mut book = Book::new(prices);
+    let mut turns = Vec::new();
+    while book.orders.len() < live {
+        turns.push(book.fill((live - book.orders.len()).min(32)));
+    }
+    let (mut a, mut b, mut c) = (Proved::new(), Published::new(), Plain::new());
+    run(&mut a, &turns, &mut 0);
+    run(&mut b, &turns, &mut 0);
+    run(&mut c, &turns, &mut 0);
+    let turns: Vec<Turn> = (0..4_000).map(|_| book.turn()).collect();
+    let (a, b, c) = (by_kind(&mut a, &turns), by_kind(&mut b, &turns), by_kind(&mut c, &turns));
+    println!("Each kind alone, {live} live orders, {prices} prices a side:\n");
+    println!("| event | proved, ns | published, ns | plain, ns |");
+    println!("|---|---|---|---|");
+    for (k, name) in KINDS.iter().enumerate() {
+        println!("| {name} | {:.0} | {:.0} | {:.0} |", a[k], b[k], c[k]);
+    }
+}
+
+/// The median of some calls, in microseconds.
+fn each(mut call: impl FnMut()) -> f64 {
+    let times = (0..101).map(|_| {
+        let start = Instant::now();
+        call();
+        start.elapsed().as_nanos() as f64 / 1_000.0
+    });
+    median(times.collect())
+}
+
+/// The calls of a restart at 1,024 live orders.
+fn restarting() {
+    let mut book = Book::new(2_000);
+    let mut a = Proved::new();
+    while book.orders.len() < 1_024 {
+        let turn = book.fill(32);
+        run(&mut a, &[turn], &mut 0);
+    }
+    let list = proved::listing(&book.orders);
+    let bytes = a.checkpoint();
+    let checkpoint = each(|| {
+        black_box(a.checkpoint());
+    });
+    let finish = each(|| a.finish(&list));
+    println!("\nAt 1,024 live orders: checkpoint {checkpoint:.1} µs ({bytes} bytes), finish {finish:.1} µs; {} refused.\n", a.refused);
+}
+
+fn main() {
+    println!("| live orders | prices a side | part | proved, ns | published, ns | plain, ns | of the published | of the plain |");
+    println!("|---|---|---|---|---|---|---|---|");
+    let (mut asked, mut plot) = (None, String::new());
+    for (live, prices) in [(100, 120), (300, 120), (1_000, 120), (1_000, 2_000)] {
+        let live = live - live / 20;
+        let line = measure(live, prices);
+        for (part, [a, b, c]) in [("deliver", line.deliver), ("whole loop", line.whole)] {
+            println!("| {live} | {prices} | {part} | {a:.1} | {b:.1} | {c:.1} | {:.2} | {:.2} |", a / b, a / c);
+        }
+        let ratio = line.deliver[0] / line.deliver[2];
+        let bar = "#".repeat((40.0 * ratio) as usize);
+        plot += &format!("{live:>5} live, {prices:>5} prices  {bar} {ratio:.2}\n");
+        if (live, prices) == (950, 120) {
+            asked = Some(line.deliver);
+        }
+    }
+    println!("\nDelivering, proved / plain:\n\n{plot}");
+    kinds(950, 120);
+    restarting();
+    let [a, b, c] = asked.expect("it was measured");
+    println!("deliver: {:.2} of the standard maps, {:.2} of the published Exchange", a / c, a / b);
+}

@@ -1,0 +1,217 @@
+//! The proved library's entry points (crates/edge), each with the slices that it wants.
+
+use orderbook::{Event, Side};
+
+use crate::draw::{Message, Resting, SESSIONS};
+use crate::{Column, TOKEN, funds};
+
+const STATE: usize = 467_200;
+const ROW: usize = 96;
+
+#[repr(C)]
+struct Reply {
+    code: u64,
+    count: usize,
+}
+
+#[repr(C)]
+struct Wallet {
+    code: u64,
+    there: u64,
+    cash: i64,
+    position: i64,
+    cash_held: i64,
+    position_held: i64,
+}
+
+unsafe extern "C" {
+    fn rowanchess_begin(m: *mut u8, len: usize, limit: u64, last: u64, heartbeat: u64, idle: u64) -> u64;
+    fn rowanchess_add_account(m: *mut u8, len: usize, row: *const u8, row_len: usize) -> u64;
+    fn rowanchess_connect(m: *mut u8, len: usize, session: usize, time: u64) -> u64;
+    fn rowanchess_receive(
+        m: *mut u8,
+        len: usize,
+        session: usize,
+        row: *const u8,
+        row_len: usize,
+        time: u64,
+        out: *mut u8,
+        out_len: usize,
+    ) -> Reply;
+    fn rowanchess_take_batch(m: *mut u8, len: usize, out: *mut u8, out_len: usize) -> Reply;
+    fn rowanchess_deliver(
+        m: *mut u8,
+        len: usize,
+        n: u64,
+        row: *const u8,
+        row_len: usize,
+        out: *mut u8,
+        out_len: usize,
+    ) -> Reply;
+    fn rowanchess_publish(m: *mut u8, len: usize, out: *mut u8, out_len: usize) -> Reply;
+    fn rowanchess_wallet(m: *const u8, len: usize, account: u32) -> Wallet;
+    fn rowanchess_finish(m: *mut u8, len: usize, list: *const u8, list_len: usize) -> u64;
+    fn rowanchess_checkpoint(m: *const u8, len: usize, out: *mut u8, out_len: usize) -> Reply;
+}
+
+pub struct Proved {
+    state: Vec<u8>,
+    out: Vec<u8>,
+    sent: usize,
+    pub refused: usize,
+}
+
+fn side_code(side: Side) -> u64 {
+    match side {
+        Side::Buy => 0,
+        Side::Sell => 1,
+    }
+}
+
+/// A row of 16 words.
+fn row(words: &[u64]) -> [u8; 128] {
+    let mut row = [0; 128];
+    for (at, word) in row.chunks_exact_mut(8).zip(words) {
+        at.copy_from_slice(&word.to_le_bytes());
+    }
+    row
+}
+
+/// What an event's row has: its kind, then its fields.
+fn event_row(event: Event) -> [u8; 128] {
+    match event {
+        Event::Accepted { id } => row(&[0, id]),
+        Event::Trade {
+            trade_id,
+            taker,
+            maker,
+            taker_side,
+            price,
+            qty,
+            taker_leaves,
+            maker_leaves,
+        } => row(&[
+            2,
+            trade_id,
+            taker,
+            maker,
+            side_code(taker_side),
+            price as u64,
+            qty,
+            taker_leaves,
+            maker_leaves,
+        ]),
+        Event::Rested {
+            id,
+            side,
+            price,
+            qty,
+            visible,
+        } => row(&[3, id, side_code(side), price as u64, qty, visible]),
+        Event::Cancelled { id, qty, reason: _ } => row(&[5, id, qty, 1]),
+        _ => unreachable!("not drawn"),
+    }
+}
+
+impl Proved {
+    pub fn new() -> Proved {
+        let mut column = Proved {
+            state: vec![0; STATE],
+            out: vec![0; 4_096 * ROW],
+            sent: 0,
+            refused: 0,
+        };
+        // SAFETY: here and below, each address comes with the length of a slice that lives through the call, and the state is this column's alone.
+        unsafe { rowanchess_begin(column.state.as_mut_ptr(), STATE, 256, 0, u64::MAX, u64::MAX) };
+        for session in 0..SESSIONS {
+            let (there, (cash, position)) = match funds(session) {
+                Some(funds) => (1, funds),
+                None => (0, (0, 0)),
+            };
+            let rate = u64::from(u32::MAX);
+            let account = row(&[session as u64, TOKEN, 1_024, rate, there, cash as u64, position as u64]);
+            let state = column.state.as_mut_ptr();
+            unsafe { rowanchess_add_account(state, STATE, account.as_ptr(), 56) };
+            unsafe { rowanchess_connect(state, STATE, session, 0) };
+            column.receive_row(session, &row(&[0, 1, session as u64, TOKEN]), 0);
+            column.receive_row(session, &row(&[7]), 0);
+        }
+        column.sent = 0;
+        column
+    }
+
+    fn note(&mut self, reply: Reply) -> usize {
+        self.refused += usize::from(reply.code != 0);
+        self.sent += reply.count;
+        reply.count
+    }
+
+    fn receive_row(&mut self, session: usize, row: &[u8; 128], now: u64) {
+        let (m, out) = (self.state.as_mut_ptr(), self.out.as_mut_ptr());
+        let len = self.out.len();
+        let reply = unsafe { rowanchess_receive(m, STATE, session, row.as_ptr(), 128, now, out, len) };
+        self.note(reply);
+    }
+
+    /// The bytes of a checkpoint.
+    pub fn checkpoint(&mut self) -> usize {
+        let (m, out) = (self.state.as_ptr(), self.out.as_mut_ptr());
+        let reply = unsafe { rowanchess_checkpoint(m, STATE, out, self.out.len()) };
+        self.refused += usize::from(reply.code != 0);
+        reply.count
+    }
+
+    pub fn finish(&mut self, list: &[u8]) {
+        let m = self.state.as_mut_ptr();
+        let code = unsafe { rowanchess_finish(m, STATE, list.as_ptr(), list.len()) };
+        self.refused += usize::from(code != 0);
+    }
+}
+
+/// A book listing: rows of 8 words.
+pub fn listing(orders: &[Resting]) -> Vec<u8> {
+    let words = |o: &Resting| {
+        let owner = o.account as u64;
+        [0, o.id, owner, side_code(o.side), 1, o.price as u64, o.leaves, o.leaves]
+    };
+    let words = orders.iter().flat_map(words);
+    words.flat_map(u64::to_le_bytes).collect()
+}
+
+impl Column for Proved {
+    fn receive(&mut self, session: usize, message: Message, now: u64) {
+        let row = match message {
+            Message::New { side, price, qty } => row(&[3, now, side_code(side), qty, 0, price as u64]),
+            Message::Cancel { id } => row(&[4, id]),
+        };
+        self.receive_row(session, &row, now);
+    }
+
+    fn take_batch(&mut self) -> usize {
+        let (m, out) = (self.state.as_mut_ptr(), self.out.as_mut_ptr());
+        let reply = unsafe { rowanchess_take_batch(m, STATE, out, self.out.len()) };
+        reply.count
+    }
+
+    fn deliver(&mut self, n: u64, event: Event) {
+        let row = event_row(event);
+        let (m, out) = (self.state.as_mut_ptr(), self.out.as_mut_ptr());
+        let reply = unsafe { rowanchess_deliver(m, STATE, n, row.as_ptr(), 128, out, 4 * ROW) };
+        self.note(reply);
+    }
+
+    fn publish(&mut self) -> usize {
+        let (m, out) = (self.state.as_mut_ptr(), self.out.as_mut_ptr());
+        let reply = unsafe { rowanchess_publish(m, STATE, out, self.out.len()) };
+        self.note(reply);
+        std::mem::take(&mut self.sent)
+    }
+
+    fn wallets(&self) -> Vec<[i64; 4]> {
+        let wallet = |a| unsafe { rowanchess_wallet(self.state.as_ptr(), STATE, a) };
+        let wallets = (0..SESSIONS as u32).map(wallet).filter(|w| w.there == 1);
+        wallets
+            .map(|w| [w.cash, w.position, w.cash_held, w.position_held])
+            .collect()
+    }
+}
