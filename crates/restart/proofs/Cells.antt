@@ -1,7 +1,7 @@
 -- Two states whose gateways agree on the books agree cell by cell. Assumes nothing.
 use mathlib.Core.Path.{_≡_, refl, sym, ap, ap₂, _∙_}
 use mathlib.Core.Option.{Option, none, some, Option·map}
-use mathlib.Core.List.{List, [], _∷_, _++_, map}
+use mathlib.Core.List.{List, [], _∷_, _++_, map, map-append}
 use Prim.Native.Nat.{ℕ, zero, suc, _<_}
 use native.Mathlib.Omega.{arith}
 use Rattle.orderbook.specs.declared.Side.{Side}
@@ -17,7 +17,7 @@ use Rattle.gateway.specs.Restart.{forget, SameBooks}
 use Rattle.gateway.proofs.Forget.{held-forget}
 use Rattle.store.specs.Cells as C
 use Rattle.store.specs.View.{Row, Store, word, order, wallet, marked, ledger, gateway}
-use Rattle.orders.proofs.Shown.{map-append, map-pick}
+use Rattle.orders.proofs.Shown.{map-pick}
 use Rattle.clients.proofs.Views.{wallet-at-row}
 use Rattle.sound.specs.Sound.{Stored, held-cell, Held, Sound}
 use Rattle.restart.specs.Chain.{Holding, holding, forget-ref, SameCells}

@@ -1,7 +1,7 @@
 -- The roster of a list has the definitions' table of its accounts. Assumes nothing.
 use Prim.Native.Nat.{ℕ, zero, suc, _≤_, _<_}
 use mathlib.Core.Path.{_≡_, refl, sym, ap, subst, _∙_}
-use mathlib.Core.Bool.{Bool, true, false, cond, _&&_, false≢true}
+use mathlib.Core.Bool.{true, false, cond, _&&_, false≢true, and-true, and-false, and-assoc}
 use mathlib.Core.Logic.{⊎-elim}
 use mathlib.Core.Option.{Option, none, some}
 use mathlib.Core.List.{List, [], _∷_, _++_}
@@ -119,30 +119,18 @@ nobody-keeps limit =
 
 -- ---- below the limit
 
-and-true : (b : Bool) → (b && true) ≡ b
-and-true true = refl
-and-true false = refl
-
 enter-below : (limit : ℕ) (r : Roster) (a : Account) → enter limit r a .below ≡ (r .below && ltb (a .id) limit)
 unfolding enter
 enter-below limit r a =
     split (λ b. cond b (cond (ltb (a .id) owner-slots) (record { below = r .below; slots = set (r .slots) (a .id) (record { there = true; account = a }) }) r) (record { below = false; slots = r .slots }) .below ≡ (r .below && b)) (ltb (a .id) limit)
     (λ _. split (λ b. cond b (record { below = r .below; slots = set (r .slots) (a .id) (record { there = true; account = a }) }) r .below ≡ (r .below && true)) (ltb (a .id) owner-slots) (λ _. sym (and-true (r .below))) (λ _. sym (and-true (r .below))))
     (λ _. sym (and-false (r .below)))
-  where
-    and-false : (b : Bool) → (b && false) ≡ false
-    and-false true = refl
-    and-false false = refl
 
 entered-below : (limit : ℕ) (r : Roster) (l : List Account) → entered limit r l .below ≡ (r .below && all-below limit l)
 unfolding entered
 entered-below limit r [] = sym (and-true (r .below))
 entered-below limit r (a ∷ l) =
-    entered-below limit (enter limit r a) l ∙ ap (λ b. b && all-below limit l) (enter-below limit r a) ∙ assoc (r .below) (ltb (a .id) limit) (all-below limit l)
-  where
-    assoc : (a b c : Bool) → ((a && b) && c) ≡ (a && (b && c))
-    assoc true b c = refl
-    assoc false b c = refl
+    entered-below limit (enter limit r a) l ∙ ap (λ b. b && all-below limit l) (enter-below limit r a) ∙ and-assoc (r .below) (ltb (a .id) limit) (all-below limit l)
 
 -- ---- the whole
 

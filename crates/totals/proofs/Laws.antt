@@ -1,7 +1,7 @@
 -- Orders read from a listing or a checkpoint, and exact totals of what they hold. Assumes nothing.
 use Prim.Native.Nat.{ℕ, zero, suc, _+_, _*_, _-_, _≤_, _<_}
 use mathlib.Core.Path.{_≡_, refl, sym, ap, subst, _∙_}
-use mathlib.Core.Bool.{Bool, true, false, cond, not, _&&_, false≢true}
+use mathlib.Core.Bool.{Bool, true, false, cond, not, _&&_, false≢true, and-true, and-false}
 use mathlib.Core.Logic.{⊎-elim}
 use mathlib.Core.Option.{Option, none, some}
 use mathlib.Core.List.{List, [], _∷_, map}
@@ -217,10 +217,6 @@ module _ (r : Roster) (os : List Order) where
         let one : (i - 1) + 1 ≡ i = omega (arith, l) in
         slot-more (i - 1) (omega (arith, l, m)) ∙ ap (λ n. wallet-fits (i - 1) (funds-in (account-of r (i - 1))) os && wallets-fit r n os) one
         ∙ rw (h, ← is) (and-true b)
-      where
-        and-true : (b : Bool) → (b && true) ≡ b
-        and-true true = refl
-        and-true false = refl
 
     pub slot-fine : b ≡ true → wallets-fit r (i - 1) os ≡ true
     slot-fine t = step ∙ t
@@ -232,9 +228,5 @@ module _ (r : Roster) (os : List Order) where
         go : (n : ℕ) → n ≤ owner-slots → wallets-fit r n os ≡ false → false ≡ wallets-fit r 0 os
         go zero k e = sym e
         go (suc n) k e = go n (omega arith) (slot-more n k ∙ ap (λ p. wallet-fits n (funds-in (account-of r n)) os && wallets-fit r p os) (add-one n) ∙ ap (λ c. wallet-fits n (funds-in (account-of r n)) os && c) e ∙ and-false (wallet-fits n (funds-in (account-of r n)) os))
-          where
-            and-false : (b : Bool) → (b && false) ≡ false
-            and-false true = refl
-            and-false false = refl
 
 pub ruleset laws = (priced-order, priced-stop, listed-reads, in-listing, in-saved, reads-listing, reads-saved, whole, listing-count, listing-few, saved-count, same-account, other-account, held-own, held-none, sells-decide, buys-fail, unfunded-fits, funded-fits, arith)
