@@ -5,10 +5,10 @@ use Rattle.player.proofs.play_all.Statement.{statement}
 use Rattle.player.proofs.play_all.Tie as tie
 
 abbrev Inv-loop : tie.InvT-loop
-Inv-loop fd m₀ t₀ n₀ m t n = Between m
+Inv-loop fd m₀ s₀ t₀ n₀ m s t n = Between m × Between s
 
 abbrev μ-loop : tie.MeasureT-loop
-μ-loop fd m₀ t₀ n₀ m t n = 18446744073709551615 - n
+μ-loop fd m₀ s₀ t₀ n₀ m s t n = 18446744073709551615 - n
 
 loop-holds : tie.Need-loop-holds Inv-loop μ-loop
 loop-holds c = search needs
