@@ -294,9 +294,9 @@ fn say_where(t: Tally) {
 }
 
 // A list begins with a start of the first gateway.
-fn counted(row: &[u8], t: Tally, more: bool) -> Tally {
-    let calls = sum(t.calls, sum(times(row), 1));
-    if is_start(row) && gateway_of(row) == 0 {
+fn counted(row: [u8; 128], t: Tally, more: bool) -> Tally {
+    let calls = sum(t.calls, sum(times(&row), 1));
+    if is_start(&row) && gateway_of(&row) == 0 {
         return Tally {
             lists: sum(t.lists, 1),
             rows: 0,
@@ -317,7 +317,7 @@ fn next_row(fd: i32, m: &mut [u8], s: &mut [u8], row: [u8; 128], t: Tally) -> Ta
     ensures { λ r. ⌜ Between (now (m .exit)) × Between (now (s .exit)) ⌝ }
 {
     let more = play_both(fd, m, s, row);
-    let after = counted(&row, t, more);
+    let after = counted(row, t, more);
     if !more {
         say_where(after);
     }
