@@ -232,7 +232,9 @@ impl Draw {
             _ => false,
         };
         let full = matches!(self.theme, Theme::Full(_));
-        let limit = if !full && self.chance(2) { self.pick(&[0, 1, 257]) } else { 4 };
+        // The player's file has room for more starts that are refused.
+        let odd = if self.only.is_some() { 4 } else { 1 };
+        let limit = if !full && self.chance(2 * odd) { self.pick(&[0, 1, 257]) } else { 4 };
         let (accounts, timing) = (self.accounts(), self.timing());
         let last = if !full && self.chance(3) { u64::MAX } else { self.below(8) };
         let feed = matches!(self.theme, Theme::Full(Limit::Feed));
@@ -246,7 +248,7 @@ impl Draw {
             let listed = if matches!(self.theme, Theme::Market | Theme::Ends) { 85 } else { 45 };
             if self.draws("set-up") && !full && self.chance(listed) {
                 for id in ids {
-                    let id = if self.chance(3) { id + 1 } else { id };
+                    let id = if self.chance(3 * odd) { id + 1 } else { id };
                     let live = self.live();
                     listing.push(self.entry(id, live));
                 }
@@ -256,12 +258,12 @@ impl Draw {
         }
         let (accounts, saved) = saved.take().unwrap_or_else(|| {
             let has = |id: u32| accounts.iter().any(|account| account.id == id && account.funds.is_some());
-            let wallets = (0..5).filter(|&id| self.chance(if has(id) { 90 } else { 4 }));
+            let wallets = (0..5).filter(|&id| self.chance(if has(id) { 90 } else { 4 * odd }));
             let wallet = |account: u32| SavedWallet { account, cash: 700, position: -3 };
             let wallets = wallets.map(wallet).collect();
             let order = |id: OrderId| {
                 let Live { account, side, price, leaves } = self.live();
-                let id = if last < 7 && id == last && self.chance(5) { id + 1 } else { id };
+                let id = if last < 7 && id == last && self.chance(5 * odd) { id + 1 } else { id };
                 SavedOrder { id, account, client_ref: 70 + id, buy: side == Side::Buy, price, leaves }
             };
             let orders = ids.into_iter().map(order).collect();

@@ -39,13 +39,16 @@ enum Again {
 
 /// A second gateway, restored from a checkpoint of the first.
 struct Second {
+    /// The checkpoint's last number.
+    saved: u64,
     rule: Rule,
     exchange: Exchange,
 }
 
 impl Second {
     fn start(start: &Start) -> Option<Second> {
-        Some(Second { rule: Rule::start(start).ok()?, exchange: start.exchange()? })
+        let (rule, exchange) = (Rule::start(start).ok()?, start.exchange()?);
+        Some(Second { saved: exchange.last_seq(), rule, exchange })
     }
 
     /// Makes the call, unless document 01 refuses it.
@@ -120,7 +123,8 @@ fn list(draw: &mut Draw, saved: &mut Option<(Vec<Account>, Checkpoint)>) -> List
                     assert!(gateway.agrees(&exchange), "the Rust's second gateway differs");
                     list.second.push((list.calls.len(), Again::Item(item)));
                 } else {
-                    // An event of a command from before the checkpoint.
+                    // An event of a command from before the checkpoint, which 01 leaves out.
+                    assert!(matches!(item, Call::ReplayEvent(number, _) if number <= gateway.saved), "the record is refused");
                     second = None;
                 }
             }
