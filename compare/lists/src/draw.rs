@@ -29,12 +29,14 @@ pub enum Limit {
     Commands,
     Orders,
     Notices,
+    /// What `deliver` has limits for.
+    Feed,
 }
 
 impl Theme {
     /// The theme with that number; without one, the one whose turn it is.
     pub fn of(at: usize, number: Option<&u64>) -> Theme {
-        let limits = [Limit::Commands, Limit::Orders, Limit::Notices].map(Theme::Full);
+        let limits = [Limit::Commands, Limit::Orders, Limit::Notices, Limit::Feed].map(Theme::Full);
         let themes = [Theme::Money, Theme::Market, Theme::Sessions, Theme::Restart, Theme::Ends];
         [themes.as_slice(), &limits].concat()[number.map_or(at % 5, |&number| number as usize)]
     }
@@ -45,6 +47,7 @@ impl Theme {
             Theme::Full(Limit::Commands) => 320,
             Theme::Full(Limit::Orders) => 1200,
             Theme::Full(Limit::Notices) => 2100,
+            Theme::Full(Limit::Feed) => 0,
             _ if plays => 60,
             Theme::Restart => 14,
             _ => 24,
@@ -55,18 +58,20 @@ impl Theme {
 pub struct Draw {
     state: u64,
     pub theme: Theme,
-    /// For the player: the calls to draw, by their names. Lists then start without orders.
+    /// For the player: the calls to draw, by their names. `set-up` lists orders, `restore` begins lists and restarts gateways.
     pub only: Option<Vec<String>>,
     clock: u64,
     /// The last call was an event.
     delivers: bool,
     /// Calls that come next.
     pub planned: VecDeque<Call>,
+    /// How often bytes were damaged in each way.
+    damaged: BTreeMap<&'static str, usize>,
 }
 
 impl Draw {
     pub fn new(seed: u64) -> Draw {
-        Draw { state: seed, theme: Theme::Money, only: None, clock: 0, delivers: false, planned: VecDeque::new() }
+        Draw { state: seed, theme: Theme::Money, only: None, clock: 0, delivers: false, planned: VecDeque::new(), damaged: BTreeMap::new() }
     }
 
     /// SplitMix64.
@@ -192,7 +197,7 @@ impl Draw {
         accounts
     }
 
-    fn timing(&mut self) -> Timing {
+    pub fn timing(&mut self) -> Timing {
         let silence = [(1_000_000_000, 5_000_000_000), (4, 12), (3, 40), (0, 9), (5, 0)];
         let at = if matches!(self.theme, Theme::Sessions) { self.below(5) } else { 0 };
         let (heartbeat, idle_timeout) = silence[at as usize];
@@ -221,22 +226,29 @@ impl Draw {
         self.clock = 0;
         self.plan_opening();
         let restores = match self.theme {
-            _ if self.only.is_some() => false,
+            _ if !self.draws("restore") => false,
             Theme::Restart => true,
             Theme::Ends => self.chance(25),
             _ => false,
         };
         let full = matches!(self.theme, Theme::Full(_));
-        let limit = if !full && self.chance(2) { self.pick(&[0, 1, 257]) } else { 4 };
+        // The player's file has room for more starts that are refused.
+        let odd = if self.only.is_some() { 4 } else { 1 };
+        let limit = if !full && self.chance(2 * odd) { self.pick(&[0, 1, 257]) } else { 4 };
         let (accounts, timing) = (self.accounts(), self.timing());
         let last = if !full && self.chance(3) { u64::MAX } else { self.below(8) };
+        let feed = matches!(self.theme, Theme::Full(Limit::Feed));
+        let last = if feed { last + 2000 } else { last };
+        if feed {
+            self.plan_feed(last);
+        }
         let ids: Vec<OrderId> = (1..=last.min(6)).filter(|_| self.chance(70)).collect();
         if !restores {
             let mut listing: Vec<Listed> = Vec::new();
             let listed = if matches!(self.theme, Theme::Market | Theme::Ends) { 85 } else { 45 };
-            if self.only.is_none() && self.chance(listed) {
+            if self.draws("set-up") && !full && self.chance(listed) {
                 for id in ids {
-                    let id = if self.chance(3) { id + 1 } else { id };
+                    let id = if self.chance(3 * odd) { id + 1 } else { id };
                     let live = self.live();
                     listing.push(self.entry(id, live));
                 }
@@ -246,18 +258,18 @@ impl Draw {
         }
         let (accounts, saved) = saved.take().unwrap_or_else(|| {
             let has = |id: u32| accounts.iter().any(|account| account.id == id && account.funds.is_some());
-            let wallets = (0..5).filter(|&id| self.chance(if has(id) { 90 } else { 4 }));
+            let wallets = (0..5).filter(|&id| self.chance(if has(id) { 90 } else { 4 * odd }));
             let wallet = |account: u32| SavedWallet { account, cash: 700, position: -3 };
             let wallets = wallets.map(wallet).collect();
             let order = |id: OrderId| {
                 let Live { account, side, price, leaves } = self.live();
-                let id = if last < 7 && id == last && self.chance(5) { id + 1 } else { id };
+                let id = if last < 7 && id == last && self.chance(5 * odd) { id + 1 } else { id };
                 SavedOrder { id, account, client_ref: 70 + id, buy: side == Side::Buy, price, leaves }
             };
             let orders = ids.into_iter().map(order).collect();
             (accounts, Checkpoint { seq: last, wallets, orders, market_price: self.limit() })
         });
-        if self.chance(8) {
+        if self.only.is_none() && self.chance(8) {
             let mut bytes = bytes(&saved);
             match self.below(4) {
                 0 => drop(bytes.pop()),
@@ -436,7 +448,7 @@ impl Draw {
         Call::ReplayCommand(number, command)
     }
 
-    fn finish(&mut self, rule: &Rule) -> Call {
+    pub fn finish(&mut self, rule: &Rule) -> Call {
         let mut listing: Vec<Listed> = rule.live.iter().map(|(&id, &live)| self.entry(id, live)).collect();
         if self.chance(20) {
             let live = self.live();
@@ -489,6 +501,45 @@ impl Draw {
         if !self.chance(alone) {
             self.plan_logins();
         }
+    }
+
+    /// Deliveries past each limit of the depth, of what waits to be published, of a level's quantity and of a hold total. Most come when no
+    /// session is there, so that like calls follow one another.
+    fn plan_feed(&mut self, last: u64) {
+        let number = last + 4;
+        let [buy, other_buy, sell, foreign] = [1, 2, 3, 4].map(|at| last + at);
+        let (price, qty) = (5 + self.below(5) as i64, 9 + self.below(5));
+        let mut enter = |session: usize, side: Side| {
+            let kind = OrderKind::Limit { price, tif: TimeInForce::Gtc, display: None };
+            Call::Receive(session, Inbound::NewOrder(NewOrder { client_ref: self.below(90), side, qty, kind }), self.clock)
+        };
+        let orders = [enter(2, Side::Buy), enter(2, Side::Buy), enter(2, Side::Sell), enter(1, Side::Sell)];
+        let mut calls: Vec<Call> = orders.into_iter().chain([Call::TakeBatch]).collect();
+        let event = |event: Event| Call::Deliver(number, event);
+        let trade = |trade_id: u64, taker: OrderId, maker: OrderId| {
+            let (taker_leaves, maker_leaves) = (qty, qty);
+            event(Event::Trade { trade_id, taker, maker, taker_side: Side::Buy, price, qty: 1, taker_leaves, maker_leaves })
+        };
+        let modified = |id: OrderId, price: i64, leaves: u64| event(Event::Modified { id, price, qty: leaves, leaves });
+        let rested = |id: OrderId, side: Side, price: i64, visible: u64| event(Event::Rested { id, side, price, qty: visible, visible });
+        let replenished = |id: OrderId, visible: u64| event(Event::Replenished { id, side: Side::Buy, price, visible });
+        let cancelled = |id: OrderId| event(Event::Cancelled { id, qty: 1, reason: CancelReason::Requested });
+        calls.extend([trade(1, buy, foreign), trade(2, buy, sell), trade(3, 7, buy), Call::Detach(1), Call::Detach(2)]);
+        calls.extend([modified(buy, 1 << 62, 1), modified(other_buy, 1 << 62, 1), modified(buy, price, qty)]);
+        calls.extend([rested(1500, Side::Buy, price, u64::MAX), rested(1501, Side::Buy, price, 1), replenished(1500, 3)]);
+        calls.extend([rested(1501, Side::Buy, price, 1), replenished(1501, u64::MAX), cancelled(1500), cancelled(1501), Call::Publish]);
+        // A trade has two notices here, of both its wallet's orders; a modified price has one.
+        calls.extend((1..=258).map(|at| trade(at, buy, sell)));
+        calls.extend([event(Event::Accepted { id: buy }), Call::Publish, trade(1, buy, sell)]);
+        calls.extend((1..=2048).map(|at| modified(buy, price + at, qty)));
+        calls.extend([trade(2, buy, sell), trade(3, 7, 8), Call::Publish, trade(4, buy, sell), Call::Publish]);
+        // 512 levels a side, then one order, one changed level and one level too many.
+        calls.extend((1..=512).map(|at| rested(at as u64, Side::Buy, price + at, 1)));
+        calls.extend((513..=1024).map(|at| rested(at as u64, Side::Sell, price + at, 1)));
+        calls.extend([rested(1025, Side::Buy, price + 1, 1), cancelled(1024), rested(1024, Side::Sell, price + 2000, 1), Call::Publish]);
+        calls.extend([rested(1024, Side::Sell, price + 2000, 1), cancelled(1), rested(1, Side::Sell, price + 2001, 1)]);
+        calls.extend([rested(1, Side::Buy, price + 2, 1), Call::Publish]);
+        self.planned.extend(calls);
     }
 
     /// What may follow an accepted call.
@@ -550,7 +601,7 @@ impl Draw {
             _ if rule.batch > 200 => Call::TakeBatch,
             Limit::Orders if rule.flights.len() > 200 => accepted(last),
             Limit::Orders => self.entry_of(rule, 0, false),
-            Limit::Notices => match oldest {
+            Limit::Notices | Limit::Feed => match oldest {
                 Some(id) if rule.flights.len() > 200 || self.delivers && rule.flights.len() > 1 => {
                     Call::Deliver(id, Event::Cancelled { id, qty: 1, reason: CancelReason::Requested })
                 }
@@ -563,10 +614,60 @@ impl Draw {
     pub fn call(&mut self, rule: &Rule, exchange: &Exchange) -> Call {
         loop {
             let call = self.any_call(rule, exchange);
-            if self.only.as_ref().is_none_or(|only| only.iter().any(|name| name == call.name())) {
+            if self.draws(call.name()) {
                 return call;
             }
         }
+    }
+
+    fn draws(&self, name: &str) -> bool {
+        self.only.as_ref().is_none_or(|only| only.iter().any(|drawn| drawn == name))
+    }
+
+    /// For the player: whether a checkpoint is restored in a second gateway.
+    pub fn restarts(&mut self) -> bool {
+        self.only.is_some() && self.draws("restore") && self.chance(60)
+    }
+
+    /// Bytes of a checkpoint that no longer are one, and what is wrong with them: of the ways that it has, the one least used.
+    pub fn damage(&mut self, saved: &Checkpoint) -> (&'static str, Vec<u8>) {
+        let whole = bytes(saved);
+        let (wallets, orders) = (saved.wallets.len(), saved.orders.len());
+        let (wallet, order) = (|at: usize| 21 + 20 * at, |at: usize| 25 + 20 * wallets + 37 * at);
+        let put = |from: usize, new: &[u8]| {
+            let mut bytes = whole.clone();
+            bytes[from..from + new.len()].copy_from_slice(new);
+            bytes
+        };
+        let mut ways = vec![
+            ("by a byte too few", whole[..whole.len() - 1].to_vec()),
+            ("by a byte too many", [whole.as_slice(), &[0]].concat()),
+            ("by an end in the middle", whole[..self.below(whole.len() as u64) as usize].to_vec()),
+            ("flag of the reference price", put(8, &[whole[8] | 2 << self.below(7)])),
+            ("number of wallets", put(17, &(wallets as u32 + 1).to_le_bytes())),
+            ("number of wallets beyond 256", put(17, &257u32.to_le_bytes())),
+            ("number of orders", put(order(0) - 4, &(orders as u32 + 1).to_le_bytes())),
+            ("number of orders beyond 1,024", put(order(0) - 4, &1025u32.to_le_bytes())),
+        ];
+        if saved.market_price.is_none() {
+            ways.push(("absent reference price", put(9, &[1])));
+        }
+        if wallets > 1 {
+            ways.push(("wallets' keys", put(wallet(1), &whole[wallet(0)..wallet(0) + 4])));
+        }
+        if orders > 1 {
+            ways.push(("orders' keys", put(order(1), &whole[order(0)..order(0) + 8])));
+        }
+        if orders > 0 {
+            let at = order(self.below(orders as u64) as usize);
+            ways.push(("order's flags", put(at + 20, &[whole[at + 20] | 4 << self.below(6)])));
+        }
+        if let Some(at) = saved.orders.iter().position(|saved| saved.price.is_none()) {
+            ways.push(("order's absent price", put(order(at) + 21, &[1])));
+        }
+        let way = ways.into_iter().min_by_key(|(what, _)| self.damaged.get(what).copied()).expect("a way");
+        *self.damaged.entry(way.0).or_default() += 1;
+        way
     }
 
     fn any_call(&mut self, rule: &Rule, exchange: &Exchange) -> Call {

@@ -73,6 +73,12 @@ impl Seen {
         Seen::Sees(Answer::Nothing, vec![Mail::Send(session, Outbound::Reject { reason, client_ref })])
     }
 
+    /// A book snapshot was sent: what waited is published.
+    pub fn has_snapshot(&self) -> bool {
+        let is_one = |mail: &Mail| matches!(mail, Mail::Send(_, Outbound::BookSnapshot { .. }));
+        matches!(self, Seen::Sees(_, mails) if mails.iter().any(is_one))
+    }
+
     /// The places of a lent list that it takes.
     pub fn places(&self) -> usize {
         match self {

@@ -1,5 +1,5 @@
 //! Prints random lists of calls with what the Rust's `Exchange` made of them, as a file for the checker:
-//! `lists SEED COUNT [THEME]`, with a theme of 0 to 4, or 5 to 7 for lists that come to a limit; without one the first five take turns.
+//! `lists SEED COUNT [THEME]`, with a theme of 0 to 4, or 5 to 8 for lists that come to a limit; without one the first five take turns.
 //! `lists --play CALLS SEED COUNT [THEME]` prints a file for the program `player`, with the named calls only (`connect,tick,..`).
 
 mod antt;
@@ -11,12 +11,12 @@ mod rule;
 use std::io::Write;
 
 use gateway::accounts::Account;
-use gateway::exchange::Checkpoint;
+use gateway::exchange::{Checkpoint, Exchange};
 
 use antt::Antt;
 use draw::{Draw, Limit, Theme};
-use exchange::{Call, Seen, Start};
-use play::File;
+use exchange::{Answer, Call, Seen, Start};
+use play::{File, Gateway};
 use rule::Rule;
 
 /// A list: its start, its calls with the places lent to each, and what each gave. A start that is refused gives its code.
@@ -24,12 +24,51 @@ struct List {
     start: Start,
     calls: Vec<(Call, usize)>,
     seen: Vec<Seen>,
+    /// For the player: after how many calls a second gateway is restored, or fed an item of the record.
+    second: Vec<(usize, Again)>,
+    /// What is worth counting.
+    remarks: Vec<String>,
+}
+
+/// What a second gateway is given: bytes, with the code that refuses them or 0; an item of the record; or the listing that ends a restart.
+enum Again {
+    Restore(Start, u8),
+    Item(Call),
+    Finish(Call),
+}
+
+/// A second gateway, restored from a checkpoint of the first.
+struct Second {
+    /// The checkpoint's last number.
+    saved: u64,
+    rule: Rule,
+    exchange: Exchange,
+}
+
+impl Second {
+    fn start(start: &Start) -> Option<Second> {
+        let (rule, exchange) = (Rule::start(start).ok()?, start.exchange()?);
+        Some(Second { saved: exchange.last_seq(), rule, exchange })
+    }
+
+    /// Makes the call, unless document 01 refuses it.
+    fn feed(&mut self, call: &Call) -> bool {
+        let passes = self.rule.code(call, &self.exchange).is_ok();
+        let Some(seen) = passes.then(|| call.on(&mut self.exchange, self.rule.limit)).flatten() else { return false };
+        self.rule.follow(call, &seen, &self.exchange);
+        true
+    }
+
+    fn agrees(&self, first: &Exchange) -> bool {
+        let same = |account: u32| self.exchange.wallet(account) == first.wallet(account);
+        self.exchange.last_seq() == first.last_seq() && (0..self.rule.limit).all(same)
+    }
 }
 
 /// Draws a list. A checkpoint taken last is left in `saved` with the accounts of its moment.
 fn list(draw: &mut Draw, saved: &mut Option<(Vec<Account>, Checkpoint)>) -> List {
     let start = draw.start(saved);
-    let mut list = List { start, calls: Vec::new(), seen: Vec::new() };
+    let mut list = List { start, calls: Vec::new(), seen: Vec::new(), second: Vec::new(), remarks: Vec::new() };
     let mut rule = match Rule::start(&list.start) {
         Ok(rule) => rule,
         Err(code) => {
@@ -41,6 +80,7 @@ fn list(draw: &mut Draw, saved: &mut Option<(Vec<Account>, Checkpoint)>) -> List
         eprintln!("the Rust panics at the start");
         return list;
     };
+    let mut second: Option<Second> = None;
     let most = draw.theme.calls(draw.only.is_some());
     for at in 0.. {
         if at == most && !matches!(draw.theme, Theme::Full(_)) && draw.chance(30) {
@@ -52,6 +92,8 @@ fn list(draw: &mut Draw, saved: &mut Option<(Vec<Account>, Checkpoint)>) -> List
         let call = draw.call(&rule, &exchange);
         let code = rule.code(&call, &exchange);
         let full = rule.unavailable(&call, &exchange);
+        let owner = rule.owner(&call, &exchange);
+        list.remarks.extend(rule.remark(&call, &exchange));
         let made = (code.is_ok() && !full).then(|| call.on(&mut exchange, rule.limit));
         let panics = matches!(made, Some(None));
         let seen = match (code, made, &call) {
@@ -70,17 +112,49 @@ fn list(draw: &mut Draw, saved: &mut Option<(Vec<Account>, Checkpoint)>) -> List
             list.seen.push(Seen::Code(6));
         }
         let refused = matches!(seen, Seen::Code(_));
-        list.calls.push((call.clone(), if refused || draw.chance(50) { 999 } else { places }));
+        let many = refused || matches!(draw.theme, Theme::Full(Limit::Feed)) || draw.chance(50);
+        list.calls.push((call.clone(), if many { places.max(999) } else { places }));
+        if !panics && !refused && !full {
+            let item = rule.item(&call, owner, &exchange);
+            rule.follow(&call, &seen, &exchange);
+            draw.plan_after(&call, &rule, &exchange);
+            if let (Some(item), Some(gateway)) = (item, &mut second) {
+                if gateway.feed(&item) {
+                    assert!(gateway.agrees(&exchange), "the Rust's second gateway differs");
+                    list.second.push((list.calls.len(), Again::Item(item)));
+                } else {
+                    // An event of a command from before the checkpoint, which 01 leaves out.
+                    assert!(matches!(item, Call::ReplayEvent(number, _) if number <= gateway.saved), "the record is refused");
+                    second = None;
+                }
+            }
+        }
         list.seen.push(seen);
         if panics {
             break;
         }
-        if !refused && !full {
-            rule.follow(&call, &exchange);
-            draw.plan_after(&call, &rule, &exchange);
-        }
         if let (Call::Checkpoint, Some(checkpoint)) = (&call, exchange.checkpoint()) {
-            *saved = Some((rule.accounts.values().copied().collect(), checkpoint));
+            let accounts: Vec<Account> = rule.accounts.values().copied().collect();
+            if draw.restarts() && !refused {
+                let timing = draw.timing();
+                for _ in 0..2 {
+                    let (damage, bytes) = draw.damage(&checkpoint);
+                    list.remarks.push(format!("damaged {damage}"));
+                    let start = Start::Malformed(rule.limit, accounts.clone(), timing, bytes);
+                    list.second.push((list.calls.len(), Again::Restore(start, 11)));
+                }
+                let start = Start::Restore(rule.limit, accounts.clone(), timing, checkpoint.clone());
+                second = Second::start(&start);
+                assert!(second.as_ref().is_some_and(|second| second.agrees(&exchange)), "the Rust's checkpoint differs");
+                list.second.push((list.calls.len(), Again::Restore(start, 0)));
+            }
+            *saved = Some((accounts, checkpoint));
+        }
+    }
+    if let Some(mut gateway) = second {
+        let finish = draw.finish(&gateway.rule);
+        if gateway.feed(&finish) {
+            list.second.push((list.calls.len(), Again::Finish(finish)));
         }
     }
     list
@@ -125,23 +199,37 @@ fn print(args: &[u64], draw: &mut Draw) {
     print!("{}", foot.replace("PROOF", &proof).replace("LEMMAS", lemmas.strip_prefix('\n').unwrap_or_default()));
 }
 
-/// The file for the player, and what it meets. A start that is refused is left out. Where themes take turns, the last list comes to a limit.
+/// The file for the player, and what it meets. Where themes take turns, the last two lists come to limits.
 fn play(args: &[u64], draw: &mut Draw) {
     let mut file = File::default();
     let count = args[1] as usize;
     let entry = draw.only.as_ref().is_some_and(|only| only.iter().any(|name| name == "receive-from"));
+    let mut saved = None;
     for at in 0..count {
         draw.theme = match args.get(2) {
             None if entry && at + 1 == count => Theme::Full(Limit::Commands),
+            None if entry && at + 2 == count => Theme::Full(Limit::Feed),
             theme => Theme::of(at, theme),
         };
-        let list = list(draw, &mut None);
-        if list.calls.len() < list.seen.len() {
-            continue;
-        }
-        file.start(&list.start);
-        for ((call, room), seen) in list.calls.iter().zip(&list.seen) {
-            file.call(call, *room, seen);
+        let list = list(draw, &mut saved);
+        let code = match list.seen.first() {
+            Some(Seen::Code(code)) if list.calls.is_empty() => *code,
+            _ => 0,
+        };
+        file.start(&list.start, code, false);
+        list.remarks.into_iter().for_each(|remark| file.meets(remark));
+        let mut second = list.second.iter().peekable();
+        for at in 0..=list.calls.len() {
+            while let Some((_, again)) = second.next_if(|(after, _)| *after == at) {
+                match again {
+                    Again::Restore(start, code) => file.start(start, *code, true),
+                    Again::Item(call) => file.call(call, 0, &Seen::Sees(Answer::Nothing, Vec::new()), Gateway::Both),
+                    Again::Finish(call) => file.call(call, 0, &Seen::Sees(Answer::Nothing, Vec::new()), Gateway::Both),
+                }
+            }
+            if let Some(((call, room), seen)) = list.calls.get(at).zip(list.seen.get(at)) {
+                file.call(call, *room, seen, Gateway::First);
+            }
         }
     }
     std::io::stdout().write_all(&file.bytes()).expect("a file");

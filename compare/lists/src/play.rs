@@ -8,15 +8,17 @@ use marketdata::Level;
 use orderbook::{CancelReason, Command, Event, Phase, RejectReason, Side, TimeInForce};
 use protocol::{Inbound, LoginError, LogoutReason, NewOrder, OrderKind, Outbound, RejectCode, ReportKind};
 
-use crate::exchange::{Answer, Call, Listed, Mail, Seen, Start};
+use crate::exchange::{Answer, Call, Listed, Mail, Seen, Start, bytes};
 
-/// The words of a start, an account or a call; of a message, a command or a listed order; of a level.
+/// The words of a start, an account or a call; of a message or a command; of a listed order; of a level.
 const CALL: usize = 16;
 const ROW: usize = 12;
+const LISTED: usize = 8;
 const LEVEL: usize = 3;
 
-/// The most places that the player lends.
-const MOST: usize = 256;
+/// The most bytes that the player lends, and what it fills them with.
+const MOST: usize = 24_576;
+const BLANK: u8 = 0xA5;
 
 /// A value as words. A signed number is in two's complement; an option is 1 and the value, or 0 and 0.
 trait Words {
@@ -167,7 +169,7 @@ fn command(command: &Command) -> [u64; ROW] {
 }
 
 /// 0 for an order and 1 for a stop; number, owner, side, option of a price, leaves, and what an order shows.
-fn listed(entry: &Listed) -> [u64; ROW] {
+fn listed(entry: &Listed) -> [u64; LISTED] {
     match entry {
         Listed::Order(order) => {
             row(&[0], &[&order.id, &order.owner, &order.side, &1u64, &order.price, &order.leaves, &order.visible])
@@ -212,33 +214,89 @@ impl Call {
     }
 }
 
+/// Whose call it is: the first gateway's, the second's, or the second's with the two compared after it.
+#[derive(Clone, Copy)]
+pub enum Gateway {
+    First,
+    Second,
+    Both,
+}
+
+impl Gateway {
+    /// A call's number in the file.
+    fn number(self, call: u64) -> u64 {
+        match self {
+            Gateway::First => call,
+            Gateway::Second => 32 + call,
+            Gateway::Both => 64 + call,
+        }
+    }
+}
+
+/// Calls without rows that follow one another as one row of the file: the last call's row, how many came after the first, and the words
+/// (bits) that grow by 1 from call to call.
+struct Run {
+    row: Vec<u64>,
+    times: u64,
+    grows: Option<u64>,
+}
+
+/// The bytes in words, the last one filled up.
+fn packed(bytes: &[u8]) -> Vec<u64> {
+    let word = |part: &[u8]| {
+        let mut word = [BLANK; 8];
+        word[..part.len()].copy_from_slice(part);
+        u64::from_le_bytes(word)
+    };
+    bytes.chunks(8).map(word).collect()
+}
+
 /// A file of lists, and what it meets.
 #[derive(Default)]
 pub struct File {
     words: Vec<u64>,
+    run: Option<Run>,
     met: BTreeMap<String, usize>,
 }
 
 impl File {
-    fn meets(&mut self, what: String) {
+    pub fn meets(&mut self, what: String) {
         *self.met.entry(what).or_default() += 1;
     }
 
-    pub fn start(&mut self, start: &Start) {
-        let Start::SetUp(limit, last, accounts, _, timing) = start else { unreachable!("a set-up") };
-        let parts: &[&dyn Words] = &[&accounts.len(), limit, last, &timing.heartbeat, &timing.idle_timeout];
-        self.words.extend(row::<CALL>(&[0], parts));
+    /// A start of the first gateway or of the second, and the code that refuses it, or 0.
+    pub fn start(&mut self, start: &Start, code: u8, second: bool) {
+        let none = Vec::new();
+        let (number, limit, last, timing, accounts, listing, saved) = match start {
+            Start::SetUp(limit, last, accounts, listing, timing) => (0, limit, *last, timing, accounts, listing, Vec::new()),
+            Start::Restore(limit, accounts, timing, saved) => (20, limit, 0, timing, accounts, &none, bytes(saved)),
+            Start::Malformed(limit, accounts, timing, bytes) => (20, limit, 0, timing, accounts, &none, bytes.clone()),
+        };
+        let gateway = if second && code == 0 { Gateway::Both } else if second { Gateway::Second } else { Gateway::First };
+        let rows = if number == 0 { listing.len() } else { saved.len() };
+        let parts: &[&dyn Words] = &[&u64::from(code), &rows, &accounts.len(), limit, &last, &timing.heartbeat, &timing.idle_timeout];
+        self.words.extend(row::<CALL>(&[gateway.number(number), 0], parts));
         for account in accounts {
             self.words.extend(row::<CALL>(&[], &[account]));
         }
-        self.meets("start".to_owned());
+        self.words.extend(listing.iter().flat_map(listed));
+        self.words.extend(packed(&saved));
+        self.run = None;
+        let name = if number == 0 { "set-up" } else { "restore" };
+        self.meets(format!("{name} code {code}{}", if second { " of a second gateway" } else { "" }));
     }
 
     /// A call with `room` places lent, and what it gave.
-    pub fn call(&mut self, call: &Call, room: usize, seen: &Seen) {
+    pub fn call(&mut self, call: &Call, room: usize, seen: &Seen, gateway: Gateway) {
         let (number, name, mut words) = call.named();
-        let (room, places) = (room.min(MOST), seen.places());
-        assert!(places <= MOST, "more places than the player lends");
+        let number = gateway.number(number);
+        let most = match call {
+            Call::Levels(_) => MOST / (8 * LEVEL),
+            Call::Checkpoint => MOST,
+            _ => MOST / (8 * ROW),
+        };
+        let (room, places) = (room.min(most), seen.places());
+        assert!(places <= most, "more places than the player lends");
         let code = if let Seen::Code(code) = seen { u64::from(*code) } else { 0 };
         let mut rows: Vec<u64> = Vec::new();
         if let Seen::Sees(answer, mails) = seen {
@@ -249,19 +307,25 @@ impl File {
                 Answer::Number(number) => words.push(*number),
                 Answer::Levels(levels) => rows.extend(levels.iter().flat_map(level)),
                 Answer::Commands(commands) => rows.extend(commands.iter().flat_map(command)),
-                Answer::Bytes(bytes) => rows.extend(bytes.iter().map(|&byte| u64::from(byte))),
+                Answer::Bytes(bytes) => rows.extend(packed(bytes)),
             }
             rows.extend(mails.iter().flat_map(mail));
         }
-        let given: Vec<u64> = match call {
-            Call::ReplayCommand(_, given) => command(given).to_vec(),
-            Call::Finish(listing) => listing.iter().flat_map(listed).collect(),
-            _ => Vec::new(),
+        let (count, given): (usize, Vec<u64>) = match call {
+            Call::ReplayCommand(_, given) => (1, command(given).to_vec()),
+            Call::Finish(listing) => (listing.len(), listing.iter().flat_map(listed).collect()),
+            _ => (places, Vec::new()),
         };
-        let count = if given.is_empty() { places } else { given.len() / ROW };
         words.resize(CALL - 4, 0);
-        self.words.extend([number, room as u64, code, count as u64].iter().chain(&words).chain(&given).chain(&rows));
-        self.count(call, name, code, seen);
+        let head = [vec![number, room as u64, code, count as u64], words].concat();
+        if count > 0 || !self.extends_run(&head) {
+            self.words.extend(head.iter().chain(&given).chain(&rows));
+            self.run = (count == 0).then_some(Run { row: head, times: 0, grows: None });
+        }
+        match gateway {
+            Gateway::First => self.count(call, name, code, seen),
+            _ => self.meets(format!("second gateway: {name}")),
+        }
     }
 
     fn count(&mut self, call: &Call, name: &str, code: u64, seen: &Seen) {
@@ -298,6 +362,20 @@ impl File {
             Answer::Levels(levels) => self.meets(format!("levels {}", if levels.is_empty() { "none" } else { "some" })),
             _ => {}
         }
+    }
+
+    /// Whether the row goes on with the run that ends the file: the last one again, with 1 more in the words that grow.
+    fn extends_run(&mut self, row: &[u64]) -> bool {
+        let Some(run) = &mut self.run else { return false };
+        let grown = |at: usize| row[at] == run.row[at].wrapping_add(1);
+        let grows: u64 = (4..CALL - 1).filter(|&at| grown(at)).map(|at| 1 << at).sum();
+        let same = (0..CALL).all(|at| grows >> at & 1 == 1 || row[at] == run.row[at]);
+        if !same || row[CALL - 1] != 0 || run.grows.is_some_and(|words| words != grows) {
+            return false;
+        }
+        (run.row, run.times, run.grows) = (row.to_vec(), run.times + 1, Some(grows));
+        *self.words.last_mut().expect("a row") = run.times << 16 | grows;
+        true
     }
 
     pub fn bytes(&self) -> Vec<u8> {

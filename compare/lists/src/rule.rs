@@ -9,7 +9,7 @@ use marketdata::{Depth, QueueEntry};
 use orderbook::{Command, Event, Order, OrderId, Side};
 use protocol::{Inbound, NewOrder, OrderKind};
 
-use crate::exchange::{Call, Listed, Start, book};
+use crate::exchange::{Call, Listed, Seen, Start, book};
 
 #[derive(Clone, Copy)]
 pub struct Live {
@@ -17,6 +17,17 @@ pub struct Live {
     pub side: Side,
     pub price: Option<i64>,
     pub leaves: u64,
+}
+
+impl Live {
+    /// What it holds in a wallet.
+    fn hold(&self) -> i64 {
+        let price = match self.side {
+            Side::Buy => self.price,
+            Side::Sell => self.price.map(|_| 1),
+        };
+        price.and_then(|price| i64::try_from(i128::from(self.leaves) * i128::from(price)).ok()).unwrap_or(0)
+    }
 }
 
 #[derive(Clone, Default)]
@@ -27,7 +38,8 @@ pub struct Rule {
     pub flights: Vec<(u64, bool)>,
     /// How many commands are in the batch.
     pub batch: usize,
-    /// How many notices wait, as long as orders are only placed and cancelled.
+    /// How many trades and how many wallet notices wait to be published.
+    pub trades: usize,
     pub notices: usize,
     pub accounts: BTreeMap<u32, Account>,
     pub live: BTreeMap<OrderId, Live>,
@@ -84,6 +96,13 @@ pub fn resting(depth: &Depth) -> BTreeMap<OrderId, Order> {
     catch_unwind(AssertUnwindSafe(|| half(Side::Buy).chain(half(Side::Sell)).collect())).unwrap_or_default()
 }
 
+/// The depth after an event; none where the sum of a level does not fit.
+fn after_event(depth: &Depth, event: &Event) -> Option<Depth> {
+    let mut after = depth.clone();
+    catch_unwind(AssertUnwindSafe(|| after.apply(event))).ok()?;
+    Some(after)
+}
+
 fn levels_fit(listing: &[Listed]) -> bool {
     catch_unwind(|| Depth::of(&book(0, listing))).is_ok()
 }
@@ -128,6 +147,7 @@ impl Rule {
                     let side = if order.buy { Side::Buy } else { Side::Sell };
                     let live = Live { account: order.account, side, price: order.price, leaves: order.leaves };
                     rule.live.insert(order.id, live);
+                    rule.notices += usize::from(rule.has_wallet(live.account) && live.hold() != 0);
                 }
             }
             Start::Malformed(..) => {}
@@ -140,10 +160,8 @@ impl Rule {
     fn holds_fit(&self) -> bool {
         let mut holds: BTreeMap<(u32, bool), i128> = BTreeMap::new();
         for live in self.live.values() {
-            if let (Some(price), true) = (live.price, self.has_wallet(live.account)) {
-                let buys = live.side == Side::Buy;
-                let hold = i128::from(live.leaves) * if buys { i128::from(price) } else { 1 };
-                *holds.entry((live.account, buys)).or_default() += i64::try_from(hold).map_or(0, i128::from);
+            if self.has_wallet(live.account) {
+                *holds.entry((live.account, live.side == Side::Buy)).or_default() += i128::from(live.hold());
             }
         }
         holds.values().all(|&total| i64::try_from(total).is_ok())
@@ -170,12 +188,49 @@ impl Rule {
                 (8, matches!(event, Event::Rested { id, .. } if resting.contains_key(id))),
                 (8, matches!(event, Event::Trade { taker, maker, qty, .. } if exceeds(taker, *qty) || exceeds(maker, *qty))),
                 // What is left that can go wrong there is the sum of a level.
-                (7, catch_unwind(|| depth.clone().apply(event)).is_err()),
+                (7, after_event(depth, event).is_none()),
             ])?;
         }
         let mut after = self.clone();
         after.apply(number, event);
-        first(&[(7, !after.holds_fit())])
+        first(&[(7, !after.holds_fit())])?;
+        first(&[(5, depth.and_then(|depth| after.overfull(&mut after_event(depth, event)?)).is_some())])
+    }
+
+    /// The table that the depth or what waits to be published has outgrown.
+    fn overfull(&self, depth: &mut Depth) -> Option<&'static str> {
+        let levels = |side: Side| depth.levels(side).count() > 512;
+        let sizes = [
+            ("orders", depth.order_count() > 1024),
+            ("levels", levels(Side::Buy) || levels(Side::Sell)),
+            ("trades", self.trades > 256),
+            ("notices", self.notices > 2048),
+            ("changed levels", depth.changes().count() > 1024),
+        ];
+        sizes.iter().find(|size| size.1).map(|size| size.0)
+    }
+
+    /// What is worth counting of a call: the table that refuses an event, or the kind of a trade that is accepted.
+    pub fn remark(&self, call: &Call, exchange: &Exchange) -> Option<String> {
+        let Call::Deliver(number, event) = call else { return None };
+        let code = self.event(*number, event, Some(exchange.depth()), false);
+        if code == Err(5) {
+            let mut after = self.clone();
+            after.apply(*number, event);
+            return Some(format!("deliver finds no room for {}", after.overfull(&mut after_event(exchange.depth(), event)?)?));
+        }
+        let Event::Trade { taker, maker, .. } = event else { return None };
+        let owner = |id: &OrderId| self.live.get(id).map(|live| live.account);
+        let kind = match (owner(taker), owner(maker)) {
+            (Some(one), Some(other)) if one == other => "of one account",
+            (Some(one), Some(other)) => match usize::from(self.has_wallet(one)) + usize::from(self.has_wallet(other)) {
+                0 => "between no wallets",
+                1 => "between a wallet and none",
+                _ => "between two wallets",
+            },
+            _ => "of an order no longer live",
+        };
+        code.is_ok().then(|| format!("trade {kind}"))
     }
 
     fn command(&self, number: u64, command: &Command) -> Result<(), u8> {
@@ -248,17 +303,33 @@ impl Rule {
         self.last += 1;
         self.flights.push((self.last, order.is_some()));
         if let Some((account, side, price, leaves)) = order {
-            self.live.insert(self.last, Live { account, side, price, leaves });
+            self.live.insert(self.last, Live { account, side, price, leaves: 0 });
+            self.set_leaves(self.last, leaves, false);
         }
     }
 
     fn set_leaves(&mut self, id: OrderId, leaves: u64, ends: bool) {
-        if let Some(live) = self.live.get_mut(&id) {
-            live.leaves = leaves;
+        let price = self.live.get(&id).and_then(|live| live.price);
+        self.set(id, price, leaves, ends);
+    }
+
+    /// A hold that changes is noticed.
+    fn set(&mut self, id: OrderId, price: Option<i64>, leaves: u64, ends: bool) {
+        if let Some(&live) = self.live.get(&id) {
+            let after = Live { price, leaves, ..live };
+            self.notices += usize::from(self.has_wallet(live.account) && after.hold() != live.hold());
+            self.live.insert(id, after);
         }
         if ends && leaves == 0 {
             self.live.remove(&id);
         }
+    }
+
+    /// A settlement is noticed.
+    fn settle(&mut self, id: OrderId, leaves: u64) {
+        let paper = self.live.get(&id).is_some_and(|live| self.has_wallet(live.account));
+        self.notices += usize::from(paper);
+        self.set_leaves(id, leaves, true);
     }
 
     fn apply(&mut self, number: u64, event: &Event) {
@@ -266,29 +337,48 @@ impl Rule {
         match *event {
             Event::Rejected { id, .. } if self.flights[0].1 => self.set_leaves(id, 0, true),
             Event::Trade { taker, maker, taker_leaves, maker_leaves, .. } => {
-                self.set_leaves(taker, taker_leaves, true);
-                self.set_leaves(maker, maker_leaves, true);
+                self.trades += 1;
+                self.settle(taker, taker_leaves);
+                self.settle(maker, maker_leaves);
             }
             Event::Rested { id, qty, .. } => self.set_leaves(id, qty, false),
             Event::Cancelled { id, .. } => self.set_leaves(id, 0, true),
-            Event::Modified { id, price, leaves, .. } => {
-                if let Some(live) = self.live.get_mut(&id) {
-                    live.price = Some(price);
-                }
-                self.set_leaves(id, leaves, true);
-            }
+            Event::Modified { id, price, leaves, .. } => self.set(id, Some(price), leaves, true),
             _ => {}
         }
     }
 
-    /// What a call did that the Rust went through with.
-    pub fn follow(&mut self, call: &Call, exchange: &Exchange) {
-        let owner = match call {
-            Call::Receive(session, Inbound::NewOrder(_), _) => exchange.account_of(*session),
-            Call::Deliver(_, Event::Cancelled { id, .. }) => self.live.get(id).map(|live| live.account),
+    /// The account whose command the call may number.
+    pub fn owner(&self, call: &Call, exchange: &Exchange) -> Option<u32> {
+        match call {
+            Call::Receive(session, ..) | Call::Disconnect(session) => exchange.account_of(*session),
             _ => None,
+        }
+    }
+
+    /// What the record has of a call that was made, as the call that feeds it to a second gateway.
+    pub fn item(&self, call: &Call, owner: Option<u32>, exchange: &Exchange) -> Option<Call> {
+        match call {
+            Call::AddAccount(_) | Call::ReplayCommand(..) | Call::ReplayEvent(..) => return Some(call.clone()),
+            Call::Deliver(number, event) => return Some(Call::ReplayEvent(*number, *event)),
+            _ if exchange.last_seq() == self.last => return None,
+            _ => {}
+        }
+        let (number, owner) = (exchange.last_seq(), owner?);
+        let command = match call {
+            Call::Receive(_, Inbound::NewOrder(new), _) => command(number, owner, new),
+            Call::Receive(_, Inbound::Cancel { order_id }, _) => Command::Cancel { id: *order_id, owner },
+            Call::Receive(_, Inbound::Modify { order_id, price, qty }, _) => {
+                Command::Modify { id: *order_id, owner, price: *price, qty: *qty }
+            }
+            _ => Command::CancelAll { owner },
         };
-        self.notices += usize::from(owner.is_some_and(|owner| self.has_wallet(owner)));
+        Some(Call::ReplayCommand(number, command))
+    }
+
+    /// What a call did that the Rust went through with.
+    pub fn follow(&mut self, call: &Call, seen: &Seen, exchange: &Exchange) {
+        let waiting = (self.trades, self.notices);
         match call {
             Call::AddAccount(account) => drop(self.accounts.insert(account.id, *account)),
             Call::Connect(session, _) => drop(self.sessions.insert(*session)),
@@ -298,14 +388,17 @@ impl Rule {
             _ => {}
         }
         match call {
-            Call::ReplayCommand(..) | Call::ReplayEvent(..) => self.replaying = true,
+            // A replay leaves what waits as it was.
+            Call::ReplayCommand(..) | Call::ReplayEvent(..) => {
+                self.replaying = true;
+                (self.trades, self.notices) = waiting;
+            }
             Call::Finish(_) => self.replaying = false,
+            Call::TakeBatch => self.batch = 0,
             _ => {}
         }
-        match call {
-            Call::TakeBatch => self.batch = 0,
-            Call::Publish | Call::Receive(_, Inbound::Subscribe, _) => self.notices = 0,
-            _ => {}
+        if matches!(call, Call::Publish | Call::Finish(_)) || seen.has_snapshot() {
+            (self.trades, self.notices) = (0, 0);
         }
         if exchange.last_seq() > self.last {
             self.batch += 1;

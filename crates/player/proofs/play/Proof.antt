@@ -4,12 +4,6 @@ use borrow.Author.Needs.{needs}
 use Rattle.player.proofs.play.Statement.{statement}
 use Rattle.player.proofs.play.Tie as tie
 
-slice-aggregate-wanted : tie.Need-slice-aggregate-wanted
-slice-aggregate-wanted c = search needs
-
-wanted-requires : tie.Need-wanted-requires
-wanted-requires c κs = search needs
-
 unanswered-requires : tie.Need-unanswered-requires
 unanswered-requires c κs = search needs
 
@@ -25,17 +19,35 @@ word-requires c κs = search needs
 bytes-of-requires : tie.Need-bytes-of-requires
 bytes-of-requires c κs = search needs
 
+slice-aggregate-bytes-of-2 : tie.Need-slice-aggregate-bytes-of-2
+slice-aggregate-bytes-of-2 c = search needs
+
+slice-aggregate-word-2 : tie.Need-slice-aggregate-word-2
+slice-aggregate-word-2 c = search needs
+
+word-requires-2 : tie.Need-word-requires-2
+word-requires-2 c κs = search needs
+
+bytes-of-requires-2 : tie.Need-bytes-of-requires-2
+bytes-of-requires-2 c κs = search needs
+
 slice-aggregate-call : tie.Need-slice-aggregate-call
 slice-aggregate-call c = search needs
 
+array-share-prefix-rows : tie.Need-array-share-prefix-rows
+array-share-prefix-rows c = search needs
+
 slice-aggregate-call-2 : tie.Need-slice-aggregate-call-2
-slice-aggregate-call-2 c = search needs
+slice-aggregate-call-2 c = simp length-take (omega arith)
+
+slice-aggregate-call-3 : tie.Need-slice-aggregate-call-3
+slice-aggregate-call-3 c = search needs
 
 array-borrow-prefix-out : tie.Need-array-borrow-prefix-out
 array-borrow-prefix-out c = search needs
 
-slice-aggregate-call-3 : tie.Need-slice-aggregate-call-3
-slice-aggregate-call-3 c = simp length-take (omega arith)
+slice-aggregate-call-4 : tie.Need-slice-aggregate-call-4
+slice-aggregate-call-4 c = simp length-take (omega arith)
 
 call-requires : tie.Need-call-requires
 call-requires c κs = search needs
@@ -53,17 +65,21 @@ pub play-spec : {M : Type 1} → statement M
 play-spec =
     tie.close
     (tie.spec
-    slice-aggregate-wanted
-    wanted-requires
     unanswered-requires
     slice-aggregate-bytes-of
     slice-aggregate-word
     word-requires
     bytes-of-requires
+    slice-aggregate-bytes-of-2
+    slice-aggregate-word-2
+    word-requires-2
+    bytes-of-requires-2
     slice-aggregate-call
+    array-share-prefix-rows
     slice-aggregate-call-2
-    array-borrow-prefix-out
     slice-aggregate-call-3
+    array-borrow-prefix-out
+    slice-aggregate-call-4
     call-requires
     agree-requires
     same-length

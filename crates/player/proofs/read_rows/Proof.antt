@@ -1,8 +1,8 @@
 use lib.ListN.{length-take}
 use native.Mathlib.Omega.{arith}
 use borrow.Author.Needs.{needs}
-use Rattle.player.proofs.wanted.Statement.{statement}
-use Rattle.player.proofs.wanted.Tie as tie
+use Rattle.player.proofs.read_rows.Statement.{statement}
+use Rattle.player.proofs.read_rows.Tie as tie
 
 word-requires : tie.Need-word-requires
 word-requires c κs = search needs
@@ -10,8 +10,14 @@ word-requires c κs = search needs
 bytes-of-requires : tie.Need-bytes-of-requires
 bytes-of-requires c κs = search needs
 
-array-borrow-prefix-want : tie.Need-array-borrow-prefix-want
-array-borrow-prefix-want c = search needs
+add-whole : tie.Need-add-whole
+add-whole c = search needs
+
+mul-whole : tie.Need-mul-whole
+mul-whole c = search needs
+
+array-borrow-prefix-rows : tie.Need-array-borrow-prefix-rows
+array-borrow-prefix-rows c = search needs
 
 slice-aggregate-read-full : tie.Need-slice-aggregate-read-full
 slice-aggregate-read-full c = simp length-take (omega arith)
@@ -22,13 +28,15 @@ read-full-requires c κs = search needs
 returns : tie.Need-returns
 returns c = search needs
 
-pub wanted-spec : {M : Type 1} → statement M
-wanted-spec =
+pub read-rows-spec : {M : Type 1} → statement M
+read-rows-spec =
     tie.close
     (tie.spec
     word-requires
     bytes-of-requires
-    array-borrow-prefix-want
+    add-whole
+    mul-whole
+    array-borrow-prefix-rows
     slice-aggregate-read-full
     read-full-requires
     returns)

@@ -1,23 +1,24 @@
 use Prim.Native.Nat.{_-_}
+use mathlib.Core.Path.{_≡_}
+use lib.ListN.{length}
 use borrow.Author.Needs.{needs}
-use Rattle.player.specs.Fresh.{Fresh}
-use Rattle.player.proofs.enter_all.Statement.{statement}
-use Rattle.player.proofs.enter_all.Tie as tie
+use Rattle.player.proofs.grow_row.Statement.{statement}
+use Rattle.player.proofs.grow_row.Tie as tie
 
 abbrev Inv-loop : tie.InvT-loop
-Inv-loop fd m₀ limit n i₀ m i = Fresh limit m
+Inv-loop row₀ words i₀ row i = length row ≡ length row₀
 
 abbrev μ-loop : tie.MeasureT-loop
-μ-loop fd m₀ limit n i₀ m i = n - i
+μ-loop row₀ words i₀ row i = 16 - i
+
+word-requires : tie.Need-word-requires Inv-loop μ-loop
+word-requires c κs = search needs
 
 loop-holds : tie.Need-loop-holds Inv-loop μ-loop
 loop-holds c = search needs
 
-read-account-requires : tie.Need-read-account-requires Inv-loop μ-loop
-read-account-requires c κs = search needs
-
-enter-requires : tie.Need-enter-requires Inv-loop μ-loop
-enter-requires c κs = search needs
+grow-requires : tie.Need-grow-requires Inv-loop μ-loop
+grow-requires c κs = search needs
 
 add-i : tie.Need-add-i Inv-loop μ-loop
 add-i c = search needs
@@ -34,15 +35,15 @@ same-length c = search needs
 returns : tie.Need-returns Inv-loop μ-loop
 returns c = search needs
 
-pub enter-all-spec : {M : Type 1} → statement M
-enter-all-spec =
+pub grow-row-spec : {M : Type 1} → statement M
+grow-row-spec =
     tie.close
     (tie.spec
     Inv-loop
     μ-loop
+    word-requires
     loop-holds
-    read-account-requires
-    enter-requires
+    grow-requires
     add-i
     loop-less
     loop-again
