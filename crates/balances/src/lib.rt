@@ -1,5 +1,6 @@
 // An account's balance: `Wallet::balance` of wallet.rs for the row of an account, and the call `wallet`.
 use protocol::Balance;
+use store::limits;
 ghost use mathlib.Core.Path.{_≡_};
 ghost use mathlib.Core.Bool.{true};
 ghost use mathlib.Core.Option.{some};
@@ -46,7 +47,7 @@ pub fn wallet(m: &[u8], account: u32) -> MaybeBalance
     ensures { λ r. ⌜ Says (wallet-is (P.maybe-balance r)) (call (gateway (cell (now (m .entry)))) (Calls.wallet account)) 0 (now (m .entry)) (now (m .entry)) ⌝ }
 {
     let a = account as usize;
-    if a < clients::OWNER_SLOTS {
+    if a < limits::OWNER_SLOTS {
         return balance_at(m, a);
     }
     MaybeBalance::None

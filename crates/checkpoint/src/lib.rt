@@ -3,6 +3,7 @@ mod fields;
 
 use outcome::Reply;
 use store::cells;
+use store::limits;
 ghost use mathlib.Core.Path.{_≡_};
 ghost use Prim.Native.Nat.{_+_, _*_, _≤_, _<_};
 ghost use lib.ListN.{length};
@@ -19,8 +20,6 @@ ghost use Rattle.checkpoint.specs.Put as P;
 ghost use Rattle.checkpoint.specs.Written.{Writes};
 
 // The refusal while commands wait or events are to come.
-const NOT_QUIET: u64 = 10;
-
 // Whether no command waits and every event was delivered.
 fn is_quiet(m: &[u8]) -> bool
     requires { ⌜ State (now m) ⌝ }
@@ -52,7 +51,7 @@ fn wallets(m: &[u8]) -> usize
 {
     let mut n: usize = 0;
     let mut a: usize = 0;
-    while a < clients::OWNER_SLOTS {
+    while a < limits::OWNER_SLOTS {
         n += wallets_at(m, a);
         a += 1;
     }
@@ -98,7 +97,7 @@ fn put_wallets(m: &[u8], out: &mut [u8], o: usize) -> usize
 {
     let mut n = o;
     let mut a: usize = 0;
-    while a < clients::OWNER_SLOTS {
+    while a < limits::OWNER_SLOTS {
         n = put_slot(m, out, n, a);
         a += 1;
     }
@@ -169,7 +168,7 @@ pub fn checkpoint(m: &[u8], out: &mut [u8]) -> Reply
 {
     if !is_quiet(m) {
         return Reply {
-            code: NOT_QUIET,
+            code: outcome::NOT_QUIET,
             count: 0,
         };
     }

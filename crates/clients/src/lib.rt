@@ -4,6 +4,7 @@ use accounts::Funds;
 use accounts::MaybeFunds;
 use risk::Bucket;
 use store::cells;
+use store::limits;
 use wallet::Wallet;
 ghost use mathlib.Core.Bool.{true};
 ghost use mathlib.Core.Option.{none, some};
@@ -23,11 +24,6 @@ pub enum MaybeAccount {
     None,
     Some(Account),
 }
-
-// How many rows of accounts and of sessions there are.
-pub const OWNER_SLOTS: usize = 256;
-
-pub const SESSION_SLOTS: usize = 64;
 
 // ---- accounts
 
@@ -332,7 +328,7 @@ pub fn find_session(m: &[u8], s: usize) -> Session
     requires { ⌜ Holds (now m) ⌝ }
     ensures { λ r. ⌜ P.session-in r ≡ session-at s (gateway (cell (now (m .entry))) .rest) ⌝ }
 {
-    if s < SESSION_SLOTS {
+    if s < limits::SESSION_SLOTS {
         session_at(m, s)
     } else {
         Session::nobody()

@@ -2,6 +2,7 @@
 use orderbook::Command;
 use outcome::Reply;
 use store::cells;
+use store::limits;
 ghost use mathlib.Core.Path.{_≡_};
 ghost use mathlib.Core.Bool.{true};
 ghost use mathlib.Core.List.{[], map};
@@ -25,13 +26,6 @@ ghost use Rattle.commands.specs.Commands as P;
 
 // ---- numbering
 
-const MOST_IN_FLIGHT: u64 = 256;
-
-const MOST_IN_BATCH: u64 = 256;
-
-// The last number of all.
-const MOST: u64 = 18446744073709551615;
-
 // The last number.
 pub fn last_seq(m: &[u8]) -> u64
     requires { ⌜ Between (now m) ⌝ }
@@ -48,9 +42,9 @@ pub fn can_number(m: &[u8]) -> bool
     let flying = pending::header::word_at(m, cells::FLYING);
     let waiting = pending::header::word_at(m, cells::WAITING);
     let last = pending::header::word_at(m, cells::LAST);
-    if flying < MOST_IN_FLIGHT {
-        if waiting < MOST_IN_BATCH {
-            return last < MOST;
+    if flying < limits::MOST_IN_FLIGHT {
+        if waiting < limits::MOST_IN_BATCH {
+            return last < limits::GREATEST;
         }
     }
     false
@@ -152,7 +146,7 @@ fn forget(m: &mut [u8], s: usize)
     requires { ⌜ State (now m) ⌝ }
     ensures { λ r. ⌜ Becomes (now (m .exit)) (with-rest (without-session s) (gateway (cell (now (m .entry))))) ⌝ }
 {
-    if s < clients::SESSION_SLOTS {
+    if s < limits::SESSION_SLOTS {
         clients::forget(m, s);
     }
 }

@@ -7,6 +7,7 @@ use protocol::Outbound;
 use protocol::Report;
 use protocol::ReportKind;
 use reporting::Told;
+use store::limits;
 ghost use mathlib.Core.Path.{_≡_};
 ghost use Prim.Native.Nat.{_+_, _≤_, _<_};
 ghost use lib.ListN.{length};
@@ -49,7 +50,7 @@ fn listener(m: &[u8], owner: usize) -> Told
     requires { ⌜ State (now m) ⌝ }
     ensures { λ r. ⌜ P.TellsAccount owner r (gateway (cell (now (m .entry)))) ⌝ }
 {
-    if owner < clients::OWNER_SLOTS {
+    if owner < limits::OWNER_SLOTS {
         let to = reporting::listener(m, owner);
         return Told { to, client_ref: 0 };
     }
@@ -93,7 +94,7 @@ fn count(m: &[u8], n: u64, phase: Phase) -> usize
 {
     let mut k: usize = 0;
     let mut s: usize = 0;
-    while s < clients::SESSION_SLOTS {
+    while s < limits::SESSION_SLOTS {
         k += rows(m, s, n, phase);
         s += 1;
     }
@@ -124,7 +125,7 @@ fn tell_all(m: &mut [u8], out: &mut [u8], n: u64, phase: Phase) -> usize
 {
     let mut i: usize = 0;
     let mut s: usize = 0;
-    while s < clients::SESSION_SLOTS {
+    while s < limits::SESSION_SLOTS {
         i = visit(m, out, i, s, n, phase);
         s += 1;
     }

@@ -66,13 +66,6 @@ level-step s g j = level-to s (g .rest .delivered) (key-at g j .0) (D.level (key
 abbrev pub levels-to : ℕ → Gateway → List Mail
 levels-to s g = map (λ k. level-to s (g .rest .delivered) (k .0) (D.level k (g .rest .depth))) (g .rest .depth .changed)
 
--- a row has the quantity and the number of orders of the level at a price
-pub record IsLevel (z : Side) (p : ℤ) (d : D.Depth) (l : Row) : Type 0 where
-  pub price-is : D.level (z, p) d .price ≡ p
-  pub qty-is : l .qty ≡ D.level (z, p) d .qty
-  pub orders-is : l .orders ≡ D.level (z, p) d .orders
-  pub few : l .orders ≤ most-orders
-
 -- ---- how much there can be: rows to one session, to all, and with the balances
 abbrev pub most-changes : ℕ
 most-changes = most-trades + most-changed

@@ -1,6 +1,7 @@
 // What an event does to a live order that it names: judged on the state as it is, then applied (`deliver` of exchange.rs).
 use orders::Live;
 use store::cells;
+use store::limits;
 use table::Found;
 ghost use mathlib.Core.Path.{_≡_};
 ghost use Prim.Native.Nat.{_+_, _≤_, _<_};
@@ -35,8 +36,6 @@ pub struct Shift {
     pub notices: u64,
     pub funded: bool,
 }
-
-const MOST_NOTICES: u64 = 2048;
 
 // What the order holds afterwards: a fill leaves it its own price.
 fn hold_after(o: Live, x: Move) -> u64
@@ -163,7 +162,7 @@ pub fn few(m: &[u8], notices: u64) -> bool
     ensures { λ r. ⌜ r ≡ leb (notices + word (cell (now (m .entry))) C.notice-rows) most-notices ⌝ }
 {
     let n = pending::header::word_at(m, cells::NOTICE_ROWS);
-    notices + n <= MOST_NOTICES
+    notices + n <= limits::MOST_NOTICES
 }
 
 fn change_row(m: &mut [u8], i: usize, o: Live, x: Move)

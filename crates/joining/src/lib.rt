@@ -13,10 +13,6 @@ ghost use Rattle.outcome.specs.Between.{Between};
 ghost use Rattle.outcome.specs.Answers.{verdict, Says};
 
 // The refusals of document 01 that this call alone makes.
-const EXISTS: u64 = 3;
-
-const HAS_ORDERS: u64 = 12;
-
 // The code of the first test that fails, or 0. Open orders are counted for every slot, also for one without an account.
 fn judge(m: &[u8], a: Account) -> u64
     requires { ⌜ State (now m) ⌝ }
@@ -27,10 +23,10 @@ fn judge(m: &[u8], a: Account) -> u64
         return outcome::OUT_OF_RANGE;
     }
     if clients::has_account(m, i) {
-        return EXISTS;
+        return outcome::EXISTS;
     }
     if clients::open_orders(m, i) != 0 {
-        return HAS_ORDERS;
+        return outcome::HAS_ORDERS;
     }
     0
 }

@@ -1,6 +1,7 @@
 // A book listing in a lent list of rows, for set-up and `finish`: its entries, how often a number is listed, its price levels, and its resting
 // orders as they come to stand in the depth (`Depth::of` of marketdata/src/lib.rs).
 use orders::Resting;
+use store::limits;
 ghost use mathlib.Core.Path.{_≡_};
 ghost use mathlib.Core.Bool.{true};
 ghost use Prim.Native.Nat.{_+_, _<_, _≤_};
@@ -32,10 +33,6 @@ pub struct Entry {
 
 // The bytes of a row.
 pub const ROW: usize = 64;
-
-const MOST_LEVELS: usize = 512;
-
-const MOST_QTY: u64 = 18_446_744_073_709_551_615;
 
 // ---- rows
 
@@ -159,8 +156,8 @@ fn count_levels(list: &[u8], side: u64) -> usize
 pub fn levels_few(list: &[u8]) -> bool
     ensures { λ r. ⌜ r ≡ levels-few (resting-in (listing (now (list .entry)))) ⌝ }
 {
-    if count_levels(list, 0) <= MOST_LEVELS {
-        return count_levels(list, 1) <= MOST_LEVELS;
+    if count_levels(list, 0) <= limits::MOST_LEVELS {
+        return count_levels(list, 1) <= limits::MOST_LEVELS;
     }
     false
 }
@@ -197,7 +194,7 @@ fn row_fits(list: &[u8], j: usize) -> bool
     if e.kind != 0 {
         return true;
     }
-    shown_from(list, j + 1, e.side, e.price) <= MOST_QTY - e.visible
+    shown_from(list, j + 1, e.side, e.price) <= limits::GREATEST - e.visible
 }
 
 // Code 7: what each level shows is in range.

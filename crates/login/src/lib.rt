@@ -28,8 +28,6 @@ ghost use Rattle.outcome.specs.Answers.{Gives, failed};
 ghost use Rattle.login.specs.Login as P;
 
 // The protocol's version (VERSION).
-const PROTOCOL_VERSION: u16 = 1;
-
 // Why a login is refused, if it is.
 pub enum MaybeLoginError {
     None,
@@ -73,7 +71,7 @@ fn judge(m: &[u8], version: u16, account: u32, token: u64) -> MaybeLoginError
     requires { ⌜ State (now m) ⌝ }
     ensures { λ r. ⌜ P.maybe-error r ≡ failed (login-tests version account token (gateway (cell (now (m .entry))) .core) (rest-of (now (m .entry)))) ⌝ }
 {
-    if version != PROTOCOL_VERSION {
+    if version != protocol::VERSION {
         return MaybeLoginError::Some(LoginError::UnsupportedVersion);
     }
     if is_known(m, account, token) {

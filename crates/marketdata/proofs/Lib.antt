@@ -4,3 +4,4 @@ pub mod Rests
 pub mod Places
 pub mod Laws
 pub mod Events
+pub mod AtLevel

@@ -7,6 +7,7 @@ use mathlib.Core.Option.{none}
 use lib.Dec.{ltb, leb}
 use lib.IntN.{ℤ}
 use lib.ListN.{length}
+use Rattle.orderbook.specs.declared.Side.{Side}
 use Rattle.table.specs.Table.{Between}
 use Rattle.gateway.specs.Limits.{most-orders, most-changed}
 use Rattle.gateway.specs.Depth.{Depth, Key, level, key-of, same-price, find-resting, where-resting, remember, levels-fit, depth-few}
@@ -19,6 +20,7 @@ use Rattle.store.specs.View.{Store, resting, depth, gateway}
 use Rattle.store.specs.View as View
 use Rattle.orders.specs.declared.Resting.{Resting}
 use Rattle.orders.specs.Orders.{resting-row}
+use Rattle.levels.specs.declared.Row.{Row}
 use Rattle.sound.specs.Sound.{Becomes}
 use Rattle.words.specs.Words.{modulus}
 
@@ -37,6 +39,13 @@ pub record Free (i n : ℕ) (s : Store) : Type 0 where
 -- the order of the row i
 abbrev pub resting-at : ℕ → Store → D.Resting
 resting-at i s = resting (s C.orders i)
+
+-- r has the quantity and the number of orders of the level at a price
+pub record IsLevel (z : Side) (p : ℤ) (d : Depth) (r : Row) : Type 0 where
+  pub price-is : level (z, p) d .price ≡ p
+  pub qty-is : r .qty ≡ level (z, p) d .qty
+  pub orders-is : r .orders ≡ level (z, p) d .orders
+  pub few : r .orders ≤ most-orders
 
 -- ---- the gateway with another depth
 

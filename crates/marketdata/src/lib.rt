@@ -1,5 +1,6 @@
 // The depth: resting orders, their price levels, and the levels changed since the last publishing (`Depth` of marketdata/src/lib.rs).
 // A row is handed on by value, so that it is neither searched nor read twice.
+use levels::Row;
 use orders::Resting;
 use store::cells;
 use table::Found;
@@ -10,10 +11,28 @@ ghost use Rattle.table.specs.Live.{without, insert, replace};
 ghost use Rattle.gateway.specs.Depth as D;
 ghost use Rattle.store.specs.Layout.{cell};
 ghost use Rattle.store.specs.View.{side, depth, gateway, Ready};
+ghost use Rattle.store.specs.View as View;
 ghost use Rattle.orders.specs.Orders.{number-at, resting-of};
 ghost use Rattle.pending.specs.Pending as Pending;
 ghost use Rattle.sound.specs.Sound.{State, Becomes};
 ghost use Rattle.marketdata.specs.Marketdata as P;
+
+// The level of a side, a code, and a price, a word: no quantity and no orders where there is none.
+pub fn level_of(m: &[u8], side: u64, price: u64) -> Row
+    requires { ⌜ State (now m) ⌝ }
+    ensures { λ r. ⌜ P.IsLevel (View.side side) (int price) (depth (cell (now (m .entry)))) r ⌝ }
+{
+    let z = store::side_of(side);
+    let k = words::raised(price);
+    if let Found::At(i) = levels::find(m, z, k) {
+        return levels::read_row(m, z, i);
+    }
+    Row {
+        key: k,
+        qty: 0,
+        orders: 0,
+    }
+}
 
 // The level of that side, a code, and that price, a word, has changed.
 fn remember(m: &mut [u8], side: u64, price: u64)

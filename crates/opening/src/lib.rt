@@ -2,6 +2,7 @@
 use accounts::Timing;
 use roster::Roster;
 use roster::Slot;
+use store::limits;
 ghost use mathlib.Core.Path.{_≡_};
 ghost use Prim.Native.Nat.{_≤_};
 ghost use Rattle.gateway.specs.Limits.{owner-slots};
@@ -29,7 +30,7 @@ fn enter_all(m: &mut [u8], accounts: Roster)
     ensures { λ x. ⌜ P.Admits (P.present accounts owner-slots) (now (m .entry)) (now (m .exit)) ⌝ }
 {
     let mut i: usize = 0;
-    while i < clients::OWNER_SLOTS {
+    while i < limits::OWNER_SLOTS {
         let s = accounts.slots[i];
         enter(m, s);
         i += 1;

@@ -16,6 +16,7 @@ use protocol::codes::MaybeRejectCode;
 use risk::Bucket;
 use risk::Taken;
 use store::cells;
+use store::limits;
 use wallet::Wallet;
 use words::Amount;
 ghost use mathlib.Core.Path.{_≡_};
@@ -370,10 +371,6 @@ fn command_of(id: u64, a: usize, side: Side, qty: u64, kind: OrderKind) -> Comma
 
 // ---- room for a new order
 
-const MOST_ORDERS: u64 = 1024;
-
-const MOST_NOTICES: u64 = 2048;
-
 // For the notice of what it holds.
 fn notice_room(m: &[u8], a: usize, hold: u64) -> bool
     requires { ⌜ State (now m) × (a < owner-slots) ⌝ }
@@ -381,12 +378,12 @@ fn notice_room(m: &[u8], a: usize, hold: u64) -> bool
 {
     let n = pending::header::word_at(m, cells::NOTICE_ROWS);
     if hold == 0 {
-        return n <= MOST_NOTICES;
+        return n <= limits::MOST_NOTICES;
     }
     if clients::is_funded(m, a) {
-        return n < MOST_NOTICES;
+        return n < limits::MOST_NOTICES;
     }
-    n <= MOST_NOTICES
+    n <= limits::MOST_NOTICES
 }
 
 // The total that the account's orders of this side hold stays in range.
@@ -408,7 +405,7 @@ fn has_place(m: &[u8], a: usize, order: NewOrder, o: Live) -> bool
     let side = order.side;
     let hold = live::hold_of(o.side, o.priced, o.price, o.leaves);
     let live = pending::header::word_at(m, cells::LIVE_ORDERS);
-    if live < MOST_ORDERS {
+    if live < limits::MOST_ORDERS {
         if notice_room(m, a, hold) {
             return hold_fits(m, a, side, hold);
         }

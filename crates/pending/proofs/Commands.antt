@@ -26,7 +26,7 @@ use Rattle.gateway.specs.Ledger.{owner-of}
 use Rattle.gateway.specs.Rest.{with-batch}
 use Rattle.store.specs.Cells as C
 use Rattle.store.specs.Layout.{cell}
-use Rattle.store.specs.View.{Row, Store, fill, listed, side, tif, maybe-price, command, word, gateway}
+use Rattle.store.specs.View.{Row, Store, fill, listed, side, tif, maybe-price, maybe-qty, command, word, gateway}
 use Rattle.pending.specs.Pending as P
 use Rattle.pending.proofs.Views.{listed-push, with-rest}
 
@@ -45,7 +45,7 @@ tif-back Ioc = refl
 tif-back Fok = refl
 tif-back PostOnly = refl
 
-qty-back : (q : Q.MaybeQty) → P.maybe-qty (P.qty-flag q) (P.qty-word q) ≡ q
+qty-back : (q : Q.MaybeQty) → maybe-qty (P.qty-flag q) (P.qty-word q) ≡ q
 qty-back Q.the-variants.None = refl
 qty-back (Q.the-variants.Some q) = refl
 

@@ -137,9 +137,6 @@ abbrev pub qty-word : Q.MaybeQty → ℕ
 qty-word Q.the-variants.None = 0
 qty-word (Q.the-variants.Some q) = q
 
-abbrev pub maybe-qty : ℕ → ℕ → Q.MaybeQty
-maybe-qty n q = cond (flag n) (Q.the-variants.Some q) Q.the-variants.None
-
 -- a command's row, in the order of Cells; a cell that its kind does not have is 0. A phase change is never written
 abbrev pub command-row : Command → List ℕ
 command-row (Limit id owner s price qty t d) = 0 ∷ id ∷ owner ∷ sideCode s ∷ word-of price ∷ qty ∷ tifCode t ∷ qty-flag d ∷ qty-word d ∷ 0 ∷ 0 ∷ 0 ∷ []

@@ -12,7 +12,7 @@ ghost use Rattle.gateway.specs.Bytes.{price-flag, price-word};
 ghost use Rattle.gateway.specs.Limits.{most-in-batch};
 ghost use Rattle.store.specs.Cells as C;
 ghost use Rattle.store.specs.Layout.{cell, Holds};
-ghost use Rattle.store.specs.View.{word, side, tif, maybe-price, command, Is, Ready};
+ghost use Rattle.store.specs.View.{word, side, tif, maybe-price, maybe-qty, command, Is, Ready};
 ghost use Rattle.pending.specs.Pending as P;
 ghost use Rattle.words.specs.Words.{word-of};
 
@@ -148,7 +148,7 @@ fn tif_of(n: u64) -> TimeInForce
 }
 
 fn qty_of(there: u64, n: u64) -> MaybeQty
-    ensures { λ r. ⌜ r ≡ P.maybe-qty there n ⌝ }
+    ensures { λ r. ⌜ r ≡ maybe-qty there n ⌝ }
 {
     if there == 0 {
         MaybeQty::None

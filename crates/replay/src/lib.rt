@@ -5,6 +5,7 @@ use orderbook::Side;
 use orders::Live;
 use protocol::codes;
 use store::cells;
+use store::limits;
 ghost use mathlib.Core.Path.{_≡_};
 ghost use lib.Dec.{eqb};
 ghost use Rattle.orderbook.specs.declared.Command as K;
@@ -21,10 +22,6 @@ ghost use Rattle.outcome.specs.Parts.{rest-of};
 ghost use Rattle.outcome.specs.Answers.{verdict, Says};
 ghost use Rattle.replay.specs.Replay as P;
 
-const MOST_IN_FLIGHT: u64 = 256;
-
-const MOST_ORDERS: u64 = 1024;
-
 // ---- what every replay asks
 
 // No session is connected, closing or not.
@@ -33,7 +30,7 @@ pub fn is_alone(m: &[u8]) -> bool
     ensures { λ r. ⌜ r ≡ no-session (rest-of (now (m .entry)) .sessions) ⌝ }
 {
     let mut s: usize = 0;
-    while s < clients::SESSION_SLOTS {
+    while s < limits::SESSION_SLOTS {
         let x = clients::session_at(m, s);
         if x.connected != 0 {
             return false;
@@ -185,7 +182,7 @@ fn has_room(m: &[u8], t: Terms) -> bool
     if t.places == 0 {
         return true;
     }
-    pending::header::word_at(m, cells::LIVE_ORDERS) < MOST_ORDERS
+    pending::header::word_at(m, cells::LIVE_ORDERS) < limits::MOST_ORDERS
 }
 
 // Code 7 for an order of any account: one without a wallet always passes.
@@ -194,7 +191,7 @@ fn order_fits(m: &[u8], n: u64, o: Live) -> bool
     ensures { λ r. ⌜ r ≡ holds-fit (placing n o (ledger (cell (now (m .entry))))) ⌝ }
 {
     let a = o.account as usize;
-    if a < clients::OWNER_SLOTS {
+    if a < limits::OWNER_SLOTS {
         if clients::is_funded(m, a) {
             let hold = live::hold_of(o.side, o.priced, o.price, o.leaves);
             return live::total_fits(m, a, store::side_of(o.side), 0, hold);
@@ -229,7 +226,7 @@ fn judge(m: &[u8], n: u64, t: Terms) -> u64
         next,
         own: t.own,
         below,
-        flights: flying < MOST_IN_FLIGHT,
+        flights: flying < limits::MOST_IN_FLIGHT,
         orders,
         holds,
     })

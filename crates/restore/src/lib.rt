@@ -1,6 +1,7 @@
 // A gateway starts from a checkpoint's bytes and the accounts of the moment (`restore` of document 01): everything is judged before a byte is written.
 use accounts::Timing;
 use roster::Roster;
+use store::limits;
 use totals::Source;
 ghost use mathlib.Core.Path.{_≡_};
 ghost use mathlib.Core.Bool.{true};
@@ -19,10 +20,6 @@ ghost use Rattle.refill.specs.Refill.{Fits};
 ghost use Rattle.restore.specs.Judging as P;
 
 // Two of the codes of document 01 that only a start answers.
-const FOREIGN: u64 = 2;
-
-const MALFORMED: u64 = 11;
-
 // ---- judging
 
 // Whether every wallet of the bytes is one of an account below the owner limit.
@@ -47,7 +44,7 @@ fn code_of(limit: u64, last: u64, number: u64, account: u64) -> u64
     ensures { λ r. ⌜ r ≡ P.order-code limit last number account ⌝ }
 {
     if last < number {
-        return FOREIGN;
+        return outcome::FOREIGN;
     }
     if limit <= account {
         return outcome::OUT_OF_RANGE;
@@ -87,7 +84,7 @@ fn judge_entries(limit: u64, below: bool, bytes: &[u8]) -> u64
     requires { ⌜ is-some (decode (now bytes)) ≡ true ⌝ }
     ensures { λ r. ⌜ r ≡ verdict (P.entry-tests limit below (saved-of (now (bytes .entry)))) ⌝ }
 {
-    if (clients::OWNER_SLOTS as u64) < limit {
+    if (limits::OWNER_SLOTS as u64) < limit {
         return outcome::FULL;
     }
     if !below {
@@ -104,7 +101,7 @@ fn judge(limit: u64, accounts: Roster, bytes: &[u8]) -> u64
     ensures { λ r. ⌜ r ≡ P.code-of limit accounts (now (bytes .entry)) ⌝ }
 {
     if !saved::is_whole(bytes) {
-        return MALFORMED;
+        return outcome::MALFORMED;
     }
     let code = judge_entries(limit, accounts.below, bytes);
     if code != 0 {

@@ -1,6 +1,7 @@
 // The accounts that set-up and restore are given: a lent slice of records becomes a table by account number (`Exchange::new` of exchange.rs).
 use accounts::Account;
 use accounts::MaybeFunds;
+use store::limits;
 ghost use mathlib.Core.Path.{_≡_};
 ghost use Rattle.gateway.specs.Basics.{is-some};
 ghost use Rattle.gateway.specs.Start.{funds-in};
@@ -17,8 +18,6 @@ pub struct Roster {
     pub below: bool,
     pub slots: [Slot; 256],
 }
-
-const SLOTS: usize = 256;
 
 fn no_slot() -> Slot
     ensures { λ r. ⌜ r ≡ P.no-slot ⌝ }
@@ -57,7 +56,7 @@ pub fn enter(r: Roster, limit: u64, a: Account) -> Roster
             slots,
         };
     }
-    if SLOTS <= i {
+    if limits::OWNER_SLOTS <= i {
         return r;
     }
     slots[i] = Slot {

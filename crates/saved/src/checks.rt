@@ -1,5 +1,6 @@
 // The tests of a checkpoint's bytes: no bytes missing and none behind, counts within their limits, rising keys, and flags and prices that agree.
 use crate::fields;
+use store::limits;
 ghost use mathlib.Core.Path.{_≡_};
 ghost use mathlib.Core.Bool.{true};
 ghost use Prim.Native.Nat.{_+_, _*_, _^_, _≤_, _<_};
@@ -10,9 +11,7 @@ ghost use Rattle.gateway.specs.Limits.{owner-slots, most-orders};
 ghost use Rattle.gateway.specs.Bytes.{wallet-widths, order-widths, price-ok, flags-ok, table-ok};
 ghost use Rattle.saved.specs.Parts as P;
 
-const MOST_WALLETS: usize = 256;
-
-const MOST_ORDERS: usize = 1024;
+const MOST_ORDERS: usize = limits::MOST_ORDERS as usize;
 
 pub fn wallet_count(xs: &[u8]) -> usize
     requires { ⌜ 21 ≤ length (now xs) ⌝ }
@@ -92,7 +91,7 @@ pub fn wallets_fit(xs: &[u8]) -> bool
     ensures { λ r. ⌜ r ≡ table-ok owner-slots (λ x. true) (P.raw-of (now (xs .entry)) .wallets) ⌝ }
 {
     let n = wallet_count(xs);
-    if MOST_WALLETS < n {
+    if limits::OWNER_SLOTS < n {
         return false;
     }
     wallets_rise(xs, n)

@@ -29,8 +29,8 @@ use Rattle.protocol.specs.declared.codes.MaybePhase as MaybePhase
 use Rattle.protocol.specs.declared.codes.MaybeRejectReason as MaybeRejectReason
 use Rattle.protocol.specs.declared.codes.MaybeCancelReason as MaybeCancelReason
 use Rattle.words.specs.Words.{int}
-use Rattle.store.specs.View.{side, maybe-price}
-use Rattle.script.specs.Script.{tif-at, maybe-qty, limit, stop, order-kind, new-order, login, modify, message-by, message-of, word-at, small-at, code-at, price-at, reject-at, cancel-at, phase-at, traded, rested, replenished, stop-placed, cancelled, modified, event-by, event-of}
+use Rattle.store.specs.View.{side, maybe-price, maybe-qty}
+use Rattle.script.specs.Script.{tif-at, limit, stop, order-kind, new-order, login, modify, message-by, message-of, word-at, small-at, code-at, price-at, reject-at, cancel-at, phase-at, traded, rested, replenished, stop-placed, cancelled, modified, event-by, event-of}
 
 pub side-read : (r : Side) (w v : ℕ) → w ≡ v → r ≡ side w → r ≡ side v
 side-read r w v e f = f ∙ ap side e

@@ -9,8 +9,8 @@ use Rattle.accounts.specs.declared.Account.{Account}
 use Rattle.accounts.specs.declared.Funds.{Funds}
 use Rattle.accounts.specs.declared.MaybeFunds as F
 use Rattle.words.specs.Words.{int}
-use Rattle.store.specs.View.{flag, side, maybe-price}
-use Rattle.script.specs.Script.{word-at, small-at, price-at, tif-at, phase-at, maybe-qty}
+use Rattle.store.specs.View.{flag, side, maybe-price, maybe-qty}
+use Rattle.script.specs.Script.{word-at, small-at, price-at, tif-at, phase-at}
 
 -- ---- commands: kind, id, owner, side, price, qty, time in force, displayed, display, trigger, limited, limit
 

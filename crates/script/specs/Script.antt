@@ -11,7 +11,6 @@ use Rattle.orderbook.specs.declared.CancelReason as CancelReason
 use Rattle.orderbook.specs.declared.RejectReason as RejectReason
 use Rattle.orderbook.specs.declared.Phase as Phase
 use Rattle.orderbook.specs.declared.TimeInForce as TimeInForce
-use Rattle.orderbook.specs.declared.MaybeQty as MaybeQty
 use Rattle.protocol.specs.declared.Inbound.{Inbound}
 use Rattle.protocol.specs.declared.Inbound.the-variants as In
 use Rattle.protocol.specs.declared.NewOrder.{NewOrder}
@@ -24,7 +23,7 @@ use Rattle.protocol.specs.declared.codes.MaybeRejectReason as MaybeRejectReason
 use Rattle.protocol.specs.declared.codes.MaybeCancelReason as MaybeCancelReason
 use Rattle.words.specs.Words.{int}
 use Rattle.le.specs.Le.{le}
-use Rattle.store.specs.View.{flag, side, maybe-price}
+use Rattle.store.specs.View.{side, maybe-price, maybe-qty}
 
 -- ---- words
 
@@ -39,10 +38,6 @@ code-at xs i = word-at xs i % 256
 
 abbrev pub price-at : List ℕ → ℕ → ℤ
 price-at xs i = int (word-at xs i)
-
--- an option in two words
-abbrev pub maybe-qty : ℕ → ℕ → MaybeQty.MaybeQty
-maybe-qty n q = cond (flag n) (MaybeQty.the-variants.Some q) MaybeQty.the-variants.None
 
 -- ---- messages
 

@@ -22,7 +22,7 @@ use protocol::codes::MaybeTimeInForce;
 ghost use mathlib.Core.Path.{_≡_};
 ghost use Prim.Native.Nat.{_+_, _*_, _%_, _≤_};
 ghost use lib.ListN.{length};
-ghost use Rattle.store.specs.View.{side, maybe-price};
+ghost use Rattle.store.specs.View.{side, maybe-price, maybe-qty};
 ghost use Rattle.script.specs.Script as P;
 ghost use Rattle.script.specs.Script.{word-at, small-at, code-at, price-at, message-of, event-of};
 
@@ -75,7 +75,7 @@ fn maybe_price(row: &[u8], i: usize) -> MaybePrice
 
 fn maybe_qty(row: &[u8], i: usize) -> MaybeQty
     requires { ⌜ 8 * i + 16 ≤ length (now row) ⌝ }
-    ensures { λ r. ⌜ r ≡ P.maybe-qty (word-at (now (row .entry)) i) (word-at (now (row .entry)) (i + 1)) ⌝ }
+    ensures { λ r. ⌜ r ≡ maybe-qty (word-at (now (row .entry)) i) (word-at (now (row .entry)) (i + 1)) ⌝ }
 {
     if word(row, i) == 0 {
         return MaybeQty::None;

@@ -36,38 +36,10 @@ use Rattle.levels.proofs.Best.{level-of}
 use Rattle.pending.specs.Pending as Pending
 use Rattle.sound.specs.Sound.{State}
 use Rattle.sound.proofs.Listed.{size-levels}
-use Rattle.marketdata.specs.Marketdata.{replenished}
-use Rattle.marketdata.proofs.Steps.{side-table}
-use Rattle.marketdata.proofs.Resting.{level-stored}
+use Rattle.marketdata.specs.Marketdata.{replenished, IsLevel}
 use Rattle.marketdata.proofs.Events.{Seen}
 use Rattle.outcome.specs.Between.{Between}
-use Rattle.shows.specs.Shows.{IsLevel}
 use Rattle.shows.proofs.Seen.{found-is}
-
--- ---- the level of a side and a price
-
-module _ {xs : List ℕ} (st : State xs) (sd pr : ℕ) (z : Side) (z-is : z ≡ side sd) (k : ℕ) (k-is : int pr ≡ k ⊖ half) where
-  pub level-table : L.Table z xs
-  level-table = side-table st z
-
-  module _ (r : Found) (f : L.Finds z xs k r) where
-    level-is : D.level-in (int pr) (D.levels (side sd) (depth (cell xs) .resting)) ≡ level-of k (look L.key k (L.entries z (cell xs)))
-    level-is = ap₂ (λ (p : ℤ) (w : Side). D.level-in p (D.levels w (depth (cell xs) .resting))) k-is (sym z-is) ∙ level-stored st z k
-
-    pub level-small : (i : ℕ) → r ≡ At i → i < most-levels
-    level-small i e = let g : L.Finds z xs k (At i) = rw e at f in omega (arith, g .0, level-table .few)
-
-    pub level-found : (i : ℕ) → r ≡ At i → (q : Row) → q ≡ L.row z (cell xs) i → IsLevel (side sd) (int pr) (depth (cell xs)) q
-    level-found i e q q-is =
-        let g : L.Finds z xs k (At i) = rw e at f in
-        let l = level-is ∙ ap (level-of k) (g .1) in
-        record { qty-is = ap (λ (x : Row). x .qty) q-is ∙ sym (ap (λ (x : D.Level). x .qty) l); orders-is = ap (λ (x : Row). x .orders) q-is ∙ sym (ap (λ (x : D.Level). x .orders) l) }
-
-    pub level-none : r ≡ Nothing → IsLevel (side sd) (int pr) (depth (cell xs)) (record { key = k; qty = 0; orders = 0 })
-    level-none e =
-        let g : L.Finds z xs k Nothing = rw e at f in
-        let l = level-is ∙ ap (level-of k) g in
-        record { qty-is = sym (ap (λ (x : D.Level). x .qty) l); orders-is = sym (ap (λ (x : D.Level). x .orders) l) }
 
 -- a sum of two words is one
 below : (q v : ℕ) → v < 2 ^ 64 → leb q (18446744073709551615 - v) ≡ ltb (q + v) modulus
@@ -163,4 +135,4 @@ module _ {xs : List ℕ} (b : Between xs) (n : ℕ) (o : Resting) where
       pub changed-room : t ≡ true → (u : Bool) → u ≡ leb (length (D.remember (Pending.key (o .side) (o .price)) (d .changed))) most-changed → Room u
       changed-room e u u-is = parts true true u fine (sym t-is ∙ e) (sym u-is)
 
-pub ruleset stored = (level-table, level-small, level-found, level-none, level-over, reshow-found, reshow-none, join-fits, side-there, side-new, no-order-room, no-side-room, changed-room, arith)
+pub ruleset stored = (level-over, reshow-found, reshow-none, join-fits, side-there, side-new, no-order-room, no-side-room, changed-room, arith)

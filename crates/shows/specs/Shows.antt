@@ -28,8 +28,3 @@ both-few maker taker d = leb (length (touched taker (d .resting) (touched maker 
 pub record Adds (k : Key) (ks : List Key) (r : ℕ) : Type 0 where
   pub most : r ≤ 1
   pub count : length (remember k ks) ≡ length ks + r
-
--- what the level of a side and a price shows, and how many orders it has
-pub record IsLevel (z : Side) (p : ℤ) (d : Depth) (r : Row) : Type 0 where
-  pub qty-is : r .qty ≡ level-in p (levels z (d .resting)) .qty
-  pub orders-is : r .orders ≡ level-in p (levels z (d .resting)) .orders

@@ -1,8 +1,8 @@
 // The tests of an event against the depth, which read only: what an order shows (code 8), a level's quantity (code 7), the room in the
 // depth's tables (code 5). `at` is the place of the resting order `id`.
-use levels::Row;
 use orders::Resting;
 use store::cells;
+use store::limits;
 use table::Found;
 ghost use mathlib.Core.Path.{_≡_};
 ghost use mathlib.Core.Bool.{not};
@@ -22,10 +22,6 @@ ghost use Rattle.sound.specs.Sound.{State};
 ghost use Rattle.marketdata.specs.Marketdata.{replenished};
 ghost use Rattle.outcome.specs.Between.{Between};
 ghost use Rattle.shows.specs.Shows as P;
-
-const MOST_QTY: u64 = 18_446_744_073_709_551_615;
-
-const MOST_CHANGED: u64 = 1_024;
 
 // ---- code 8
 
@@ -59,7 +55,7 @@ fn level_room(m: &[u8], side: u64, price: u64) -> bool
     requires { ⌜ State (now m) ⌝ }
     ensures { λ r. ⌜ r ≡ leb (length (D.remember (Pending.key side price) (depth (cell (now (m .entry))) .changed))) most-changed ⌝ }
 {
-    if pending::header::word_at(m, cells::CHANGED_ROWS) < MOST_CHANGED {
+    if pending::header::word_at(m, cells::CHANGED_ROWS) < limits::MOST_CHANGED {
         return true;
     }
     pending::changed::is_changed(m, side, price)
@@ -109,7 +105,7 @@ fn levels_room(m: &[u8], o: Resting, p: Resting) -> bool
     }
     let n = pending::header::word_at(m, cells::CHANGED_ROWS);
     let k = n + adds(m, o.side, o.price);
-    k + adds(m, p.side, p.price) <= MOST_CHANGED
+    k + adds(m, p.side, p.price) <= limits::MOST_CHANGED
 }
 
 // Room for the level of o and that of an order, where it rests.
@@ -140,30 +136,13 @@ pub fn pair_room(m: &[u8], maker: u64, maker_at: Found, taker: u64, taker_at: Fo
     requires { ⌜ Between (now m) × Sees C.order-resting resting D.resting-number (cell (now m)) maker «maker_at» × Sees C.order-resting resting D.resting-number (cell (now m)) taker «taker_at» ⌝ }
     ensures { λ r. ⌜ r ≡ P.both-few maker taker (depth (cell (now (m .entry)))) ⌝ }
 {
-    if pending::header::word_at(m, cells::CHANGED_ROWS) < MOST_CHANGED - 1 {
+    if pending::header::word_at(m, cells::CHANGED_ROWS) < limits::MOST_CHANGED - 1 {
         return true;
     }
     exact_room(m, maker, maker_at, taker, taker_at)
 }
 
 // ---- code 7
-
-// The level of a side, a code, and a price, a word: nothing where there is none.
-fn level_of(m: &[u8], side: u64, price: u64) -> Row
-    requires { ⌜ State (now m) ⌝ }
-    ensures { λ r. ⌜ P.IsLevel (View.side side) (int price) (depth (cell (now (m .entry)))) r ⌝ }
-{
-    let z = store::side_of(side);
-    let k = words::raised(price);
-    if let Found::At(i) = levels::find(m, z, k) {
-        return levels::read_row(m, z, i);
-    }
-    Row {
-        key: k,
-        qty: 0,
-        orders: 0,
-    }
-}
 
 // The level of an order that shows its next part stays in range.
 pub fn reshow_fits(m: &[u8], id: u64, at: Found, visible: u64) -> bool
@@ -172,8 +151,8 @@ pub fn reshow_fits(m: &[u8], id: u64, at: Found, visible: u64) -> bool
 {
     if let Found::At(i) = at {
         let o = orders::resting_at(m, i);
-        let l = level_of(m, o.side, o.price);
-        return l.qty - o.visible <= MOST_QTY - visible;
+        let l = marketdata::level_of(m, o.side, o.price);
+        return l.qty - o.visible <= limits::GREATEST - visible;
     }
     true
 }
@@ -183,8 +162,8 @@ pub fn join_fits(m: &[u8], id: u64, o: Resting) -> bool
     requires { ⌜ Between (now m) ⌝ }
     ensures { λ r. ⌜ r ≡ D.levels-fit (D.add (resting-of id o) (depth (cell (now (m .entry)))) .resting) ⌝ }
 {
-    let l = level_of(m, o.side, o.price);
-    l.qty <= MOST_QTY - o.visible
+    let l = marketdata::level_of(m, o.side, o.price);
+    l.qty <= limits::GREATEST - o.visible
 }
 
 // ---- code 5: an order that comes to rest
@@ -194,11 +173,11 @@ fn side_room(m: &[u8], o: Resting) -> bool
     requires { ⌜ Between (now m) ⌝ }
     ensures { λ r. ⌜ r ≡ leb (length (D.joined (View.side (o .side)) (int (o .price)) (o .visible) (D.levels (View.side (o .side)) (depth (cell (now (m .entry))) .resting)))) most-levels ⌝ }
 {
-    let l = level_of(m, o.side, o.price);
+    let l = marketdata::level_of(m, o.side, o.price);
     if l.orders != 0 {
         return true;
     }
-    levels::size(m, store::side_of(o.side)) < 512
+    levels::size(m, store::side_of(o.side)) < limits::MOST_LEVELS
 }
 
 // The resting orders, the levels of its side and the changed levels.
@@ -206,7 +185,7 @@ pub fn join_room(m: &[u8], id: u64, o: Resting) -> bool
     requires { ⌜ Between (now m) ⌝ }
     ensures { λ r. ⌜ r ≡ D.depth-few (D.add (resting-of id o) (depth (cell (now (m .entry))))) ⌝ }
 {
-    if 1_024 <= pending::header::word_at(m, cells::RESTING_ORDERS) {
+    if limits::MOST_ORDERS <= pending::header::word_at(m, cells::RESTING_ORDERS) {
         return false;
     }
     if side_room(m, o) {

@@ -69,6 +69,9 @@ optional n = maybe n (n - 1)
 abbrev pub maybe-price : ℕ → ℕ → P.MaybePrice
 maybe-price n w = cond (flag n) (P.the-variants.Some (int w)) P.the-variants.None
 
+abbrev pub maybe-qty : ℕ → ℕ → Q.MaybeQty
+maybe-qty n q = cond (flag n) (Q.the-variants.Some q) Q.the-variants.None
+
 abbrev pub side : ℕ → Side
 side n = cond (flag n) Sell Buy
 
@@ -126,7 +129,7 @@ command r =
     let owner = r C.command-owner in
     let price = int (r C.command-price) in
     let qty = r C.command-qty in
-    let display = cond (flag (r C.command-displayed)) (Q.the-variants.Some (r C.command-display)) Q.the-variants.None in
+    let display = maybe-qty (r C.command-displayed) (r C.command-display) in
     cond (eqb (r C.command-kind) 0) (Limit id owner (side (r C.command-side)) price qty (tif (r C.command-tif)) display)
     (cond (eqb (r C.command-kind) 1) (Market id owner (side (r C.command-side)) qty)
     (cond (eqb (r C.command-kind) 2) (Cancel id owner)

@@ -1,5 +1,6 @@
 // The gateway's state in one lent slice of bytes: blocks of rows of 64-bit cells. docs/STATE.md has the layout.
 pub mod cells;
+pub mod limits;
 
 use orderbook::Side;
 ghost use mathlib.Core.Path.{_≡_};

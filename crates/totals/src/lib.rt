@@ -2,6 +2,7 @@
 use orders::Live;
 use roster::Roster;
 use roster::Slot;
+use store::limits;
 ghost use mathlib.Core.Path.{_≡_};
 ghost use Prim.Native.Nat.{_≤_, _<_};
 ghost use lib.ListN.{length, getD};
@@ -140,7 +141,7 @@ pub fn all_fit(from: Source, list: &[u8], accounts: Roster) -> bool
     requires { ⌜ P.Readable from (now list) ⌝ }
     ensures { λ r. ⌜ r ≡ P.wallets-fit accounts 0 (P.orders-in from (now (list .entry))) ⌝ }
 {
-    let mut i = clients::OWNER_SLOTS;
+    let mut i = limits::OWNER_SLOTS;
     while 0 < i {
         i -= 1;
         let s = accounts.slots[i];

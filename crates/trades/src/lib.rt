@@ -9,6 +9,7 @@ use protocol::ReportKind;
 use protocol::codes;
 use reporting::Told;
 use store::cells;
+use store::limits;
 use table::Found;
 ghost use mathlib.Core.Path.{_≡_};
 ghost use Prim.Native.Nat.{_+_, _≤_, _<_};
@@ -50,8 +51,6 @@ pub struct Party {
     pub shift: Shift,
     pub told: Told,
 }
-
-const MOST_TRADES: u64 = 256;
 
 // That price and quantities fit comes of their types.
 pub fn deal_of(
@@ -129,7 +128,7 @@ fn has_room(m: &[u8]) -> bool
     requires { ⌜ State (now m) ⌝ }
     ensures { λ r. ⌜ r ≡ P.tick-fits (gateway (cell (now (m .entry)))) ⌝ }
 {
-    pending::header::word_at(m, cells::TRADE_ROWS) < MOST_TRADES
+    pending::header::word_at(m, cells::TRADE_ROWS) < limits::MOST_TRADES
 }
 
 // Code 5: room for the notices of both.
