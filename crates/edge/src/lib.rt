@@ -35,7 +35,6 @@ ghost use Rattle.opening.specs.Starts.{Starts};
 ghost use Rattle.edge.specs.Entering.{Lent, whole, begins, asked, Gives, Lists, Writes, Says};
 ghost use Rattle.edge.specs.Values as P;
 
-
 // A code, and how many rows (of a checkpoint: bytes) were written.
 #[repr(C)]
 pub struct Reply {

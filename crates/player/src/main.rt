@@ -1,32 +1,32 @@
 // Plays the stored lists of calls on the proved calls, and compares each answer and each row with the Rust's. compare/README.md has the file's rows.
-use accounts::Account;
 use libc::STDOUT_FILENO;
 use playing::put;
 use playing::word;
-use roster::Roster;
 ghost use Prim.Native.Nat.{_≤_};
-ghost use Rattle.outcome.specs.Between.{Between};
-ghost use Rattle.replaying.specs.Rostered.{Rostered};
+ghost use Rattle.edge.specs.Entering.{Lent};
 
 // ---- a start
 
-fn read_account(fd: i32) -> Account {
-    let mut row = [0u8; 128];
-    io::read_full(fd, &mut row);
-    replaying::account(row)
+// The first 7 words of a row of 16.
+fn read_account(fd: i32, to: &mut [u8]) {
+    let mut rest = [0u8; 72];
+    io::read_full(fd, to);
+    io::read_full(fd, &mut rest);
 }
 
-fn read_roster(fd: i32, limit: u64, n: u64) -> Roster
-    ensures { λ r. ⌜ Rostered limit r ⌝ }
+// The rows of n accounts, of 256 at most.
+fn read_accounts(fd: i32, n: usize) -> [u8; 14336]
+    requires { ⌜ n ≤ 256 ⌝ }
 {
-    let mut r = roster::nobody();
-    let mut i: u64 = 0;
+    let mut rows = [0u8; 14336];
+    let mut i: usize = 0;
     while i < n {
-        let a = read_account(fd);
-        r = roster::enter(r, limit, a);
+        let from = 56 * i;
+        let to = from + 56;
+        read_account(fd, &mut rows[from..to]);
         i += 1;
     }
-    r
+    rows
 }
 
 // ---- what differs
@@ -153,14 +153,14 @@ fn unanswered(row: [u8; 128]) -> [u8; 128] {
 
 // Makes the call with places that hold 0xA5; whether all is as the file has it.
 fn play(m: &mut [u8], row: [u8; 128], rows: [u8; 24576]) -> bool
-    requires { ⌜ Between (now m) ⌝ }
-    ensures { λ r. ⌜ Between (now (m .exit)) ⌝ }
+    requires { ⌜ Lent (now m) ⌝ }
+    ensures { λ r. ⌜ Lent (now (m .exit)) ⌝ }
 {
     let mut out = [0xa5u8; 24576];
     let mut got = unanswered(row);
     let lent = bytes_of(&row, word(&row, 1));
     let given = bytes_of(&row, word(&row, 3));
-    replaying::call(m, &row, &rows[..given], &mut got, &mut out[..lent]);
+    playing::call(m, &row, &rows[..given], &mut got, &mut out[..lent]);
     agree(&row, &got, &rows, &out)
 }
 
@@ -188,8 +188,8 @@ fn grow_row(row: &mut [u8]) {
 
 // Makes the calls of a row; whether all is as the file has it.
 fn play_run(m: &mut [u8], row: [u8; 128], rows: [u8; 24576]) -> bool
-    requires { ⌜ Between (now m) ⌝ }
-    ensures { λ r. ⌜ Between (now (m .exit)) ⌝ }
+    requires { ⌜ Lent (now m) ⌝ }
+    ensures { λ r. ⌜ Lent (now (m .exit)) ⌝ }
 {
     let mut same = play(m, row, rows);
     let mut next = row;
@@ -203,8 +203,8 @@ fn play_run(m: &mut [u8], row: [u8; 128], rows: [u8; 24576]) -> bool
 }
 
 fn play_row(fd: i32, m: &mut [u8], row: [u8; 128]) -> bool
-    requires { ⌜ Between (now m) ⌝ }
-    ensures { λ r. ⌜ Between (now (m .exit)) ⌝ }
+    requires { ⌜ Lent (now m) ⌝ }
+    ensures { λ r. ⌜ Lent (now (m .exit)) ⌝ }
 {
     let rows = read_rows(fd, &row);
     play_run(m, row, rows)
@@ -212,22 +212,23 @@ fn play_row(fd: i32, m: &mut [u8], row: [u8; 128]) -> bool
 
 // A start has its accounts' rows before the others.
 fn play_start(fd: i32, m: &mut [u8], row: [u8; 128]) -> bool
-    requires { ⌜ Between (now m) ⌝ }
-    ensures { λ r. ⌜ Between (now (m .exit)) ⌝ }
+    requires { ⌜ Lent (now m) ⌝ }
+    ensures { λ r. ⌜ Lent (now (m .exit)) ⌝ }
 {
-    let limit = word(&row, 5);
-    let accounts = read_roster(fd, limit, word(&row, 4));
+    let n = at_most(word(&row, 4), 256);
+    let accounts = read_accounts(fd, n);
     let rows = read_rows(fd, &row);
     let given = bytes_of(&row, word(&row, 3));
-    let code = replaying::start(m, limit, &row, accounts, &rows[..given]);
+    let end = 56 * n;
+    let code = playing::start(m, &row, &accounts[..end], &rows[..given]);
     let mut got = unanswered(row);
     put(&mut got, 2, code);
     answers(&row, &got)
 }
 
 fn play_any(fd: i32, m: &mut [u8], row: [u8; 128]) -> bool
-    requires { ⌜ Between (now m) ⌝ }
-    ensures { λ r. ⌜ Between (now (m .exit)) ⌝ }
+    requires { ⌜ Lent (now m) ⌝ }
+    ensures { λ r. ⌜ Lent (now (m .exit)) ⌝ }
 {
     if is_start(&row) {
         return play_start(fd, m, row);
@@ -250,7 +251,7 @@ fn plain(row: [u8; 128]) -> [u8; 128] {
 
 // Every account's wallet, and the last number.
 fn are_alike(m: &[u8], s: &[u8]) -> bool
-    requires { ⌜ Between (now m) × Between (now s) ⌝ }
+    requires { ⌜ Lent (now m) × Lent (now s) ⌝ }
 {
     let mut a: u64 = 0;
     while a < 256 {
@@ -265,8 +266,8 @@ fn are_alike(m: &[u8], s: &[u8]) -> bool
 }
 
 fn play_second(fd: i32, m: &[u8], s: &mut [u8], row: [u8; 128]) -> bool
-    requires { ⌜ Between (now m) × Between (now s) ⌝ }
-    ensures { λ r. ⌜ Between (now (s .exit)) ⌝ }
+    requires { ⌜ Lent (now m) × Lent (now s) ⌝ }
+    ensures { λ r. ⌜ Lent (now (s .exit)) ⌝ }
 {
     let same = play_any(fd, s, plain(row));
     if same && gateway_of(&row) == 2 {
@@ -276,8 +277,8 @@ fn play_second(fd: i32, m: &[u8], s: &mut [u8], row: [u8; 128]) -> bool
 }
 
 fn play_both(fd: i32, m: &mut [u8], s: &mut [u8], row: [u8; 128]) -> bool
-    requires { ⌜ Between (now m) × Between (now s) ⌝ }
-    ensures { λ r. ⌜ Between (now (m .exit)) × Between (now (s .exit)) ⌝ }
+    requires { ⌜ Lent (now m) × Lent (now s) ⌝ }
+    ensures { λ r. ⌜ Lent (now (m .exit)) × Lent (now (s .exit)) ⌝ }
 {
     if gateway_of(&row) == 0 {
         return play_any(fd, m, row);
@@ -313,8 +314,8 @@ fn counted(row: [u8; 128], t: Tally, more: bool) -> Tally {
 }
 
 fn next_row(fd: i32, m: &mut [u8], s: &mut [u8], row: [u8; 128], t: Tally) -> Tally
-    requires { ⌜ Between (now m) × Between (now s) ⌝ }
-    ensures { λ r. ⌜ Between (now (m .exit)) × Between (now (s .exit)) ⌝ }
+    requires { ⌜ Lent (now m) × Lent (now s) ⌝ }
+    ensures { λ r. ⌜ Lent (now (m .exit)) × Lent (now (s .exit)) ⌝ }
 {
     let more = play_both(fd, m, s, row);
     let after = counted(row, t, more);
@@ -341,8 +342,8 @@ fn finish(left: usize, t: Tally) -> Tally {
 }
 
 fn next(fd: i32, m: &mut [u8], s: &mut [u8], t: Tally) -> Tally
-    requires { ⌜ Between (now m) × Between (now s) ⌝ }
-    ensures { λ r. ⌜ Between (now (m .exit)) × Between (now (s .exit)) ⌝ }
+    requires { ⌜ Lent (now m) × Lent (now s) ⌝ }
+    ensures { λ r. ⌜ Lent (now (m .exit)) × Lent (now (s .exit)) ⌝ }
 {
     let mut row = [0u8; 128];
     let got = io::read_full(fd, &mut row);
@@ -353,7 +354,7 @@ fn next(fd: i32, m: &mut [u8], s: &mut [u8], t: Tally) -> Tally
 }
 
 fn play_all(fd: i32, m: &mut [u8], s: &mut [u8])
-    requires { ⌜ Between (now m) × Between (now s) ⌝ }
+    requires { ⌜ Lent (now m) × Lent (now s) ⌝ }
 {
     let mut t = Tally {
         lists: 0,
@@ -370,8 +371,8 @@ fn play_all(fd: i32, m: &mut [u8], s: &mut [u8])
 
 // An empty start comes first, so that there are states whatever the file has.
 fn run(fd: i32, m: &mut [u8; 467200], s: &mut [u8; 467200]) {
-    replaying::begin(m);
-    replaying::begin(s);
+    playing::begin(m);
+    playing::begin(s);
     play_all(fd, m, s);
 }
 

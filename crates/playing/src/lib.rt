@@ -1,15 +1,10 @@
-// The calls of sessions and entry in the rows of a stored file: a row has the arguments, a copy of it is given the answer (compare/README.md).
-use balances::MaybeBalance;
-use commands::MaybeId;
-use orderbook::Side;
-use outcome::Reply;
-use protocol::Balance;
-use protocol::LogoutReason;
-use protocol::codes;
-use protocol::codes::MaybeLogoutReason;
-use risk::MaybePercent;
+// The starts and the calls in the rows of a stored file, made by the entry points: a row has the arguments, a copy of it is given the answer
+// (compare/README.md).
+use accounts::Timing;
+use edge::Reply;
 ghost use Prim.Native.Nat.{_≤_};
-ghost use Rattle.outcome.specs.Between.{Between};
+ghost use Rattle.store.specs.Layout.{Holds};
+ghost use Rattle.edge.specs.Entering.{Lent};
 
 // ---- the words of a row
 
@@ -35,176 +30,14 @@ fn code(row: &[u8], i: usize) -> u8 {
     (word(row, i) % 256) as u8
 }
 
-// ---- calls: `row` has the arguments, `got` is given the answer
-
 pub fn put(got: &mut [u8], i: usize, w: u64) {
     if i < 16 {
         le::store(got, 8 * i, 8, w);
     }
 }
 
-pub fn reply(got: &mut [u8], r: Reply) {
-    put(got, 2, r.code);
-    put(got, 3, r.count as u64);
-}
-
-fn connect(m: &mut [u8], row: &[u8], got: &mut [u8])
-    requires { ⌜ Between (now m) ⌝ }
-    ensures { λ r. ⌜ Between (now (m .exit)) ⌝ }
-{
-    let code = sessions::connect(m, word(row, 4) as usize, word(row, 5));
-    put(got, 2, code);
-}
-
-fn tick(m: &mut [u8], row: &[u8], got: &mut [u8], out: &mut [u8])
-    requires { ⌜ Between (now m) ⌝ }
-    ensures { λ r. ⌜ Between (now (m .exit)) ⌝ }
-{
-    let r = ticks::tick(m, word(row, 4), out);
-    reply(got, r);
-}
-
-fn reason(row: &[u8]) -> LogoutReason {
-    match codes::logout_of(code(row, 5)) {
-        MaybeLogoutReason::Some(why) => why,
-        MaybeLogoutReason::None => LogoutReason::Requested,
-    }
-}
-
-fn end(m: &mut [u8], row: &[u8], got: &mut [u8], out: &mut [u8])
-    requires { ⌜ Between (now m) ⌝ }
-    ensures { λ r. ⌜ Between (now (m .exit)) ⌝ }
-{
-    let why = reason(row);
-    let r = sessions::end(m, word(row, 4) as usize, why, out);
-    reply(got, r);
-}
-
-fn shut_down(m: &mut [u8], got: &mut [u8], out: &mut [u8])
-    requires { ⌜ Between (now m) ⌝ }
-    ensures { λ r. ⌜ Between (now (m .exit)) ⌝ }
-{
-    let r = sessions::shut_down(m, out);
-    reply(got, r);
-}
-
-fn publish(m: &mut [u8], got: &mut [u8], out: &mut [u8])
-    requires { ⌜ Between (now m) ⌝ }
-    ensures { λ r. ⌜ Between (now (m .exit)) ⌝ }
-{
-    let r = feed::publish(m, out);
-    reply(got, r);
-}
-
-fn levels(m: &[u8], row: &[u8], got: &mut [u8], out: &mut [u8])
-    requires { ⌜ Between (now m) ⌝ }
-{
-    let side = side(row, 4);
-    let r = depth::levels(m, side, out);
-    reply(got, r);
-}
-
-fn put_balance(got: &mut [u8], b: Balance) {
-    put(got, 5, 1);
-    put(got, 6, words::of_i64(b.cash));
-    put(got, 7, words::of_i64(b.position));
-    put(got, 8, words::of_i64(b.cash_held));
-    put(got, 9, words::of_i64(b.position_held));
-}
-
-fn wallet(m: &[u8], row: &[u8], got: &mut [u8])
-    requires { ⌜ Between (now m) ⌝ }
-{
-    let b = balances::wallet(m, small(row, 4));
-    put(got, 2, 0);
-    match b {
-        MaybeBalance::None => put(got, 5, 0),
-        MaybeBalance::Some(x) => put_balance(got, x),
-    }
-}
-
-// An account's wallet and the last number.
-pub fn standing(m: &[u8], account: u64) -> [u8; 128]
-    requires { ⌜ Between (now m) ⌝ }
-{
-    let mut got = [0u8; 128];
-    let mut row = [0u8; 128];
-    put(&mut row, 4, account);
-    last_seq(m, &mut got);
-    wallet(m, &row, &mut got);
-    got
-}
-
-fn last_seq(m: &[u8], got: &mut [u8])
-    requires { ⌜ Between (now m) ⌝ }
-{
-    let last = commands::last_seq(m);
-    put(got, 2, 0);
-    put(got, 4, last);
-}
-
-fn percent(row: &[u8]) -> MaybePercent {
-    if word(row, 4) == 0 {
-        return MaybePercent::None;
-    }
-    MaybePercent::Some(small(row, 5))
-}
-
-fn set_paper_collar(m: &mut [u8], row: &[u8], got: &mut [u8])
-    requires { ⌜ Between (now m) ⌝ }
-    ensures { λ r. ⌜ Between (now (m .exit)) ⌝ }
-{
-    let percent = percent(row);
-    orderentry::collar::set_paper_collar(m, percent);
-    put(got, 2, 0);
-}
-
-fn disconnect(m: &mut [u8], row: &[u8], got: &mut [u8])
-    requires { ⌜ Between (now m) ⌝ }
-    ensures { λ r. ⌜ Between (now (m .exit)) ⌝ }
-{
-    let code = commands::disconnect(m, word(row, 4) as usize);
-    put(got, 2, code);
-}
-
-fn put_account(got: &mut [u8], a: MaybeId) {
-    match a {
-        MaybeId::None => {
-            put(got, 5, 0);
-            put(got, 6, 0);
-        }
-        MaybeId::Some(id) => {
-            put(got, 5, 1);
-            put(got, 6, id as u64);
-        }
-    }
-}
-
-fn detach(m: &mut [u8], row: &[u8], got: &mut [u8])
-    requires { ⌜ Between (now m) ⌝ }
-    ensures { λ r. ⌜ Between (now (m .exit)) ⌝ }
-{
-    let a = commands::detach(m, word(row, 4) as usize);
-    put(got, 2, 0);
-    put_account(got, a);
-}
-
-fn take_batch(m: &mut [u8], got: &mut [u8], out: &mut [u8])
-    requires { ⌜ Between (now m) ⌝ }
-    ensures { λ r. ⌜ Between (now (m .exit)) ⌝ }
-{
-    let r = commands::take_batch(m, out);
-    reply(got, r);
-}
-
-// ---- messages and events
-
-fn side(row: &[u8], i: usize) -> Side {
-    store::side_of(word(row, i))
-}
-
 // The words from `from` on, in a row of their own.
-pub fn tail(row: &[u8], from: usize) -> [u8; 128]
+fn tail(row: &[u8], from: usize) -> [u8; 128]
     requires { ⌜ from ≤ 16 ⌝ }
 {
     let mut to = [0u8; 128];
@@ -216,37 +49,175 @@ pub fn tail(row: &[u8], from: usize) -> [u8; 128]
     to
 }
 
-fn receive(m: &mut [u8], row: &[u8], got: &mut [u8], out: &mut [u8])
-    requires { ⌜ Between (now m) ⌝ }
-    ensures { λ r. ⌜ Between (now (m .exit)) ⌝ }
+// ---- a start
+
+// A state, before there is a start.
+pub fn begin(m: &mut [u8])
+    requires { ⌜ Holds (now m) ⌝ }
+    ensures { λ r. ⌜ Lent (now (m .exit)) ⌝ }
 {
-    let message = script::message(&tail(row, 6));
-    let r = exchange::receive(m, word(row, 4) as usize, message, word(row, 5), out);
+    start::start(
+        m,
+        0,
+        0,
+        Timing {
+            heartbeat: 0,
+            idle_timeout: 0,
+        },
+    );
+}
+
+// `given` has the listing, or the checkpoint's bytes.
+pub fn start(m: &mut [u8], row: &[u8], accounts: &[u8], given: &[u8]) -> u64
+    requires { ⌜ Lent (now m) ⌝ }
+    ensures { λ r. ⌜ Lent (now (m .exit)) ⌝ }
+{
+    let limit = word(row, 5);
+    let last = word(row, 6);
+    let heartbeat = word(row, 7);
+    let idle = word(row, 8);
+    if word(row, 0) == 0 {
+        return edge::rowanchess_set_up(m, limit, last, heartbeat, idle, accounts, given);
+    }
+    edge::rowanchess_restore(m, limit, heartbeat, idle, accounts, given)
+}
+
+// ---- the state, read and set
+
+fn reply(got: &mut [u8], r: Reply) {
+    put(got, 2, r.code);
+    put(got, 3, r.count as u64);
+}
+
+fn add_account(m: &mut [u8], row: &[u8], got: &mut [u8])
+    requires { ⌜ Lent (now m) ⌝ }
+    ensures { λ r. ⌜ Lent (now (m .exit)) ⌝ }
+{
+    let account = tail(row, 4);
+    let code = edge::rowanchess_add_account(m, &account[..56]);
+    put(got, 2, code);
+}
+
+fn connect(m: &mut [u8], row: &[u8], got: &mut [u8])
+    requires { ⌜ Lent (now m) ⌝ }
+    ensures { λ r. ⌜ Lent (now (m .exit)) ⌝ }
+{
+    let code = edge::rowanchess_connect(m, word(row, 4) as usize, word(row, 5));
+    put(got, 2, code);
+}
+
+fn set_paper_collar(m: &mut [u8], row: &[u8], got: &mut [u8])
+    requires { ⌜ Lent (now m) ⌝ }
+    ensures { λ r. ⌜ Lent (now (m .exit)) ⌝ }
+{
+    let code = edge::rowanchess_set_paper_collar(m, word(row, 4), small(row, 5));
+    put(got, 2, code);
+}
+
+fn wallet(m: &[u8], row: &[u8], got: &mut [u8])
+    requires { ⌜ Lent (now m) ⌝ }
+{
+    let w = edge::rowanchess_wallet(m, small(row, 4));
+    put(got, 2, w.code);
+    put(got, 5, w.there);
+    put(got, 6, words::of_i64(w.cash));
+    put(got, 7, words::of_i64(w.position));
+    put(got, 8, words::of_i64(w.cash_held));
+    put(got, 9, words::of_i64(w.position_held));
+}
+
+fn last_seq(m: &[u8], got: &mut [u8])
+    requires { ⌜ Lent (now m) ⌝ }
+{
+    let last = edge::rowanchess_last_seq(m);
+    put(got, 2, last.code);
+    put(got, 4, last.number);
+}
+
+// An account's wallet and the last number.
+pub fn standing(m: &[u8], account: u64) -> [u8; 128]
+    requires { ⌜ Lent (now m) ⌝ }
+{
+    let mut got = [0u8; 128];
+    let mut row = [0u8; 128];
+    put(&mut row, 4, account);
+    last_seq(m, &mut got);
+    wallet(m, &row, &mut got);
+    got
+}
+
+fn levels(m: &[u8], row: &[u8], got: &mut [u8], out: &mut [u8])
+    requires { ⌜ Lent (now m) ⌝ }
+{
+    let r = edge::rowanchess_levels(m, word(row, 4), out);
     reply(got, r);
 }
 
 // A call that is not here differs in its number.
-pub fn unknown(got: &mut [u8]) {
+fn unknown(got: &mut [u8]) {
     put(got, 0, u64::MAX);
 }
 
 fn call_of_state(m: &mut [u8], row: &[u8], got: &mut [u8], out: &mut [u8])
-    requires { ⌜ Between (now m) ⌝ }
-    ensures { λ r. ⌜ Between (now (m .exit)) ⌝ }
+    requires { ⌜ Lent (now m) ⌝ }
+    ensures { λ r. ⌜ Lent (now (m .exit)) ⌝ }
 {
     match word(row, 0) {
+        1 => add_account(m, row, got),
         2 => connect(m, row, got),
         3 => set_paper_collar(m, row, got),
         4 => wallet(m, row, got),
         5 => last_seq(m, got),
-        6 => levels(m, row, got, out),
-        _ => unknown(got),
+        _ => levels(m, row, got, out),
     }
 }
 
+// ---- sessions
+
+fn receive(m: &mut [u8], row: &[u8], got: &mut [u8], out: &mut [u8])
+    requires { ⌜ Lent (now m) ⌝ }
+    ensures { λ r. ⌜ Lent (now (m .exit)) ⌝ }
+{
+    let message = tail(row, 6);
+    let r = edge::rowanchess_receive(m, word(row, 4) as usize, &message, word(row, 5), out);
+    reply(got, r);
+}
+
+fn tick(m: &mut [u8], row: &[u8], got: &mut [u8], out: &mut [u8])
+    requires { ⌜ Lent (now m) ⌝ }
+    ensures { λ r. ⌜ Lent (now (m .exit)) ⌝ }
+{
+    let r = edge::rowanchess_tick(m, word(row, 4), out);
+    reply(got, r);
+}
+
+fn publish(m: &mut [u8], got: &mut [u8], out: &mut [u8])
+    requires { ⌜ Lent (now m) ⌝ }
+    ensures { λ r. ⌜ Lent (now (m .exit)) ⌝ }
+{
+    let r = edge::rowanchess_publish(m, out);
+    reply(got, r);
+}
+
+fn end(m: &mut [u8], row: &[u8], got: &mut [u8], out: &mut [u8])
+    requires { ⌜ Lent (now m) ⌝ }
+    ensures { λ r. ⌜ Lent (now (m .exit)) ⌝ }
+{
+    let r = edge::rowanchess_end(m, word(row, 4) as usize, code(row, 5), out);
+    reply(got, r);
+}
+
+fn shut_down(m: &mut [u8], got: &mut [u8], out: &mut [u8])
+    requires { ⌜ Lent (now m) ⌝ }
+    ensures { λ r. ⌜ Lent (now (m .exit)) ⌝ }
+{
+    let r = edge::rowanchess_shut_down(m, out);
+    reply(got, r);
+}
+
 fn call_of_sessions(m: &mut [u8], row: &[u8], got: &mut [u8], out: &mut [u8])
-    requires { ⌜ Between (now m) ⌝ }
-    ensures { λ r. ⌜ Between (now (m .exit)) ⌝ }
+    requires { ⌜ Lent (now m) ⌝ }
+    ensures { λ r. ⌜ Lent (now (m .exit)) ⌝ }
 {
     match word(row, 0) {
         7 => receive(m, row, got, out),
@@ -257,21 +228,106 @@ fn call_of_sessions(m: &mut [u8], row: &[u8], got: &mut [u8], out: &mut [u8])
     }
 }
 
-fn call_of_commands(m: &mut [u8], row: &[u8], got: &mut [u8], out: &mut [u8])
-    requires { ⌜ Between (now m) ⌝ }
-    ensures { λ r. ⌜ Between (now (m .exit)) ⌝ }
+// ---- the engine
+
+fn disconnect(m: &mut [u8], row: &[u8], got: &mut [u8])
+    requires { ⌜ Lent (now m) ⌝ }
+    ensures { λ r. ⌜ Lent (now (m .exit)) ⌝ }
+{
+    let code = edge::rowanchess_disconnect(m, word(row, 4) as usize);
+    put(got, 2, code);
+}
+
+fn detach(m: &mut [u8], row: &[u8], got: &mut [u8])
+    requires { ⌜ Lent (now m) ⌝ }
+    ensures { λ r. ⌜ Lent (now (m .exit)) ⌝ }
+{
+    let a = edge::rowanchess_detach(m, word(row, 4) as usize);
+    put(got, 2, a.code);
+    put(got, 5, a.there);
+    put(got, 6, a.account);
+}
+
+fn take_batch(m: &mut [u8], got: &mut [u8], out: &mut [u8])
+    requires { ⌜ Lent (now m) ⌝ }
+    ensures { λ r. ⌜ Lent (now (m .exit)) ⌝ }
+{
+    let r = edge::rowanchess_take_batch(m, out);
+    reply(got, r);
+}
+
+fn deliver(m: &mut [u8], row: &[u8], got: &mut [u8], out: &mut [u8])
+    requires { ⌜ Lent (now m) ⌝ }
+    ensures { λ r. ⌜ Lent (now (m .exit)) ⌝ }
+{
+    let event = tail(row, 5);
+    let r = edge::rowanchess_deliver(m, word(row, 4), &event, out);
+    reply(got, r);
+}
+
+fn call_of_engine(m: &mut [u8], row: &[u8], got: &mut [u8], out: &mut [u8])
+    requires { ⌜ Lent (now m) ⌝ }
+    ensures { λ r. ⌜ Lent (now (m .exit)) ⌝ }
 {
     match word(row, 0) {
         12 => disconnect(m, row, got),
         13 => detach(m, row, got),
-        _ => take_batch(m, got, out),
+        14 => take_batch(m, got, out),
+        _ => deliver(m, row, got, out),
     }
 }
 
-// The calls numbered 2 to 14; `out` is lent to the call.
-pub fn call(m: &mut [u8], row: &[u8], got: &mut [u8], out: &mut [u8])
-    requires { ⌜ Between (now m) ⌝ }
-    ensures { λ r. ⌜ Between (now (m .exit)) ⌝ }
+// ---- restarts
+
+fn replay_command(m: &mut [u8], row: &[u8], given: &[u8], got: &mut [u8])
+    requires { ⌜ Lent (now m) ⌝ }
+    ensures { λ r. ⌜ Lent (now (m .exit)) ⌝ }
+{
+    let code = edge::rowanchess_replay_command(m, word(row, 4), given);
+    put(got, 2, code);
+}
+
+fn replay_event(m: &mut [u8], row: &[u8], got: &mut [u8])
+    requires { ⌜ Lent (now m) ⌝ }
+    ensures { λ r. ⌜ Lent (now (m .exit)) ⌝ }
+{
+    let event = tail(row, 5);
+    let code = edge::rowanchess_replay_event(m, word(row, 4), &event);
+    put(got, 2, code);
+}
+
+fn finish(m: &mut [u8], given: &[u8], got: &mut [u8])
+    requires { ⌜ Lent (now m) ⌝ }
+    ensures { λ r. ⌜ Lent (now (m .exit)) ⌝ }
+{
+    let code = edge::rowanchess_finish(m, given);
+    put(got, 2, code);
+}
+
+fn checkpoint(m: &[u8], got: &mut [u8], out: &mut [u8])
+    requires { ⌜ Lent (now m) ⌝ }
+{
+    let r = edge::rowanchess_checkpoint(m, out);
+    reply(got, r);
+}
+
+fn call_of_restart(m: &mut [u8], row: &[u8], given: &[u8], got: &mut [u8], out: &mut [u8])
+    requires { ⌜ Lent (now m) ⌝ }
+    ensures { λ r. ⌜ Lent (now (m .exit)) ⌝ }
+{
+    match word(row, 0) {
+        16 => replay_command(m, row, given, got),
+        17 => replay_event(m, row, got),
+        18 => finish(m, given, got),
+        19 => checkpoint(m, got, out),
+        _ => unknown(got),
+    }
+}
+
+// Any call but a start. `given` has the rows that follow the call's, where these are arguments; `out` is lent to the call.
+pub fn call(m: &mut [u8], row: &[u8], given: &[u8], got: &mut [u8], out: &mut [u8])
+    requires { ⌜ Lent (now m) ⌝ }
+    ensures { λ r. ⌜ Lent (now (m .exit)) ⌝ }
 {
     let n = word(row, 0);
     if n < 7 {
@@ -280,5 +336,8 @@ pub fn call(m: &mut [u8], row: &[u8], got: &mut [u8], out: &mut [u8])
     if n < 12 {
         return call_of_sessions(m, row, got, out);
     }
-    call_of_commands(m, row, got, out)
+    if n < 16 {
+        return call_of_engine(m, row, got, out);
+    }
+    call_of_restart(m, row, given, got, out)
 }

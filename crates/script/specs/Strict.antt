@@ -1,10 +1,11 @@
 -- Which rows are messages, events, commands and accounts: the length is the row's, and each number that its kind reads is in its enum or its
 -- integer type. A word that the kind does not read may be anything.
-use Prim.Native.Nat.{ℕ, zero, suc, _%_}
+use Prim.Native.Nat.{ℕ, zero, suc, _-_, _%_}
 use mathlib.Core.Bool.{Bool, true, false, cond, not, _&&_}
 use mathlib.Core.List.{List}
 use lib.Dec.{eqb, leb}
 use lib.ListN.{length}
+use Rattle.protocol.specs.Codes.{tifCases, phaseCases, rejectReasonCases, cancelReasonCases}
 use Rattle.script.specs.Script.{word-at}
 use Rattle.script.specs.Records.{account-bytes, account-rows, account-row}
 
@@ -15,18 +16,18 @@ most-16 = 65535
 abbrev pub most-32 : ℕ
 most-32 = 4294967295
 
--- the last code of each enum
+-- the last code of each enum (protocol/specs/Codes.antt)
 abbrev pub last-tif : ℕ
-last-tif = 3
+last-tif = length tifCases - 1
 
 abbrev pub last-phase : ℕ
-last-phase = 3
+last-phase = length phaseCases - 1
 
 abbrev pub last-reject : ℕ
-last-reject = 15
+last-reject = length rejectReasonCases - 1
 
 abbrev pub last-cancel : ℕ
-last-cancel = 9
+last-cancel = length cancelReasonCases - 1
 
 -- the word i is at most m
 abbrev pub at-most : List ℕ → ℕ → ℕ → Bool

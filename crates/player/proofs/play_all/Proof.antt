@@ -1,11 +1,11 @@
 use Prim.Native.Nat.{_-_}
 use borrow.Author.Needs.{needs}
-use Rattle.outcome.specs.Between.{Between}
+use Rattle.edge.specs.Entering.{Lent}
 use Rattle.player.proofs.play_all.Statement.{statement}
 use Rattle.player.proofs.play_all.Tie as tie
 
 abbrev Inv-loop : tie.InvT-loop
-Inv-loop fd m₀ s₀ t₀ n₀ m s t n = Between m × Between s
+Inv-loop fd m₀ s₀ t₀ n₀ m s t n = Lent m × Lent s
 
 abbrev μ-loop : tie.MeasureT-loop
 μ-loop fd m₀ s₀ t₀ n₀ m s t n = 18446744073709551615 - n

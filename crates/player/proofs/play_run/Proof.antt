@@ -1,12 +1,12 @@
 use mathlib.Core.Path.{_≡_}
 use lib.ListN.{length}
 use borrow.Author.Needs.{needs}
-use Rattle.outcome.specs.Between.{Between}
+use Rattle.edge.specs.Entering.{Lent}
 use Rattle.player.proofs.play_run.Statement.{statement}
 use Rattle.player.proofs.play_run.Tie as tie
 
 abbrev Inv-loop : tie.InvT-loop
-Inv-loop m₀ rows same₀ next₀ left₀ m same next left = Between m × (length next ≡ 128)
+Inv-loop m₀ rows same₀ next₀ left₀ m same next left = Lent m × (length next ≡ 128)
 
 abbrev μ-loop : tie.MeasureT-loop
 μ-loop m₀ rows same₀ next₀ left₀ m same next left = left
