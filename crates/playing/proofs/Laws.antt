@@ -28,5 +28,3 @@ begun-lent timing xs h =
             ok = subst Ok (sym (h .gateway-is)) (subst (Begins 0 []) (begun-started 0 0 timing (omega arith) [] refl) (set-up-begins 0 0 [] [] timing (omega arith) tt tt) .0);
           };
     }
-
-pub ruleset starts = (starts-lent, begun-lent, arith)

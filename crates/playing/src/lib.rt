@@ -114,16 +114,22 @@ fn set_paper_collar(m: &mut [u8], row: &[u8], got: &mut [u8])
     put(got, 2, code);
 }
 
+// Two words from i on.
+fn put_pair(got: &mut [u8], i: usize, cash: i64, position: i64)
+    requires { ⌜ i ≤ 16 ⌝ }
+{
+    put(got, i, words::of_i64(cash));
+    put(got, i + 1, words::of_i64(position));
+}
+
 fn wallet(m: &[u8], row: &[u8], got: &mut [u8])
     requires { ⌜ Lent (now m) ⌝ }
 {
     let w = edge::rowanchess_wallet(m, small(row, 4));
     put(got, 2, w.code);
     put(got, 5, w.there);
-    put(got, 6, words::of_i64(w.cash));
-    put(got, 7, words::of_i64(w.position));
-    put(got, 8, words::of_i64(w.cash_held));
-    put(got, 9, words::of_i64(w.position_held));
+    put_pair(got, 6, w.cash, w.position);
+    put_pair(got, 8, w.cash_held, w.position_held);
 }
 
 fn last_seq(m: &[u8], got: &mut [u8])
