@@ -1,7 +1,8 @@
 /* Rowanchess: the gateway of a seat exchange, proved. The entry points of libedge.a (crates/edge), which `rt staticlib edge` writes.
  *
- * The caller lends all memory: a slice is an address and a length in bytes. `m` is the state, ROWANCHESS_STATE bytes that rowanchess_set_up or
- * rowanchess_restore made. Each call wants it as the last call left it; nobody else may write it, and no two calls may use it at once.
+ * The caller lends all memory: a slice is an address, never null, and a length in bytes. No byte that a call writes is in two of its slices. `m`
+ * is the state, ROWANCHESS_STATE bytes that rowanchess_set_up or rowanchess_restore made. Each call wants it as the last call left it: nobody else
+ * writes it, also not while the call runs.
  *
  * A call answers a code: 0, or a refusal, and then no byte of the state or of an output has changed. Values are rows of words: a word is 8 bytes,
  * little-endian, word i at byte 8 * i. A signed number is its two's complement, an optional value a flag (0 or 1) and the value, and a side, a
