@@ -67,10 +67,7 @@ pub struct Timing {
 impl Default for Timing {
     /// Heartbeats after one second of silence, logout after five.
     fn default() -> Self {
-        Timing {
-            heartbeat: 1_000_000_000,
-            idle_timeout: 5_000_000_000,
-        }
+        Timing { heartbeat: 1_000_000_000, idle_timeout: 5_000_000_000 }
     }
 }
 
@@ -154,11 +151,7 @@ fn refusal(code: u64) -> Refusal {
 impl Exchange {
     fn begun(state: Result<State, u64>) -> Result<Exchange, Refusal> {
         let state = state.map_err(refusal)?;
-        Ok(Exchange {
-            state,
-            out: vec![[0; rows::MAIL]; PLACES],
-            sent: 0,
-        })
+        Ok(Exchange { state, out: vec![[0; rows::MAIL]; PLACES], sent: 0 })
     }
 
     /// The state, for a call that sends nothing or has not sent yet.
@@ -169,10 +162,7 @@ impl Exchange {
 
     /// The rows that `call` writes. Where they are more than places are lent, the call has changed nothing and is made again with twice as many.
     #[inline]
-    fn rows(
-        &mut self,
-        mut call: impl FnMut(&mut State, &mut [u8]) -> Reply,
-    ) -> Result<&[[u8; rows::MAIL]], Refusal> {
+    fn rows(&mut self, mut call: impl FnMut(&mut State, &mut [u8]) -> Reply) -> Result<&[[u8; rows::MAIL]], Refusal> {
         self.sent = 0;
         loop {
             let reply = call(&mut self.state, self.out.as_flattened_mut());
@@ -229,13 +219,7 @@ impl Exchange {
     ) -> Result<Exchange, Refusal> {
         let timing = [timing.heartbeat, timing.idle_timeout];
         let (accounts, list) = (rows::accounts(accounts), rows::listing(listing));
-        Exchange::begun(State::set_up(
-            book.max_owners.into(),
-            last_seq,
-            timing,
-            &accounts,
-            &list,
-        ))
+        Exchange::begun(State::set_up(book.max_owners.into(), last_seq, timing, &accounts, &list))
     }
 
     /// The exchange as `checkpoint` saved it, for `accounts`, in front of a book configured as `book`. The commands and events after it follow
@@ -284,12 +268,7 @@ impl Exchange {
         timing: Timing,
     ) -> Result<Exchange, Refusal> {
         let timing = [timing.heartbeat, timing.idle_timeout];
-        Exchange::begun(State::restore(
-            book.max_owners.into(),
-            timing,
-            &rows::accounts(accounts),
-            bytes,
-        ))
+        Exchange::begun(State::restore(book.max_owners.into(), timing, &rows::accounts(accounts), bytes))
     }
 
     /// Keeps paper-trading accounts' limit orders within `percent` of the market's price: the last trade an account without funds took part in.
@@ -347,12 +326,7 @@ impl Exchange {
     /// ```
     pub fn wallet(&self, account: u32) -> Option<Wallet> {
         let [cash, position, cash_held, position_held] = self.state.wallet(account)?;
-        Some(Wallet {
-            cash,
-            position,
-            cash_held,
-            position_held,
-        })
+        Some(Wallet { cash, position, cash_held, position_held })
     }
 
     /// The book's depth, as the delivered events left it: `exchange.depth().levels(side)`.
@@ -369,10 +343,7 @@ impl Exchange {
         Depth { exchange: self }
     }
 
-    pub(crate) fn levels(
-        &self,
-        side: Side,
-    ) -> Result<impl Iterator<Item = (Price, Level)> + use<>, Refusal> {
+    pub(crate) fn levels(&self, side: Side) -> Result<impl Iterator<Item = (Price, Level)> + use<>, Refusal> {
         let mut out = vec![[0; rows::LEVEL]; LEVELS];
         let reply = self.state.levels(side.code(), out.as_flattened_mut());
         done(reply.code)?;
@@ -607,15 +578,8 @@ impl Exchange {
     /// assert!(exchange.mail().eq([Mail::Send(1, Outbound::Logout { reason }), Mail::Close(1)]));
     /// # Ok::<(), Refusal>(())
     /// ```
-    pub fn end(
-        &mut self,
-        session: SessionId,
-        reason: LogoutReason,
-        mail: &mut impl Mailbox,
-    ) -> Result<(), Refusal> {
-        self.post(mail, |state, out| {
-            state.end(session, reason.code() as u8, out)
-        })
+    pub fn end(&mut self, session: SessionId, reason: LogoutReason, mail: &mut impl Mailbox) -> Result<(), Refusal> {
+        self.post(mail, |state, out| state.end(session, reason.code() as u8, out))
     }
 
     /// An event of the book, about the command handed over under `seq`: reports it to the sessions it concerns. Events must come in sequence
@@ -647,12 +611,7 @@ impl Exchange {
     /// assert_eq!(exchange.deliver(3, trade, &mut Nobody), Err(Refusal::Sequence));
     /// # Ok::<(), Refusal>(())
     /// ```
-    pub fn deliver(
-        &mut self,
-        seq: Seq,
-        event: Event,
-        mail: &mut impl Mailbox,
-    ) -> Result<(), Refusal> {
+    pub fn deliver(&mut self, seq: Seq, event: Event, mail: &mut impl Mailbox) -> Result<(), Refusal> {
         let row = rows::event(event);
         self.post(mail, |state, out| state.deliver(seq, &row, out))
     }

@@ -32,10 +32,7 @@ impl Depth<'_> {
     /// assert_eq!(bids, [(250, Level { qty: 8, orders: 2 }), (240, Level { qty: 4, orders: 1 })]);
     /// # Ok::<(), Refusal>(())
     /// ```
-    pub fn levels(
-        &self,
-        side: Side,
-    ) -> Result<impl Iterator<Item = (Price, Level)> + use<>, Refusal> {
+    pub fn levels(&self, side: Side) -> Result<impl Iterator<Item = (Price, Level)> + use<>, Refusal> {
         self.exchange.levels(side)
     }
 }

@@ -65,9 +65,7 @@ impl Refusal {
 
     /// The refusal of a code; none for 0, which is no refusal, and above 12.
     pub fn of(code: u64) -> Option<Refusal> {
-        Refusal::ALL
-            .get(usize::try_from(code).ok()?.checked_sub(1)?)
-            .copied()
+        Refusal::ALL.get(usize::try_from(code).ok()?.checked_sub(1)?).copied()
     }
 }
 

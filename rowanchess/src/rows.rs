@@ -4,12 +4,10 @@
 use crate::accounts::Account;
 use crate::exchange::{Checkpoint, Mail, SavedOrder, SavedWallet};
 use crate::marketdata::Level;
-use crate::orderbook::{
-    CancelReason, Command, Event, Listed, Phase, Price, RejectReason, Side, TimeInForce,
-};
+use crate::orderbook::{CancelReason, Command, Event, Listed, Phase, Price, RejectReason, Side, TimeInForce};
 use crate::protocol::{
-    Balance, Inbound, LevelUpdate, LoginError, LogoutReason, NewOrder, OrderKind, Outbound,
-    RejectCode, Report, ReportKind, TradeTick,
+    Balance, Inbound, LevelUpdate, LoginError, LogoutReason, NewOrder, OrderKind, Outbound, RejectCode, Report,
+    ReportKind, TradeTick,
 };
 
 /// A message, or an event: its kind, then its fields.
@@ -103,35 +101,11 @@ macro_rules! codes {
 codes!(Side, [Buy = 0, Sell = 1]);
 codes!(TimeInForce, [Gtc = 0, Ioc = 1, Fok = 2, PostOnly = 3]);
 codes!(Phase, [Continuous = 0, Auction = 1, Halted = 2, Closed = 3]);
-codes!(
-    LoginError,
-    [
-        UnsupportedVersion = 1,
-        BadCredentials = 2,
-        AlreadyLoggedIn = 3,
-        AlreadyInSession = 4
-    ]
-);
-codes!(
-    LogoutReason,
-    [
-        Requested = 1,
-        Idle = 2,
-        ProtocolError = 3,
-        SlowConsumer = 4,
-        Shutdown = 5
-    ]
-);
+codes!(LoginError, [UnsupportedVersion = 1, BadCredentials = 2, AlreadyLoggedIn = 3, AlreadyInSession = 4]);
+codes!(LogoutReason, [Requested = 1, Idle = 2, ProtocolError = 3, SlowConsumer = 4, Shutdown = 5]);
 codes!(
     RejectCode,
-    [
-        TooManyOrders = 1,
-        Throttled = 2,
-        Unavailable = 3,
-        InsufficientFunds = 4,
-        NotAllowed = 5,
-        OffMarket = 6,
-    ]
+    [TooManyOrders = 1, Throttled = 2, Unavailable = 3, InsufficientFunds = 4, NotAllowed = 5, OffMarket = 6,]
 );
 codes!(
     RejectReason,
@@ -197,30 +171,10 @@ pub fn accounts(accounts: &[Account]) -> Vec<u8> {
 
 fn listed(entry: &Listed) -> [u8; LISTED] {
     match *entry {
-        Listed::Order {
-            id,
-            owner,
-            side,
-            price,
-            leaves,
-            visible,
-        } => row(&[
-            0,
-            id,
-            owner.into(),
-            side.code(),
-            1,
-            price as u64,
-            leaves,
-            visible,
-        ]),
-        Listed::Stop {
-            id,
-            owner,
-            side,
-            limit,
-            qty,
-        } => {
+        Listed::Order { id, owner, side, price, leaves, visible } => {
+            row(&[0, id, owner.into(), side.code(), 1, price as u64, leaves, visible])
+        }
+        Listed::Stop { id, owner, side, limit, qty } => {
             let [limited, limit] = price_option(limit);
             row(&[1, id, owner.into(), side.code(), limited, limit, qty])
         }
@@ -234,23 +188,9 @@ pub fn listing(book: &[Listed]) -> Vec<u8> {
 fn new_order(order: NewOrder) -> [u8; MESSAGE] {
     let (client_ref, side, qty) = (order.client_ref, order.side.code(), order.qty);
     match order.kind {
-        OrderKind::Limit {
-            price,
-            tif,
-            display,
-        } => {
+        OrderKind::Limit { price, tif, display } => {
             let [displayed, display] = option(display, |qty| qty);
-            row(&[
-                3,
-                client_ref,
-                side,
-                qty,
-                0,
-                price as u64,
-                tif.code(),
-                displayed,
-                display,
-            ])
+            row(&[3, client_ref, side, qty, 0, price as u64, tif.code(), displayed, display])
         }
         OrderKind::Market => row(&[3, client_ref, side, qty, 1]),
         OrderKind::Stop { trigger, limit } => {
@@ -263,20 +203,12 @@ fn new_order(order: NewOrder) -> [u8; MESSAGE] {
 #[inline]
 pub fn message(message: Inbound) -> [u8; MESSAGE] {
     match message {
-        Inbound::Login {
-            version,
-            account,
-            token,
-        } => row(&[0, version.into(), account.into(), token]),
+        Inbound::Login { version, account, token } => row(&[0, version.into(), account.into(), token]),
         Inbound::Logout => row(&[1]),
         Inbound::Heartbeat => row(&[2]),
         Inbound::NewOrder(order) => new_order(order),
         Inbound::Cancel { order_id } => row(&[4, order_id]),
-        Inbound::Modify {
-            order_id,
-            price,
-            qty,
-        } => row(&[5, order_id, price as u64, qty]),
+        Inbound::Modify { order_id, price, qty } => row(&[5, order_id, price as u64, qty]),
         Inbound::MassCancel => row(&[6]),
         Inbound::Subscribe => row(&[7]),
     }
@@ -287,53 +219,14 @@ pub fn event(event: Event) -> [u8; MESSAGE] {
     match event {
         Event::Accepted { id } => row(&[0, id]),
         Event::Rejected { id, reason } => row(&[1, id, reason.code()]),
-        Event::Trade {
-            trade_id,
-            taker,
-            maker,
-            taker_side,
-            price,
-            qty,
-            taker_leaves,
-            maker_leaves,
-        } => row(&[
-            2,
-            trade_id,
-            taker,
-            maker,
-            taker_side.code(),
-            price as u64,
-            qty,
-            taker_leaves,
-            maker_leaves,
-        ]),
-        Event::Rested {
-            id,
-            side,
-            price,
-            qty,
-            visible,
-        } => row(&[3, id, side.code(), price as u64, qty, visible]),
-        Event::Replenished {
-            id,
-            side,
-            price,
-            visible,
-        } => row(&[4, id, side.code(), price as u64, visible]),
+        Event::Trade { trade_id, taker, maker, taker_side, price, qty, taker_leaves, maker_leaves } => {
+            row(&[2, trade_id, taker, maker, taker_side.code(), price as u64, qty, taker_leaves, maker_leaves])
+        }
+        Event::Rested { id, side, price, qty, visible } => row(&[3, id, side.code(), price as u64, qty, visible]),
+        Event::Replenished { id, side, price, visible } => row(&[4, id, side.code(), price as u64, visible]),
         Event::Cancelled { id, qty, reason } => row(&[5, id, qty, reason.code()]),
-        Event::Modified {
-            id,
-            price,
-            qty,
-            leaves,
-        } => row(&[6, id, price as u64, qty, leaves]),
-        Event::StopPlaced {
-            id,
-            side,
-            trigger,
-            limit,
-            qty,
-        } => {
+        Event::Modified { id, price, qty, leaves } => row(&[6, id, price as u64, qty, leaves]),
+        Event::StopPlaced { id, side, trigger, limit, qty } => {
             let [limited, limit] = price_option(limit);
             row(&[7, id, side.code(), trigger as u64, limited, limit, qty])
         }
@@ -346,64 +239,16 @@ pub fn event(event: Event) -> [u8; MESSAGE] {
 /// Kind, id, owner, side (of a phase change: its phase), price, quantity, time in force, display (2 words), trigger, limit (2 words).
 pub fn command(command: Command) -> [u8; MAIL] {
     match command {
-        Command::Limit {
-            id,
-            owner,
-            side,
-            price,
-            qty,
-            tif,
-            display,
-        } => {
+        Command::Limit { id, owner, side, price, qty, tif, display } => {
             let [displayed, display] = option(display, |qty| qty);
-            row(&[
-                0,
-                id,
-                owner.into(),
-                side.code(),
-                price as u64,
-                qty,
-                tif.code(),
-                displayed,
-                display,
-            ])
+            row(&[0, id, owner.into(), side.code(), price as u64, qty, tif.code(), displayed, display])
         }
-        Command::Market {
-            id,
-            owner,
-            side,
-            qty,
-        } => row(&[1, id, owner.into(), side.code(), 0, qty]),
+        Command::Market { id, owner, side, qty } => row(&[1, id, owner.into(), side.code(), 0, qty]),
         Command::Cancel { id, owner } => row(&[2, id, owner.into()]),
-        Command::Modify {
-            id,
-            owner,
-            price,
-            qty,
-        } => row(&[3, id, owner.into(), 0, price as u64, qty]),
-        Command::Stop {
-            id,
-            owner,
-            side,
-            trigger,
-            limit,
-            qty,
-        } => {
+        Command::Modify { id, owner, price, qty } => row(&[3, id, owner.into(), 0, price as u64, qty]),
+        Command::Stop { id, owner, side, trigger, limit, qty } => {
             let [limited, limit] = price_option(limit);
-            row(&[
-                4,
-                id,
-                owner.into(),
-                side.code(),
-                0,
-                qty,
-                0,
-                0,
-                0,
-                trigger as u64,
-                limited,
-                limit,
-            ])
+            row(&[4, id, owner.into(), side.code(), 0, qty, 0, 0, 0, trigger as u64, limited, limit])
         }
         Command::CancelAll { owner } => row(&[5, 0, owner.into()]),
         Command::SetPhase { phase } => row(&[6, 0, 0, phase.code()]),
@@ -425,27 +270,10 @@ pub fn command_of(row: &[u8; MAIL]) -> Command {
             tif: TimeInForce::of(word(row, 6)),
             display: maybe(row, 7),
         },
-        1 => Command::Market {
-            id,
-            owner,
-            side: side(row, 3),
-            qty,
-        },
+        1 => Command::Market { id, owner, side: side(row, 3), qty },
         2 => Command::Cancel { id, owner },
-        3 => Command::Modify {
-            id,
-            owner,
-            price,
-            qty,
-        },
-        4 => Command::Stop {
-            id,
-            owner,
-            side: side(row, 3),
-            trigger: signed(row, 9),
-            limit: maybe_price(row, 10),
-            qty,
-        },
+        3 => Command::Modify { id, owner, price, qty },
+        4 => Command::Stop { id, owner, side: side(row, 3), trigger: signed(row, 9), limit: maybe_price(row, 10), qty },
         5 => Command::CancelAll { owner },
         kind => stray("command", kind),
     }
@@ -463,26 +291,10 @@ fn report_kind(row: &[u8; MAIL]) -> ReportKind {
             qty: word(row, 9),
             leaves: word(row, 10),
         },
-        3 => ReportKind::Rested {
-            side: side(row, 6),
-            price: signed(row, 7),
-            qty: word(row, 8),
-            visible: word(row, 9),
-        },
-        4 => ReportKind::Replenished {
-            side: side(row, 6),
-            price: signed(row, 7),
-            visible: word(row, 8),
-        },
-        5 => ReportKind::Cancelled {
-            qty: word(row, 6),
-            reason: CancelReason::of(word(row, 7)),
-        },
-        6 => ReportKind::Modified {
-            price: signed(row, 6),
-            qty: word(row, 7),
-            leaves: word(row, 8),
-        },
+        3 => ReportKind::Rested { side: side(row, 6), price: signed(row, 7), qty: word(row, 8), visible: word(row, 9) },
+        4 => ReportKind::Replenished { side: side(row, 6), price: signed(row, 7), visible: word(row, 8) },
+        5 => ReportKind::Cancelled { qty: word(row, 6), reason: CancelReason::of(word(row, 7)) },
+        6 => ReportKind::Modified { price: signed(row, 6), qty: word(row, 7), leaves: word(row, 8) },
         7 => ReportKind::StopPlaced {
             side: side(row, 6),
             trigger: signed(row, 7),
@@ -490,9 +302,7 @@ fn report_kind(row: &[u8; MAIL]) -> ReportKind {
             qty: word(row, 10),
         },
         8 => ReportKind::Triggered,
-        9 => ReportKind::MassCancelled {
-            count: small(row, 6),
-        },
+        9 => ReportKind::MassCancelled { count: small(row, 6) },
         10 => ReportKind::PhaseChanged(Phase::of(word(row, 6))),
         kind => stray("report", kind),
     }
@@ -502,31 +312,18 @@ fn report_kind(row: &[u8; MAIL]) -> ReportKind {
 pub fn mail_of(row: &[u8; MAIL]) -> Mail {
     let message = match word(row, 1) {
         0 => return Mail::Close(word(row, 0) as usize),
-        1 => Outbound::LoginAccepted {
-            account: small(row, 2),
-            last_seq: word(row, 3),
-        },
-        2 => Outbound::LoginRejected {
-            reason: LoginError::of(word(row, 2)),
-        },
+        1 => Outbound::LoginAccepted { account: small(row, 2), last_seq: word(row, 3) },
+        2 => Outbound::LoginRejected { reason: LoginError::of(word(row, 2)) },
         3 => Outbound::Heartbeat,
-        4 => Outbound::Logout {
-            reason: LogoutReason::of(word(row, 2)),
-        },
-        5 => Outbound::Reject {
-            reason: RejectCode::of(word(row, 2)),
-            client_ref: word(row, 3),
-        },
+        4 => Outbound::Logout { reason: LogoutReason::of(word(row, 2)) },
+        5 => Outbound::Reject { reason: RejectCode::of(word(row, 2)), client_ref: word(row, 3) },
         6 => Outbound::Report(Report {
             seq: word(row, 2),
             order_id: word(row, 3),
             client_ref: word(row, 4),
             kind: report_kind(row),
         }),
-        7 => Outbound::BookSnapshot {
-            seq: word(row, 2),
-            levels: small(row, 3),
-        },
+        7 => Outbound::BookSnapshot { seq: word(row, 2), levels: small(row, 3) },
         8 => Outbound::LevelUpdate(LevelUpdate {
             seq: word(row, 2),
             side: side(row, 3),
@@ -553,13 +350,7 @@ pub fn mail_of(row: &[u8; MAIL]) -> Mail {
 }
 
 pub fn level_of(row: [u8; LEVEL]) -> (Price, Level) {
-    (
-        signed(&row, 0),
-        Level {
-            qty: word(&row, 1),
-            orders: small(&row, 2),
-        },
-    )
+    (signed(&row, 0), Level { qty: word(&row, 1), orders: small(&row, 2) })
 }
 
 // ---- a checkpoint's bytes: document 01, "Checkpoint bytes"
@@ -623,31 +414,15 @@ pub fn checkpoint_of(bytes: &[u8]) -> Checkpoint {
     let seq = from.long();
     let [marked] = from.take();
     let market_price = from.price(marked == 1);
-    let wallet = |from: &mut Bytes| SavedWallet {
-        account: from.short(),
-        cash: from.signed(),
-        position: from.signed(),
-    };
+    let wallet = |from: &mut Bytes| SavedWallet { account: from.short(), cash: from.signed(), position: from.signed() };
     let wallets = (0..from.short()).map(|_| wallet(&mut from)).collect();
     let order = |from: &mut Bytes| {
         let (id, account, client_ref) = (from.long(), from.short(), from.long());
         let [flags] = from.take();
         let price = from.price(flags & 2 != 0);
         let (buy, leaves) = (flags & 1 != 0, from.long());
-        SavedOrder {
-            id,
-            account,
-            client_ref,
-            buy,
-            price,
-            leaves,
-        }
+        SavedOrder { id, account, client_ref, buy, price, leaves }
     };
     let orders = (0..from.short()).map(|_| order(&mut from)).collect();
-    Checkpoint {
-        seq,
-        wallets,
-        orders,
-        market_price,
-    }
+    Checkpoint { seq, wallets, orders, market_price }
 }
