@@ -67,7 +67,10 @@ fn maybe_price(row: &[u8], i: usize) -> Option<Price> {
 // ---- codes
 
 /// An enum without data, by the numbers of its cases.
-pub trait Code: Copy {
+pub trait Code: Copy + 'static {
+    /// Each case with its name.
+    #[cfg(test)]
+    const CASES: &[(&str, Self)];
     fn code(self) -> u64;
     fn of(code: u64) -> Self;
 }
@@ -80,6 +83,9 @@ fn stray(what: &str, code: u64) -> ! {
 macro_rules! codes {
     ($kind:ident, [$($case:ident = $code:literal),* $(,)?]) => {
         impl Code for $kind {
+            #[cfg(test)]
+            const CASES: &[(&str, $kind)] = &[$((stringify!($case), $kind::$case)),*];
+
             #[inline]
             fn code(self) -> u64 {
                 match self {
@@ -425,4 +431,112 @@ pub fn checkpoint_of(bytes: &[u8]) -> Checkpoint {
     };
     let orders = (0..from.short()).map(|_| order(&mut from)).collect();
     Checkpoint { seq, wallets, orders, market_price }
+}
+
+#[cfg(test)]
+mod tests {
+    use super::*;
+    use crate::refusal::Refusal;
+    use crate::sys::STATE;
+
+    /// The numbers that the C header gives its names.
+    fn header(name: &str) -> u64 {
+        let header = include_str!("../../include/rowanchess.h");
+        let words: Vec<&str> = header.split(|c: char| !(c.is_alphanumeric() || c == '_')).collect();
+        let words: Vec<&str> = words.into_iter().filter(|word| !word.is_empty()).collect();
+        let defined = words.windows(2).filter(|pair| pair[0] == name);
+        let numbers: Vec<u64> = defined.filter_map(|pair| pair[1].parse().ok()).collect();
+        assert_eq!(numbers.len(), 1, "{name} in the header");
+        numbers[0]
+    }
+
+    /// `TooManyOrders` as `TOO_MANY_ORDERS`.
+    fn upper(name: &str) -> String {
+        let mut upper = String::new();
+        for (at, c) in name.char_indices() {
+            if at > 0 && c.is_uppercase() {
+                upper.push('_');
+            }
+            upper.push(c.to_ascii_uppercase());
+        }
+        upper
+    }
+
+    fn same_codes<T: Code + PartialEq + std::fmt::Debug>(prefix: &str) {
+        for &(name, case) in T::CASES {
+            assert_eq!(T::of(case.code()), case);
+            assert_eq!(header(&format!("ROWANCHESS_{prefix}{}", upper(name))), case.code());
+        }
+    }
+
+    #[test]
+    fn codes_are_the_headers() {
+        same_codes::<Side>("");
+        same_codes::<TimeInForce>("");
+        same_codes::<Phase>("");
+        same_codes::<LoginError>("LOGIN_");
+        same_codes::<LogoutReason>("LOGOUT_");
+        same_codes::<RejectCode>("REJECT_");
+        same_codes::<RejectReason>("REASON_");
+        same_codes::<CancelReason>("CANCEL_");
+        for code in 1..=12 {
+            let refusal = Refusal::of(code).expect("a refusal");
+            assert_eq!(u64::from(refusal.code()), code);
+            assert_eq!(header(&format!("ROWANCHESS_{}", upper(&format!("{refusal:?}")))), code);
+        }
+        assert_eq!(Refusal::of(13), None);
+    }
+
+    #[test]
+    fn sizes_are_the_headers() {
+        let sizes = [
+            ("STATE", STATE),
+            ("MESSAGE", MESSAGE),
+            ("EVENT", MESSAGE),
+            ("MAIL", MAIL),
+            ("COMMAND", MAIL),
+            ("ACCOUNT", ACCOUNT),
+            ("LISTED", LISTED),
+            ("LEVEL", LEVEL),
+            ("CHECKPOINT", 25 + 20 * 256 + 37 * 1_024),
+        ];
+        for (name, size) in sizes {
+            assert_eq!(header(&format!("ROWANCHESS_{name}")), size as u64);
+        }
+    }
+
+    #[test]
+    fn commands_come_back() {
+        let (id, owner, side, price, qty) = (5, u32::MAX, Side::Sell, i64::MIN, u64::MAX);
+        let (trigger, tif) = (-1, TimeInForce::PostOnly);
+        let commands = [
+            Command::Limit { id, owner, side, price, qty, tif, display: Some(0) },
+            Command::Limit { id, owner, side, price, qty, tif: TimeInForce::Gtc, display: None },
+            Command::Market { id, owner, side, qty },
+            Command::Cancel { id, owner },
+            Command::Modify { id, owner, price, qty },
+            Command::Stop { id, owner, side, trigger, limit: None, qty },
+            Command::Stop { id, owner, side, trigger, limit: Some(-7), qty },
+            Command::CancelAll { owner },
+        ];
+        for known in commands {
+            assert_eq!(command_of(&command(known)), known);
+        }
+    }
+
+    #[test]
+    fn checkpoints_come_back() {
+        let wallet = |account| SavedWallet { account, cash: i64::MIN, position: -1 };
+        let order = |id, buy, price| SavedOrder { id, account: 3, client_ref: u64::MAX, buy, price, leaves: 9 };
+        let saved = Checkpoint {
+            seq: u64::MAX,
+            wallets: vec![wallet(0), wallet(7)],
+            orders: vec![order(1, true, Some(-4)), order(2, false, None), order(8, true, None)],
+            market_price: Some(i64::MIN),
+        };
+        assert_eq!(checkpoint_of(&checkpoint(&saved)), saved);
+        let empty = Checkpoint { seq: 0, wallets: vec![], orders: vec![], market_price: None };
+        assert_eq!(checkpoint(&empty), [0; 25]);
+        assert_eq!(checkpoint_of(&[0; 25]), empty);
+    }
 }

@@ -7,7 +7,7 @@
 #![allow(unsafe_code)]
 
 /// Bytes of a state (docs/STATE.md).
-const STATE: usize = 467_200;
+pub const STATE: usize = 467_200;
 
 /// A code, and how many rows (of a checkpoint: bytes) were written.
 #[repr(C)]
@@ -200,6 +200,7 @@ impl State {
         unsafe { rowanchess_connect(self.0.as_mut_ptr(), self.0.len(), session, now) }
     }
 
+    #[inline]
     pub fn receive(&mut self, session: usize, row: &[u8], now: u64, out: &mut [u8]) -> Reply {
         // SAFETY: `self` is lent and written. Slices: `row` is read, `out` is written.
         unsafe {
@@ -221,6 +222,7 @@ impl State {
         unsafe { rowanchess_tick(self.0.as_mut_ptr(), self.0.len(), now, out.as_mut_ptr(), out.len()) }
     }
 
+    #[inline]
     pub fn publish(&mut self, out: &mut [u8]) -> Reply {
         // SAFETY: `self` is lent and written. Slices: `out` is written.
         unsafe { rowanchess_publish(self.0.as_mut_ptr(), self.0.len(), out.as_mut_ptr(), out.len()) }
@@ -254,6 +256,7 @@ impl State {
         unsafe { rowanchess_take_batch(self.0.as_mut_ptr(), self.0.len(), out.as_mut_ptr(), out.len()) }
     }
 
+    #[inline]
     pub fn deliver(&mut self, n: u64, row: &[u8], out: &mut [u8]) -> Reply {
         // SAFETY: `self` is lent and written. Slices: `row` is read, `out` is written.
         unsafe {
