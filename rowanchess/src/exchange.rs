@@ -127,6 +127,8 @@ const PLACES: usize = 256;
 
 /// The gateway's logic, in front of a matching engine that the caller runs.
 ///
+/// Where a method names no refusals, document 01 has only `OutputTooShort` for its call, which does not come: the list of mail grows.
+///
 /// In the examples `exchange` has the owner limit 16 and two members, logged in at time 0: an agent, account 1, whose wallet has 1,000 pence and
 /// 20 seats, on session 0; and a touring company without a wallet, account 2, on session 1. `order` makes the message of a limit order.
 pub struct Exchange {
