@@ -152,8 +152,8 @@ impl Host {
 
     fn arrives(&mut self, member: usize) -> Result<(), Refusal> {
         self.exchange.connect(member, self.now)?;
-        let token = 1_000 + member as u64;
-        self.says(member, "logs in", Inbound::Login { version: VERSION, account: member as u32, token })
+        let Account { id, token, .. } = account(member, None);
+        self.says(member, "logs in", Inbound::Login { version: VERSION, account: id, token })
     }
 
     /// A limit order, matched at once.
@@ -199,9 +199,9 @@ fn print(title: &str, exchange: &Exchange) -> Result<String, Refusal> {
 
 fn main() -> Result<(), Refusal> {
     let [lantern, marsh, birch, hazel, rowan] = [0, 1, 2, 3, 4];
-    let funds = |cash, position| Some(Funds { cash, position });
-    let mut accounts = vec![account(lantern, None), account(marsh, None)];
-    accounts.extend([account(birch, funds(60_000, 0)), account(hazel, funds(30_000, 10))]);
+    let agent = |member, cash, position| account(member, Some(Funds { cash, position }));
+    let company = |member| account(member, None);
+    let accounts = [company(lantern), company(marsh), agent(birch, 60_000, 0), agent(hazel, 30_000, 10)];
 
     println!("== The exchange opens ==");
     let exchange = Exchange::new(&CONFIG, &[], 0, &accounts, Timing::default())?;
@@ -224,7 +224,7 @@ fn main() -> Result<(), Refusal> {
     let mut book = host.book.clone(); // the engine's own
     host.record.clear();
     println!("== A checkpoint of {} bytes; from here on the host keeps a record ==", saved.len());
-    let late = account(rowan, funds(20_000, 5));
+    let late = agent(rowan, 20_000, 5);
     host.exchange.add_account(late)?;
     host.record.push(Item::Account(late));
     host.arrives(rowan)?;
