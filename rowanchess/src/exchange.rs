@@ -6,7 +6,7 @@ use crate::orderbook::{BookConfig, Command, Event, Listed, OrderId, Price, Qty, 
 use crate::protocol::{Inbound, LogoutReason, Outbound};
 use crate::refusal::Refusal;
 use crate::rows::{self, Code};
-use crate::sys::{Reply, State};
+use crate::sys::{self, Reply, State};
 use crate::wallet::Wallet;
 
 /// The published `SetupError`, whose numbers document 01 drops.
@@ -113,6 +113,24 @@ pub struct SavedOrder {
     pub price: Option<Price>,
     /// Its open quantity.
     pub leaves: Qty,
+}
+
+/// The orders in a checkpoint's bytes, 37 bytes each: a part of them, empty where they are no checkpoint.
+///
+/// ```
+/// use rowanchess::exchange::order_section;
+///
+/// // No wallets, one order: number 2.
+/// let mut saved = [0; 25 + 37];
+/// saved[0] = 2;
+/// saved[21] = 1;
+/// saved[25] = 2;
+/// assert_eq!(order_section(&saved)[0], 2);
+/// assert_eq!(order_section(&saved).len(), 37);
+/// assert_eq!(order_section(&saved[1..]), []);
+/// ```
+pub fn order_section(bytes: &[u8]) -> &[u8] {
+    &bytes[sys::order_section(bytes)..]
 }
 
 /// Bytes of the longest checkpoint: 256 wallets and 1,024 orders.

@@ -100,6 +100,13 @@ unsafe extern "C" {
     fn rowanchess_replay_event(m: *mut u8, len: usize, n: u64, row: *const u8, row_len: usize) -> u64;
     fn rowanchess_finish(m: *mut u8, len: usize, list: *const u8, list_len: usize) -> u64;
     fn rowanchess_checkpoint(m: *const u8, len: usize, out: *mut u8, out_len: usize) -> Reply;
+    fn rowanchess_order_section(bytes: *const u8, len: usize) -> usize;
+}
+
+/// Where the order section of a checkpoint's bytes starts.
+pub fn order_section(bytes: &[u8]) -> usize {
+    // SAFETY: there is no premise. Slices: `bytes` is read.
+    unsafe { rowanchess_order_section(bytes.as_ptr(), bytes.len()) }
 }
 
 /// The bytes of a gateway, as the last entry point left them.
