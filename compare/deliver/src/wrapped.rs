@@ -60,7 +60,15 @@ impl Wrapped {
             column.exchange.connect(session, 0).expect("a session");
             let account = session as u32;
             let token = TOKEN;
-            column.message(session, Inbound::Login { version: VERSION, account, token }, 0);
+            column.message(
+                session,
+                Inbound::Login {
+                    version: VERSION,
+                    account,
+                    token,
+                },
+                0,
+            );
             column.message(session, Inbound::Subscribe, 0);
         }
         column.mail.0 = 0;
@@ -122,7 +130,11 @@ impl Column for Wrapped {
 
     fn receive(&mut self, session: usize, message: Message, now: u64) {
         let message = match message {
-            Message::New { side: of, price, qty } => Inbound::NewOrder(NewOrder {
+            Message::New {
+                side: of,
+                price,
+                qty,
+            } => Inbound::NewOrder(NewOrder {
                 client_ref: now,
                 side: side(of),
                 qty,
