@@ -1,8 +1,8 @@
-//! Links what `rt staticlib tables` wrote.
+//! Links what `rt staticlib maps` wrote.
 
 fn main() {
     let folder = concat!(env!("CARGO_MANIFEST_DIR"), "/../../target/staticlib");
-    println!("cargo:rerun-if-changed={folder}/libtables.a");
+    println!("cargo:rerun-if-changed={folder}/libmaps.a");
     println!("cargo:rustc-link-search=native={folder}");
-    println!("cargo:rustc-link-lib=static=tables");
+    println!("cargo:rustc-link-lib=static=maps");
 }

@@ -31,27 +31,27 @@ fn copy_four(row: &[u8], out: &mut [u8]) {
 
 // Each call answers its code, and leaves the other results in `out`.
 fn hold_of(row: &[u8], out: &mut [u8]) -> u32 {
-    entry::entry_hold_of(small(row, 8), word(row, 16), word(row, 24), out)
+    comparison::entry_hold_of(small(row, 8), word(row, 16), word(row, 24), out)
 }
 
 fn covers(row: &[u8], out: &mut [u8]) -> u32
     requires { ⌜ 120 ≤ length (now row) ⌝ }
 {
-    entry::entry_covers(small(row, 8), word(row, 16), &row[24..56], out)
+    comparison::entry_covers(small(row, 8), word(row, 16), &row[24..56], out)
 }
 
 fn hold(row: &[u8], out: &mut [u8]) -> u32 {
     copy_four(row, out);
-    entry::entry_hold(small(row, 8), word(row, 16), word(row, 24), out)
+    comparison::entry_hold(small(row, 8), word(row, 16), word(row, 24), out)
 }
 
 fn settle(row: &[u8], out: &mut [u8]) -> u32 {
     copy_four(row, out);
-    entry::entry_settle(small(row, 8), word(row, 16), word(row, 24), out)
+    comparison::entry_settle(small(row, 8), word(row, 16), word(row, 24), out)
 }
 
 fn near(row: &[u8], out: &mut [u8]) -> u32 {
-    entry::entry_near(word(row, 8), word(row, 16), small(row, 24), out)
+    comparison::entry_near(word(row, 8), word(row, 16), small(row, 24), out)
 }
 
 // A fresh bucket is full at time 0.
@@ -66,19 +66,19 @@ fn start(row: &[u8], bucket: &mut [u8]) {
 
 fn take_token(row: &[u8], bucket: &mut [u8], out: &mut [u8]) -> u32 {
     start(row, bucket);
-    entry::entry_take_token(small(row, 16), word(row, 24), bucket, out)
+    comparison::entry_take_token(small(row, 16), word(row, 24), bucket, out)
 }
 
 fn load(row: &[u8], out: &mut [u8]) -> u32
     requires { ⌜ 120 ≤ length (now row) ⌝ }
 {
     le::store(out, 0, 8, 0xa5a5a5a5a5a5a5a5);
-    entry::entry_load(small(row, 8), word(row, 16), &row[24..40], out)
+    comparison::entry_load(small(row, 8), word(row, 16), &row[24..40], out)
 }
 
 fn store(row: &[u8], out: &mut [u8]) -> u32 {
     copy_two(row, out);
-    entry::entry_store(small(row, 8), word(row, 16), word(row, 24), out)
+    comparison::entry_store(small(row, 8), word(row, 16), word(row, 24), out)
 }
 
 fn call(row: &[u8], bucket: &mut [u8], out: &mut [u8]) -> u32
