@@ -1,3 +1,4 @@
 pub mod Laws
 pub mod Begins
 pub mod Sections
+pub mod Commands

@@ -1,12 +1,11 @@
 // Whether the rows of a book listing are entries: whole rows, and each kind, owner, side and flag in its range.
 use listing::Entry;
+use script::strict;
 ghost use mathlib.Core.Path.{_≡_};
 ghost use lib.Dec.{leb};
 ghost use Rattle.listing.specs.Rows.{rows};
 ghost use Rattle.script.specs.Strict.{all-fit};
 ghost use Rattle.edge.specs.Values as P;
-
-const MOST_32: u64 = 4_294_967_295;
 
 fn at_most(w: u64, most: u64) -> bool
     ensures { λ r. ⌜ r ≡ leb w most ⌝ }
@@ -26,7 +25,7 @@ fn flags_fit(e: Entry) -> bool
 fn owner_fits(e: Entry) -> bool
     ensures { λ r. ⌜ r ≡ P.owner-fits e ⌝ }
 {
-    if at_most(e.owner, MOST_32) {
+    if at_most(e.owner, strict::MOST_32) {
         return flags_fit(e);
     }
     false

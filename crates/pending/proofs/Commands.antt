@@ -45,7 +45,7 @@ tif-back Ioc = refl
 tif-back Fok = refl
 tif-back PostOnly = refl
 
-qty-back : (q : Q.MaybeQty) → maybe-qty (P.qty-flag q) (P.qty-word q) ≡ q
+pub qty-back : (q : Q.MaybeQty) → maybe-qty (P.qty-flag q) (P.qty-word q) ≡ q
 qty-back Q.the-variants.None = refl
 qty-back (Q.the-variants.Some q) = refl
 

@@ -8,7 +8,7 @@ ghost use Rattle.script.specs.Strict as S;
 
 const MOST_16: u64 = 65_535;
 
-const MOST_32: u64 = 4_294_967_295;
+pub const MOST_32: u64 = 4_294_967_295;
 
 // The last code of each enum.
 const LAST_TIF: u64 = 3;
