@@ -7,6 +7,10 @@ use crate::{Column, TOKEN, funds};
 
 const STATE: usize = 467_200;
 const ROW: usize = 96;
+const LIMIT: u64 = 256;
+
+/// No heartbeat is due, and no session idle.
+const NEVER: u64 = u64::MAX;
 
 #[repr(C)]
 struct Reply {
@@ -36,6 +40,17 @@ unsafe extern "C" {
         accounts_len: usize,
         list: *const u8,
         list_len: usize,
+    ) -> u64;
+    fn rowanchess_restore(
+        m: *mut u8,
+        len: usize,
+        limit: u64,
+        heartbeat: u64,
+        idle: u64,
+        accounts: *const u8,
+        accounts_len: usize,
+        bytes: *const u8,
+        bytes_len: usize,
     ) -> u64;
     fn rowanchess_connect(m: *mut u8, len: usize, session: usize, time: u64) -> u64;
     fn rowanchess_receive(
@@ -123,15 +138,17 @@ fn event_row(event: Event) -> [u8; 128] {
     }
 }
 
-/// An account's row: 7 words.
-fn account_row(account: usize) -> Vec<u8> {
-    let (there, (cash, position)) = match funds(account) {
-        Some(funds) => (1, funds),
-        None => (0, (0, 0)),
+/// The rows of the accounts from 0 on: 7 words each.
+pub fn accounts(count: usize, funds: impl Fn(usize) -> Option<(i64, i64)>) -> Vec<u8> {
+    let words = |account: usize| {
+        let (there, (cash, position)) = match funds(account) {
+            Some(funds) => (1, funds),
+            None => (0, (0, 0)),
+        };
+        let rate = u64::from(u32::MAX);
+        [account as u64, TOKEN, 1_024, rate, there, cash as u64, position as u64]
     };
-    let rate = u64::from(u32::MAX);
-    let words = [account as u64, TOKEN, 1_024, rate, there, cash as u64, position as u64];
-    words.into_iter().flat_map(u64::to_le_bytes).collect()
+    (0..count).flat_map(words).flat_map(u64::to_le_bytes).collect()
 }
 
 impl Proved {
@@ -142,11 +159,9 @@ impl Proved {
             sent: 0,
             refused: 0,
         };
-        let accounts: Vec<u8> = (0..SESSIONS).flat_map(account_row).collect();
-        // SAFETY: here and below, each address comes with the length of a slice that lives through the call, and the state is this column's alone.
-        let code = column.set_up(u64::MAX, &accounts, &[]);
-        column.refused += usize::from(code != 0);
+        column.set_up(0, &accounts(SESSIONS, funds), &[]);
         for session in 0..SESSIONS {
+            // SAFETY: here and below, each address comes with the length of a slice that lives through the call, and the state is this column's alone.
             unsafe { rowanchess_connect(column.state.as_mut_ptr(), STATE, session, 0) };
             column.receive_row(session, &row(&[0, 1, session as u64, TOKEN]), 0);
             column.receive_row(session, &row(&[7]), 0);
@@ -155,10 +170,18 @@ impl Proved {
         column
     }
 
-    fn set_up(&mut self, timing: u64, accounts: &[u8], list: &[u8]) -> u64 {
+    pub fn set_up(&mut self, last: u64, accounts: &[u8], list: &[u8]) {
         let m = self.state.as_mut_ptr();
         let (rows, rows_len) = (accounts.as_ptr(), accounts.len());
-        unsafe { rowanchess_set_up(m, STATE, 256, 0, timing, timing, rows, rows_len, list.as_ptr(), list.len()) }
+        let code = unsafe { rowanchess_set_up(m, STATE, LIMIT, last, NEVER, NEVER, rows, rows_len, list.as_ptr(), list.len()) };
+        self.refused += usize::from(code != 0);
+    }
+
+    pub fn restore(&mut self, accounts: &[u8], bytes: &[u8]) {
+        let m = self.state.as_mut_ptr();
+        let (rows, rows_len) = (accounts.as_ptr(), accounts.len());
+        let code = unsafe { rowanchess_restore(m, STATE, LIMIT, NEVER, NEVER, rows, rows_len, bytes.as_ptr(), bytes.len()) };
+        self.refused += usize::from(code != 0);
     }
 
     fn note(&mut self, reply: Reply) -> usize {
@@ -175,11 +198,11 @@ impl Proved {
     }
 
     /// The bytes of a checkpoint.
-    pub fn checkpoint(&mut self) -> usize {
+    pub fn checkpoint(&mut self) -> &[u8] {
         let (m, out) = (self.state.as_ptr(), self.out.as_mut_ptr());
         let reply = unsafe { rowanchess_checkpoint(m, STATE, out, self.out.len()) };
         self.refused += usize::from(reply.code != 0);
-        reply.count
+        &self.out[..reply.count]
     }
 
     pub fn finish(&mut self, list: &[u8]) {
