@@ -62,6 +62,10 @@ pub struct Draw {
     pub theme: Theme,
     /// For the player: the calls to draw, by their names. `set-up` lists orders, `restore` begins lists and restarts gateways.
     pub only: Option<Vec<String>>,
+    /// Accounts and sessions are drawn from all that document 01 has room for.
+    pub wide: bool,
+    /// Between a replay and `finish` all calls are drawn.
+    pub freely: bool,
     clock: u64,
     /// The last call was an event.
     delivers: bool,
@@ -73,7 +77,17 @@ pub struct Draw {
 
 impl Draw {
     pub fn new(seed: u64) -> Draw {
-        Draw { state: seed, theme: Theme::Money, only: None, clock: 0, delivers: false, planned: VecDeque::new(), damaged: BTreeMap::new() }
+        Draw {
+            state: seed,
+            theme: Theme::Money,
+            only: None,
+            wide: false,
+            freely: false,
+            clock: 0,
+            delivers: false,
+            planned: VecDeque::new(),
+            damaged: BTreeMap::new(),
+        }
     }
 
     /// SplitMix64.
@@ -91,6 +105,7 @@ impl Draw {
 
     /// An account's number, mostly below `usual`.
     fn mostly(&mut self, usual: u64, seldom: u64) -> u32 {
+        let (usual, seldom) = if self.wide { (256, 258) } else { (usual, seldom) };
         let bound = if self.chance(8) { seldom } else { usual };
         self.below(bound) as u32
     }
@@ -114,13 +129,13 @@ impl Draw {
         weights.iter().position(fits).expect("a weight")
     }
 
-    fn shuffle<T>(&mut self, items: &mut [T]) {
+    pub fn shuffle<T>(&mut self, items: &mut [T]) {
         for at in 1..items.len() {
             items.swap(at, self.below(at as u64 + 1) as usize);
         }
     }
 
-    fn side(&mut self) -> Side {
+    pub fn side(&mut self) -> Side {
         self.pick(&[Side::Buy, Side::Sell])
     }
 
@@ -129,7 +144,7 @@ impl Draw {
         self.below(if matches!(self.theme, Theme::Ends) { 4 } else { 60 })
     }
 
-    fn price(&mut self) -> i64 {
+    pub fn price(&mut self) -> i64 {
         match self.seldom() {
             0 => self.pick(&[0, -1, -60, -(1 << 62), i64::MIN]),
             1 => self.pick(&[1, 1 << 61, 1 << 62, 1 << 62, i64::MAX]),
@@ -137,7 +152,7 @@ impl Draw {
         }
     }
 
-    fn qty(&mut self) -> u64 {
+    pub fn qty(&mut self) -> u64 {
         match self.seldom() {
             0..2 => self.pick(&[0, 1 << 62, i64::MAX as u64, i64::MAX as u64, 1 << 63, u64::MAX]),
             _ => 1 + self.below(6),
@@ -149,7 +164,7 @@ impl Draw {
     }
 
     /// Times mostly rise a little, or by about the silence that timing allows.
-    fn time(&mut self) -> u64 {
+    pub fn time(&mut self) -> u64 {
         let slow = !matches!(self.theme, Theme::Sessions);
         self.clock = match self.below(20) {
             0 if slow => self.clock.saturating_sub(self.below(2_000_000_000)),
@@ -161,7 +176,7 @@ impl Draw {
         self.clock
     }
 
-    fn account(&mut self, id: u32) -> Account {
+    pub fn account(&mut self, id: u32) -> Account {
         let paper = self.chance(if matches!(self.theme, Theme::Money | Theme::Ends) { 75 } else { 45 });
         let mut amount = |usual: u64| match self.seldom() {
             0..2 => self.pick(&[0, -5, i64::MAX, i64::MIN, 1 << 62]),
@@ -206,7 +221,7 @@ impl Draw {
         Timing { heartbeat, idle_timeout }
     }
 
-    fn entry(&mut self, id: OrderId, live: Live) -> Listed {
+    pub fn entry(&mut self, id: OrderId, live: Live) -> Listed {
         let Live { account: owner, side, price, leaves, .. } = live;
         match price {
             Some(price) if self.chance(80) => {
@@ -300,7 +315,7 @@ impl Draw {
     }
 
     /// An order's number: mostly a live one's.
-    fn order(&mut self, model: &Model) -> OrderId {
+    pub fn order(&mut self, model: &Model) -> OrderId {
         let live: Vec<OrderId> = model.live.keys().copied().collect();
         if live.is_empty() || self.chance(6) {
             return self.below(model.last.saturating_add(2));
@@ -464,7 +479,7 @@ impl Draw {
         Call::Finish(listing)
     }
 
-    fn plan_login(&mut self, session: usize, login: Inbound) {
+    pub fn plan_login(&mut self, session: usize, login: Inbound) {
         let calls = [Call::Connect(session, self.time()), Call::Receive(session, login, self.time())];
         self.planned.extend(calls);
     }
@@ -569,7 +584,7 @@ impl Draw {
     }
 
     /// An order or another command of an account, which a limit alone refuses.
-    fn entry_of(&mut self, model: &Model, account: u32, others: bool) -> Call {
+    pub fn entry_of(&mut self, model: &Model, account: u32, others: bool) -> Call {
         let kind = match self.weigh(if account == 0 && others { &[40, 5, 5] } else { &[1, 0, 0] }) {
             0 => OrderKind::Limit { price: 1 + self.below(9) as i64, tif: TimeInForce::Gtc, display: None },
             1 => OrderKind::Market,
@@ -685,7 +700,7 @@ impl Draw {
         // add-account checkpoint finish replay-command replay-event
         let weights: [u64; 19] = match self.theme {
             // While the Rust's depth is not document 01's, nothing that shows it.
-            _ if model.replaying => [2, 0, 0, 0, 0, 0, 0, 0, 2, 0, 0, 8, 3, 2, 2, 3, 12, 30, 50],
+            _ if model.replaying && !self.freely => [2, 0, 0, 0, 0, 0, 0, 0, 2, 0, 0, 8, 3, 2, 2, 3, 12, 30, 50],
             Theme::Money => [joins, 50, events, 10, 1, 1, 0, 1, 1, 4, 1, 12, 1, 3, 1, 3, 0, 0, 0],
             Theme::Market => [joins, 30, 2 * events, 24, 1, 1, 0, 1, 1, 3, 8, 2, 1, 0, 0, 1, 3, 0, 0],
             Theme::Sessions => [joins + 7, 50, events / 2, 8, 26, 4, 1, 6, 6, 3, 1, 1, 1, 1, 3, 1, 0, 1, 1],
@@ -693,7 +708,10 @@ impl Draw {
             Theme::Restart | Theme::Full(_) => [joins, 40, events, 12, 1, 1, 1, 3, 6, 6, 3, 6, 1, 1, 2, 6, 3, replays, 1],
         };
         match self.weigh(&weights) {
-            0 => Call::Connect(if self.chance(3) { self.pick(&[63, 64, 1000]) } else { self.below(4) as usize }, self.time()),
+            0 => {
+                let usual = if self.wide { 66 } else { 4 };
+                Call::Connect(if self.chance(3) { self.pick(&[63, 64, 1000]) } else { self.below(usual) as usize }, self.time())
+            }
             1 => self.receive(model),
             2 => {
                 let (number, event) = self.event(model, depth);

@@ -10,6 +10,7 @@ mod model;
 mod published;
 mod sends;
 pub mod state;
+mod types;
 pub mod words;
 
 pub use call::{Answer, Call, Gateway, Listed, Mail, Seen, Start};

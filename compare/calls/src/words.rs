@@ -15,14 +15,20 @@ pub const LEVEL: usize = 3;
 
 /// A value as words. A signed number is in two's complement; an option is 1 and the value, or 0 and 0.
 pub trait Words {
-    fn words(&self) -> Vec<u64>;
+    fn put(&self, into: &mut Vec<u64>);
+
+    fn words(&self) -> Vec<u64> {
+        let mut words = Vec::new();
+        self.put(&mut words);
+        words
+    }
 }
 
 macro_rules! numbers {
     ($($number:ty)*) => {
         $(impl Words for $number {
-            fn words(&self) -> Vec<u64> {
-                vec![*self as u64]
+            fn put(&self, into: &mut Vec<u64>) {
+                into.push(*self as u64);
             }
         })*
     };
@@ -33,8 +39,8 @@ numbers!(u16 u32 u64 usize i64);
 macro_rules! options {
     ($($part:ty)*) => {
         $(impl Words for Option<$part> {
-            fn words(&self) -> Vec<u64> {
-                self.map_or(vec![0, 0], |part| vec![1, part as u64])
+            fn put(&self, into: &mut Vec<u64>) {
+                into.extend(self.map_or([0, 0], |part| [1, part as u64]));
             }
         })*
     };
@@ -43,13 +49,17 @@ macro_rules! options {
 options!(i64 u64 u32);
 
 fn joined(parts: &[&dyn Words]) -> Vec<u64> {
-    parts.iter().flat_map(|part| part.words()).collect()
+    let mut words = Vec::new();
+    parts.iter().for_each(|part| part.put(&mut words));
+    words
 }
 
 /// The row of `first` and the parts, filled up with 0.
 pub fn row<const SIZE: usize>(first: &[u64], parts: &[&dyn Words]) -> [u64; SIZE] {
     let mut row = [0; SIZE];
-    let words = [first, &joined(parts)].concat();
+    let mut words = Vec::with_capacity(SIZE);
+    words.extend(first);
+    parts.iter().for_each(|part| part.put(&mut words));
     row[..words.len()].copy_from_slice(&words);
     row
 }
@@ -58,9 +68,9 @@ pub fn row<const SIZE: usize>(first: &[u64], parts: &[&dyn Words]) -> [u64; SIZE
 macro_rules! codes {
     ($($type:ty, $first:literal: $($case:ident)*;)*) => {
         $(impl Words for $type {
-            fn words(&self) -> Vec<u64> {
+            fn put(&self, into: &mut Vec<u64>) {
                 let cases = [$(matches!(self, Self::$case)),*];
-                vec![cases.iter().position(|&is| is).expect("a case") as u64 + $first]
+                into.push(cases.iter().position(|&is| is).expect("a case") as u64 + $first);
             }
         })*
     };
@@ -82,10 +92,12 @@ codes! {
 macro_rules! enums {
     ($($type:ty: $($case:ident = $number:literal $({ $($field:ident)* })? $(($inner:ident))?),*;)*) => {
         $(impl Words for $type {
-            fn words(&self) -> Vec<u64> {
+            fn put(&self, into: &mut Vec<u64>) {
                 match self {
                     $(Self::$case $({ $($field),* })? $(($inner))? => {
-                        [vec![$number], joined(&[$($($field),*)? $($inner)?])].concat()
+                        into.push($number);
+                        $($($field.put(into);)*)?
+                        $($inner.put(into);)?
                     })*
                 }
             }
@@ -114,8 +126,8 @@ enums! {
 macro_rules! structs {
     ($($type:ty: $($field:ident)*;)*) => {
         $(impl Words for $type {
-            fn words(&self) -> Vec<u64> {
-                joined(&[$(&self.$field),*])
+            fn put(&self, into: &mut Vec<u64>) {
+                $(self.$field.put(into);)*
             }
         })*
     };
@@ -131,9 +143,10 @@ structs! {
 }
 
 impl Words for Account {
-    fn words(&self) -> Vec<u64> {
-        let funds = self.funds.map_or(vec![0, 0, 0], |funds| vec![1, funds.cash as u64, funds.position as u64]);
-        [joined(&[&self.id, &self.token, &self.max_open_orders, &self.messages_per_second]), funds].concat()
+    fn put(&self, into: &mut Vec<u64>) {
+        let numbers: [&dyn Words; 4] = [&self.id, &self.token, &self.max_open_orders, &self.messages_per_second];
+        numbers.iter().for_each(|number| number.put(into));
+        into.extend(self.funds.map_or([0, 0, 0], |funds| [1, funds.cash as u64, funds.position as u64]));
     }
 }
 
