@@ -25,8 +25,18 @@ struct Wallet {
 }
 
 unsafe extern "C" {
-    fn rowanchess_begin(m: *mut u8, len: usize, limit: u64, last: u64, heartbeat: u64, idle: u64) -> u64;
-    fn rowanchess_add_account(m: *mut u8, len: usize, row: *const u8, row_len: usize) -> u64;
+    fn rowanchess_set_up(
+        m: *mut u8,
+        len: usize,
+        limit: u64,
+        last: u64,
+        heartbeat: u64,
+        idle: u64,
+        accounts: *const u8,
+        accounts_len: usize,
+        list: *const u8,
+        list_len: usize,
+    ) -> u64;
     fn rowanchess_connect(m: *mut u8, len: usize, session: usize, time: u64) -> u64;
     fn rowanchess_receive(
         m: *mut u8,
@@ -113,6 +123,17 @@ fn event_row(event: Event) -> [u8; 128] {
     }
 }
 
+/// An account's row: 7 words.
+fn account_row(account: usize) -> Vec<u8> {
+    let (there, (cash, position)) = match funds(account) {
+        Some(funds) => (1, funds),
+        None => (0, (0, 0)),
+    };
+    let rate = u64::from(u32::MAX);
+    let words = [account as u64, TOKEN, 1_024, rate, there, cash as u64, position as u64];
+    words.into_iter().flat_map(u64::to_le_bytes).collect()
+}
+
 impl Proved {
     pub fn new() -> Proved {
         let mut column = Proved {
@@ -121,23 +142,23 @@ impl Proved {
             sent: 0,
             refused: 0,
         };
+        let accounts: Vec<u8> = (0..SESSIONS).flat_map(account_row).collect();
         // SAFETY: here and below, each address comes with the length of a slice that lives through the call, and the state is this column's alone.
-        unsafe { rowanchess_begin(column.state.as_mut_ptr(), STATE, 256, 0, u64::MAX, u64::MAX) };
+        let code = column.set_up(u64::MAX, &accounts, &[]);
+        column.refused += usize::from(code != 0);
         for session in 0..SESSIONS {
-            let (there, (cash, position)) = match funds(session) {
-                Some(funds) => (1, funds),
-                None => (0, (0, 0)),
-            };
-            let rate = u64::from(u32::MAX);
-            let account = row(&[session as u64, TOKEN, 1_024, rate, there, cash as u64, position as u64]);
-            let state = column.state.as_mut_ptr();
-            unsafe { rowanchess_add_account(state, STATE, account.as_ptr(), 56) };
-            unsafe { rowanchess_connect(state, STATE, session, 0) };
+            unsafe { rowanchess_connect(column.state.as_mut_ptr(), STATE, session, 0) };
             column.receive_row(session, &row(&[0, 1, session as u64, TOKEN]), 0);
             column.receive_row(session, &row(&[7]), 0);
         }
         column.sent = 0;
         column
+    }
+
+    fn set_up(&mut self, timing: u64, accounts: &[u8], list: &[u8]) -> u64 {
+        let m = self.state.as_mut_ptr();
+        let (rows, rows_len) = (accounts.as_ptr(), accounts.len());
+        unsafe { rowanchess_set_up(m, STATE, 256, 0, timing, timing, rows, rows_len, list.as_ptr(), list.len()) }
     }
 
     fn note(&mut self, reply: Reply) -> usize {

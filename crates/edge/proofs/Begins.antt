@@ -1,56 +1,47 @@
--- A start without accounts and orders. Assumes nothing.
-use Prim.Native.Nat.{ℕ, _≤_, _<_}
+-- A start with the accounts of lent rows, or 11 and nothing changed. Assumes nothing.
+use Prim.Native.Nat.{ℕ, _+_}
 use mathlib.Core.Path.{_≡_, refl, sym, ap, subst, _∙_}
 use mathlib.Core.Bool.{Bool, true, false, cond}
-use mathlib.Core.List.{List, []}
+use mathlib.Core.List.{List, [], _∷_, _++_}
 use borrow.Author.Needs.{needs}
-use borrow.Author.Tests.{lt-leb}
-use lib.Dec.{leb}
-use Rattle.accounts.specs.declared.Timing.{Timing}
-use Rattle.gateway.specs.Limits.{owner-slots, malformed}
-use Rattle.gateway.specs.Fits.{Unsigned}
-use Rattle.gateway.specs.Invariant.{Ok}
-use Rattle.gateway.specs.Start.{Started, not-started, started, set-up, start-unless}
-use Rattle.gateway.proofs.Begin.{Begins, set-up-begins}
-use Rattle.sound.specs.Sound.{Becomes}
-use Rattle.start.specs.Start.{begun}
-use Rattle.start.proofs.Begun.{begun-started}
-use Rattle.outcome.specs.Between.{Between}
-use Rattle.opening.specs.Starts.{Starts, Begun}
+use Rattle.accounts.specs.declared.Account.{Account}
+use Rattle.gateway.specs.Limits.{malformed}
+use Rattle.gateway.specs.Start.{Started, not-started}
+use Rattle.store.specs.View.{listed}
+use Rattle.store.proofs.Listed.{listed-more}
+use Rattle.roster.specs.declared.Roster.{Roster}
+use Rattle.roster.specs.Rostered.{nobody, enter, entered, Numbered}
+use Rattle.roster.proofs.Tables.{entered-more, gathered}
+use Rattle.opening.specs.Starts.{Starts, Begins}
 use Rattle.edge.specs.Entering.{whole, begins}
 use Rattle.edge.proofs.Laws.{whole-holds}
 
-module _ (limit last : ℕ) (t : Timing) (xs : List ℕ) where
-  over : (b : Bool) → leb limit owner-slots ≡ b → b ≡ false → set-up limit last [] [] t ≡ not-started 5
-  unfolding set-up start-unless
-  over b e f = rw (e ∙ f) refl
+-- ---- the roster of rows
 
-  pub begin-full : 256 < limit → Starts (set-up limit last [] [] t) 5 xs xs
-  unfolding Starts
-  begin-full h =
-      subst (λ (s : Started). Starts s 5 xs xs) (sym (over (leb limit 256) refl (lt-leb limit 256 h)))
-      (record { code-is = refl; state-kept = refl; rest-kept = tt })
+module _ (limit : ℕ) (row : ℕ → Account) (r : Roster) where
+  pub no-rows : r ≡ nobody → r ≡ entered limit nobody (listed row 0)
+  unfolding entered listed
+  no-rows e = e
 
-  pub begin-done : (ys : List ℕ) → limit ≤ 256 → last < 18446744073709551616 → Becomes ys (begun limit last t []) → Starts (set-up limit last [] [] t) 0 xs ys
-  unfolding Starts
-  begin-done ys h f k =
-      let e = begun-started limit last t h [] refl in
-      subst (λ (s : Started). Starts s 0 xs ys) (sym e)
-      (record {
-        is-done = record { code-is = refl; becomes = k; tells = tt };
-        between =
-            record {
-              state = k .state;
-              ok = subst Ok (sym (k .gateway-is)) (subst (Begins limit []) e (set-up-begins limit last [] [] t f tt tt) .0);
-            };
-      })
+  pub one-row-more : (j : ℕ) (s : Roster) (a : Account) → r ≡ entered limit nobody (listed row j) → a ≡ row j → s ≡ enter limit r a → s ≡ entered limit nobody (listed row (j + 1))
+  one-row-more j s a e f g =
+      g ∙ ap (enter limit r) f ∙ ap (λ (x : Roster). enter limit x (row j)) e ∙ entered-more limit nobody (listed row j) (row j) ∙ ap (entered limit nobody) (sym (listed-more row j))
 
-  pub begin-at : (b : Bool) (r : ℕ) (ys : List ℕ) → b ≡ whole true xs → b ≡ true → Starts (set-up limit last [] [] t) r xs ys → Starts (begins xs limit last t) r xs ys
+-- ---- the start, and its refusal
+
+pub roster-numbered : (limit : ℕ) (l : List Account) (r : Roster) → r ≡ entered limit nobody l → Numbered limit r
+roster-numbered limit l r e = gathered limit l r e .numbered
+
+module _ (xs : List ℕ) (b d ok : Bool) (f : d ≡ ok) (e : b ≡ whole d xs) where
+  is : (c : Bool) (s : Started) → b ≡ c → begins ok xs s ≡ cond c s (not-started malformed)
   unfolding begins
-  begin-at b r ys e f h = rw (← e, f) h
+  is c s t = ap (λ (z : Bool). cond z s (not-started malformed)) (ap (λ (z : Bool). whole z xs) (sym f) ∙ sym e ∙ t)
 
-  pub begin-no : (b : Bool) → b ≡ whole true xs → b ≡ false → Starts (begins xs limit last t) 11 xs xs
-  unfolding begins Starts
-  begin-no b e f = rw (← e, f) (record { code-is = refl; state-kept = refl; rest-kept = tt })
+  pub starts-at : (limit : ℕ) (l : List Account) (r : Roster) (s : List Account → Started) (code : ℕ) (ys : List ℕ) → b ≡ true → r ≡ entered limit nobody l → Begins limit r s code xs ys → Starts (begins ok xs (s l)) code xs ys
+  starts-at limit l r s code ys t g h = subst (λ (o : Started). Starts o code xs ys) (sym (is true (s l) t)) (h .starts l (gathered limit l r g))
 
-pub ruleset begin-laws = (needs, begin-full, begin-done, begin-at, begin-no, whole-holds)
+  pub starts-no : (s : Started) → b ≡ false → Starts (begins ok xs s) 11 xs xs
+  unfolding Starts
+  starts-no s t = subst (λ (o : Started). Starts o 11 xs xs) (sym (is false s t)) (record { code-is = refl; state-kept = refl; rest-kept = tt })
+
+pub ruleset begin-laws = (needs, whole-holds, roster-numbered, starts-no)

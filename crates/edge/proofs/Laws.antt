@@ -36,13 +36,13 @@ use Rattle.commands.specs.declared.MaybeId as Id
 use Rattle.commands.specs.Commands.{maybe-id}
 use Rattle.listing.specs.Rows.{row-bytes, rows}
 use Rattle.script.specs.Script.{word-at, message-of, event-of}
-use Rattle.script.specs.Strict.{is-message, is-event, is-command, is-account, message-fits, event-fits, owned-fits, account-fits}
+use Rattle.script.specs.Strict.{is-message, is-event, is-command, is-account, all-fit, message-fits, event-fits, owned-fits, account-fits}
 use Rattle.script.specs.Records.{command-of, account-of}
-use Rattle.script.proofs.Tests.{both, both-no}
+use Rattle.script.proofs.Tests.{both, both-no, no-row, a-row}
 use Rattle.edge.specs.declared.Wallet.{Wallet}
 use Rattle.edge.specs.declared.Account as A
 use Rattle.edge.specs.Entering.{Lent, whole, asked, Enters}
-use Rattle.edge.specs.Values.{is-reason, reason-or, wallet-in, no-wallet, IsWallet, account-in, IsAccount, entries-fit, is-listing}
+use Rattle.edge.specs.Values.{is-reason, reason-or, wallet-in, no-wallet, IsWallet, account-in, IsAccount, entry-fits-at, is-listing}
 
 -- ---- the length
 
@@ -146,13 +146,13 @@ reason-yes why m x e f = rw (← e, f) refl
 pub reason-no : (why : ℕ) (m : M.MaybeLogoutReason) → m ≡ logoutOf why → m ≡ M.the-variants.None → false ≡ is-reason (logoutOf why)
 reason-no why m e f = rw (← e, f) refl
 
-pub listing-yes : (xs : List ℕ) (b : Bool) → length xs % 64 ≡ 0 → b ≡ entries-fit xs (rows xs) → b ≡ is-listing xs
+pub listing-yes : (xs : List ℕ) (b : Bool) → length xs % 64 ≡ 0 → b ≡ all-fit (entry-fits-at xs) (rows xs) → b ≡ is-listing xs
 unfolding is-listing
-listing-yes xs b h f = rw (eq-eqb (length xs % 64) 0 h) f
+listing-yes xs b h f = f ∙ a-row (length xs % 64) 0 (all-fit (entry-fits-at xs) (rows xs)) h
 
 pub listing-no : (xs : List ℕ) → (length xs % 64 ≡ 0 → ⊥) → false ≡ is-listing xs
 unfolding is-listing
-listing-no xs h = rw (ne-eqb (length xs % 64) 0 h) refl
+listing-no xs h = no-row (length xs % 64) 0 (all-fit (entry-fits-at xs) (rows xs)) h
 
 pub some-balance : (v : Ba.MaybeBalance) (x : Balance) → v ≡ Ba.the-variants.Some x → maybe-balance v ≡ some x
 some-balance v x e = ap maybe-balance e

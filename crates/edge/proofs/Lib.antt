@@ -1,4 +1,3 @@
 pub mod Laws
-pub mod Entries
 pub mod Begins
 pub mod Sections

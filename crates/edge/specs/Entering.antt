@@ -1,16 +1,15 @@
 -- What an entry point gives: the outcome of its call in the definitions; or 11, and nothing changed, where the state or a row is not one.
 use Prim.Native.Nat.{ℕ, _*_}
 use mathlib.Core.Path.{_≡_}
-use mathlib.Core.Bool.{Bool, true, cond, _&&_}
-use mathlib.Core.List.{List, []}
+use mathlib.Core.Bool.{Bool, cond, _&&_}
+use mathlib.Core.List.{List}
 use lib.Dec.{eqb}
 use lib.ListN.{length}
-use Rattle.accounts.specs.declared.Timing.{Timing}
 use Rattle.gateway.specs.Limits.{malformed}
 use Rattle.gateway.specs.Rest.{Mail}
 use Rattle.gateway.specs.Entry.{Answer}
 use Rattle.gateway.specs.Calls.{Call, call, Outcome, refused}
-use Rattle.gateway.specs.Start.{Started, not-started, set-up}
+use Rattle.gateway.specs.Start.{Started, not-started}
 use Rattle.store.specs.Layout.{cell, cells, Holds}
 use Rattle.store.specs.View.{gateway}
 use Rattle.outcome.specs.Between.{Between}
@@ -29,9 +28,8 @@ whole ok xs = eqb (length xs) (8 * cells) && ok
 unfoldable pub asked : Bool → List ℕ → Call → Outcome
 asked ok xs x = cond (whole ok xs) (call (gateway (cell xs)) x) (refused malformed)
 
--- a start without accounts and orders
-unfoldable pub begins : List ℕ → (limit last : ℕ) → Timing → Started
-begins xs limit last t = cond (whole true xs) (set-up limit last [] [] t) (not-started malformed)
+unfoldable pub begins : Bool → List ℕ → Started → Started
+begins ok xs s = cond (whole ok xs) s (not-started malformed)
 
 -- `Answers` (outcome/specs/Answers.antt) for bytes of any length
 pub record Enters (o : Outcome) (kept : Type 0) (tells : Answer → List Mail → Type 0) (code : ℕ) (xs ys : List ℕ) : Type 0 where

@@ -1,5 +1,5 @@
 -- Numbers of the entry points as values: options, reasons, the answers of `wallet` and `detach`, and which rows are a book listing.
-use Prim.Native.Nat.{ℕ, zero, suc, _%_}
+use Prim.Native.Nat.{ℕ, _%_}
 use mathlib.Core.Path.{_≡_}
 use mathlib.Core.Bool.{Bool, true, false, _&&_}
 use mathlib.Core.Option.{Option}
@@ -7,6 +7,7 @@ use mathlib.Core.List.{List}
 use lib.Dec.{eqb, leb}
 use lib.ListN.{length}
 use lib.IntN.{pos}
+use Rattle.accounts.specs.declared.Timing.{Timing}
 use Rattle.protocol.specs.declared.Balance as B
 use Rattle.protocol.specs.declared.LogoutReason.{LogoutReason}
 use Rattle.protocol.specs.declared.LogoutReason.the-variants.{Requested}
@@ -18,7 +19,7 @@ use Rattle.commands.specs.declared.MaybeId as Id
 use Rattle.commands.specs.Commands.{maybe-id}
 use Rattle.listing.specs.declared.Entry.{Entry}
 use Rattle.listing.specs.Rows.{row-bytes, entry, rows}
-use Rattle.script.specs.Strict.{most-32}
+use Rattle.script.specs.Strict.{most-32, all-fit, are-accounts}
 use Rattle.edge.specs.declared.Wallet.{Wallet}
 use Rattle.edge.specs.declared.Account.{Account}
 
@@ -65,10 +66,18 @@ owner-fits e = leb (e .owner) most-32 && flags-fit e
 abbrev pub entry-fits : Entry → Bool
 entry-fits e = leb (e .kind) 1 && owner-fits e
 
--- of the first n rows
-unfoldable pub entries-fit : List ℕ → ℕ → Bool
-entries-fit xs zero = true
-entries-fit xs (suc n) = entries-fit xs n && entry-fits (entry xs n)
+abbrev pub entry-fits-at : List ℕ → ℕ → Bool
+entry-fits-at xs j = entry-fits (entry xs j)
 
+-- whole rows, and each an entry
 unfoldable pub is-listing : List ℕ → Bool
-is-listing xs = eqb (length xs % row-bytes) 0 && entries-fit xs (rows xs)
+is-listing xs = eqb (length xs % row-bytes) 0 && all-fit (entry-fits-at xs) (rows xs)
+
+-- ---- what a start is given
+
+abbrev pub timing : (heartbeat idle-timeout : ℕ) → Timing
+timing heartbeat idle-timeout = record { heartbeat = heartbeat; «idle_timeout» = idle-timeout }
+
+-- the rows of accounts and of the listing
+abbrev pub are-rows : (accounts list : List ℕ) → Bool
+are-rows accounts list = are-accounts accounts && is-listing list

@@ -10,9 +10,11 @@ use protocol::LogoutReason;
 use protocol::codes;
 use protocol::codes::MaybeLogoutReason;
 use risk::MaybePercent;
+use roster::Roster;
+use script::records;
+use script::strict;
 ghost use mathlib.Core.Path.{_≡_};
 ghost use mathlib.Core.Bool.{true};
-ghost use mathlib.Core.List.{[]};
 ghost use Prim.Native.Nat.{_/_};
 ghost use lib.Dec.{leb};
 ghost use lib.ListN.{length, drop};
@@ -20,15 +22,15 @@ ghost use Rattle.protocol.specs.Codes.{logoutOf};
 ghost use Rattle.risk.specs.Collar.{percent-of};
 ghost use Rattle.gateway.specs.Entry.{nothing, account-was, wallet-is, number-is};
 ghost use Rattle.gateway.specs.Calls as C;
-ghost use Rattle.gateway.specs.Start.{set-up};
-ghost use Rattle.store.specs.Layout.{Holds};
+ghost use Rattle.gateway.specs.Start.{set-up, restore};
 ghost use Rattle.store.specs.View as View;
 ghost use Rattle.mailbox.specs.Mailbox.{places};
 ghost use Rattle.listing.specs.Rows.{listing};
 ghost use Rattle.saved.specs.Contents.{order-section};
 ghost use Rattle.script.specs.Script.{message-of, event-of};
-ghost use Rattle.script.specs.Strict.{is-message, is-event, is-command, is-account};
-ghost use Rattle.script.specs.Records.{command-of, account-of};
+ghost use Rattle.script.specs.Strict.{is-message, is-event, is-command, is-account, are-accounts};
+ghost use Rattle.script.specs.Records.{command-of, account-of, accounts-in};
+ghost use Rattle.roster.specs.Rostered.{nobody, entered};
 ghost use Rattle.opening.specs.Starts.{Starts};
 ghost use Rattle.edge.specs.Entering.{Lent, whole, begins, asked, Gives, Lists, Writes, Says};
 ghost use Rattle.edge.specs.Values as P;
@@ -81,38 +83,73 @@ fn is_whole(m: &[u8], ok: bool) -> bool
 
 // ---- the start
 
-fn begin(m: &mut [u8], limit: u64, last: u64, timing: Timing) -> u64
-    requires { ⌜ Holds (now m) ⌝ }
-    ensures { λ r. ⌜ Starts (set-up limit last [] [] timing) r (now (m .entry)) (now (m .exit)) ⌝ }
+// The roster of the accounts in the rows.
+fn gather(limit: u64, accounts: &[u8]) -> Roster
+    ensures { λ r. ⌜ r ≡ entered limit nobody (accounts-in (now (accounts .entry))) ⌝ }
 {
-    if 256 < limit {
-        return outcome::FULL;
+    let n = records::account_rows(accounts);
+    let mut r = roster::nobody();
+    let mut j: usize = 0;
+    while j < n {
+        let a = records::account_at(accounts, j);
+        r = roster::enter(r, limit, a);
+        j += 1;
     }
-    start::start(m, limit, last, timing);
-    0
+    r
 }
 
-// Set-up without accounts and orders: the bytes become a state. Accounts join by `rowanchess_add_account`.
+fn are_rows(accounts: &[u8], list: &[u8]) -> bool
+    ensures { λ r. ⌜ r ≡ P.are-rows (now (accounts .entry)) (now (list .entry)) ⌝ }
+{
+    if strict::are_accounts(accounts) {
+        return listings::is_listing(list);
+    }
+    false
+}
+
+// `accounts` has rows of 7 words, and `list` is a book listing: the bytes become a state.
 #[no_mangle]
-pub extern "C" fn rowanchess_begin(
+pub extern "C" fn rowanchess_set_up(
     m: &mut [u8],
     limit: u64,
     last: u64,
     heartbeat: u64,
     idle_timeout: u64,
+    accounts: &[u8],
+    list: &[u8],
 ) -> u64
-    ensures { λ r. ⌜ Starts (begins (now (m .entry)) limit last (record { heartbeat = heartbeat; «idle_timeout» = «idle_timeout» })) r (now (m .entry)) (now (m .exit)) ⌝ }
+    ensures { λ r. ⌜ Starts (begins (P.are-rows (now (accounts .entry)) (now (list .entry))) (now (m .entry)) (set-up limit last (accounts-in (now (accounts .entry))) (listing (now (list .entry))) (P.timing heartbeat «idle_timeout»))) r (now (m .entry)) (now (m .exit)) ⌝ }
 {
-    if is_whole(m, true) {
-        return begin(
-            m,
-            limit,
-            last,
-            Timing {
-                heartbeat,
-                idle_timeout,
-            },
-        );
+    if is_whole(m, are_rows(accounts, list)) {
+        let timing = Timing {
+            heartbeat,
+            idle_timeout,
+        };
+        let r = gather(limit, accounts);
+        return setup::set_up(m, limit, last, timing, r, list);
+    }
+    MALFORMED
+}
+
+// `accounts` has rows of 7 words, and `bytes` is a checkpoint.
+#[no_mangle]
+pub extern "C" fn rowanchess_restore(
+    m: &mut [u8],
+    limit: u64,
+    heartbeat: u64,
+    idle_timeout: u64,
+    accounts: &[u8],
+    bytes: &[u8],
+) -> u64
+    ensures { λ r. ⌜ Starts (begins (are-accounts (now (accounts .entry))) (now (m .entry)) (restore limit (accounts-in (now (accounts .entry))) (P.timing heartbeat «idle_timeout») (now (bytes .entry)))) r (now (m .entry)) (now (m .exit)) ⌝ }
+{
+    if is_whole(m, strict::are_accounts(accounts)) {
+        let timing = Timing {
+            heartbeat,
+            idle_timeout,
+        };
+        let r = gather(limit, accounts);
+        return restore::restore(m, limit, timing, r, bytes);
     }
     MALFORMED
 }
@@ -245,7 +282,7 @@ pub extern "C" fn rowanchess_receive(
     requires { ⌜ Lent (now m) ⌝ }
     ensures { λ r. ⌜ Gives (asked (is-message (now (row .entry))) (now (m .entry)) (C.receive-from session (message-of (now (row .entry))) time (places (length (now (out .entry)))))) r (now (m .entry)) (now (m .exit)) (now (out .entry)) (now (out .exit)) ⌝ }
 {
-    if is_whole(m, script::strict::is_message(row)) {
+    if is_whole(m, strict::is_message(row)) {
         let message = script::message(row);
         let r = exchange::receive(m, session, message, time, out);
         return Reply {
@@ -421,7 +458,7 @@ pub extern "C" fn rowanchess_deliver(m: &mut [u8], n: u64, row: &[u8], out: &mut
     requires { ⌜ Lent (now m) ⌝ }
     ensures { λ r. ⌜ Gives (asked (is-event (now (row .entry))) (now (m .entry)) (C.deliver-event n (event-of (now (row .entry))) (places (length (now (out .entry)))))) r (now (m .entry)) (now (m .exit)) (now (out .entry)) (now (out .exit)) ⌝ }
 {
-    if is_whole(m, script::strict::is_event(row)) {
+    if is_whole(m, strict::is_event(row)) {
         let e = script::event(row);
         let r = deliver::deliver(m, n, e, out);
         return Reply {
@@ -443,8 +480,8 @@ pub extern "C" fn rowanchess_add_account(m: &mut [u8], row: &[u8]) -> u64
     requires { ⌜ Lent (now m) ⌝ }
     ensures { λ r. ⌜ Says nothing (asked (is-account (now (row .entry))) (now (m .entry)) (C.add-account (account-of (now (row .entry))))) r (now (m .entry)) (now (m .exit)) ⌝ }
 {
-    if is_whole(m, script::strict::is_account(row)) {
-        let a = script::records::account(row);
+    if is_whole(m, strict::is_account(row)) {
+        let a = records::account(row);
         return joining::add_account(m, a);
     }
     MALFORMED
@@ -456,8 +493,8 @@ pub extern "C" fn rowanchess_replay_command(m: &mut [u8], n: u64, row: &[u8]) ->
     requires { ⌜ Lent (now m) ⌝ }
     ensures { λ r. ⌜ Says nothing (asked (is-command (now (row .entry))) (now (m .entry)) (C.replay-command n (command-of (now (row .entry))))) r (now (m .entry)) (now (m .exit)) ⌝ }
 {
-    if is_whole(m, script::strict::is_command(row)) {
-        let k = script::records::command(row);
+    if is_whole(m, strict::is_command(row)) {
+        let k = records::command(row);
         return replay::replay_command(m, n, k);
     }
     MALFORMED
@@ -469,7 +506,7 @@ pub extern "C" fn rowanchess_replay_event(m: &mut [u8], n: u64, row: &[u8]) -> u
     requires { ⌜ Lent (now m) ⌝ }
     ensures { λ r. ⌜ Says nothing (asked (is-event (now (row .entry))) (now (m .entry)) (C.replay-event n (event-of (now (row .entry))))) r (now (m .entry)) (now (m .exit)) ⌝ }
 {
-    if is_whole(m, script::strict::is_event(row)) {
+    if is_whole(m, strict::is_event(row)) {
         let e = script::event(row);
         return redelivery::replay_event(m, n, e);
     }

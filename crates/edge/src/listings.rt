@@ -3,6 +3,7 @@ use listing::Entry;
 ghost use mathlib.Core.Path.{_≡_};
 ghost use lib.Dec.{leb};
 ghost use Rattle.listing.specs.Rows.{rows};
+ghost use Rattle.script.specs.Strict.{all-fit};
 ghost use Rattle.edge.specs.Values as P;
 
 const MOST_32: u64 = 4_294_967_295;
@@ -41,7 +42,7 @@ fn entry_fits(e: Entry) -> bool
 }
 
 fn entries_fit(list: &[u8]) -> bool
-    ensures { λ r. ⌜ r ≡ P.entries-fit (now (list .entry)) (rows (now (list .entry))) ⌝ }
+    ensures { λ r. ⌜ r ≡ all-fit (P.entry-fits-at (now (list .entry))) (rows (now (list .entry))) ⌝ }
 {
     let mut j = listing::rows(list);
     while 0 < j {

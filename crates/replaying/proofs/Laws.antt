@@ -14,7 +14,7 @@ use Rattle.start.proofs.Begun.{begun-started}
 use Rattle.outcome.specs.Between.{Between}
 use Rattle.roster.specs.declared.Roster.{Roster}
 use Rattle.roster.specs.Rostered.{nobody, enter, entered, Numbered}
-use Rattle.roster.proofs.Tables.{gathered}
+use Rattle.roster.proofs.Tables.{entered-more, gathered}
 use Rattle.opening.specs.Starts.{Starts}
 use Rattle.opening.specs.Starts as O
 use Rattle.replaying.specs.Rostered.{Rostered}
@@ -24,11 +24,6 @@ use Rattle.replaying.specs.Rostered.{Rostered}
 pub rostered-nobody : (limit : ℕ) (r : Roster) → r ≡ nobody → Rostered limit r
 unfolding entered
 rostered-nobody limit r e = record { accounts = []; is = e }
-
-entered-more : (limit : ℕ) (r : Roster) (l : List Account) (a : Account) → enter limit (entered limit r l) a ≡ entered limit r (l ++ (a ∷ []))
-unfolding entered
-entered-more limit r [] a = refl
-entered-more limit r (b ∷ l) a = entered-more limit (enter limit r b) l a
 
 pub rostered-more : (limit : ℕ) (r s : Roster) (a : Account) → Rostered limit r → s ≡ enter limit r a → Rostered limit s
 rostered-more limit r s a h e =

@@ -92,6 +92,12 @@ unfolding entered
 entered-keeps limit r t k [] = k
 entered-keeps limit r t k (a ∷ l) = entered-keeps limit (enter limit r a) (set t (a .id) (some a)) (more limit r t k a) l
 
+-- one account more, behind the others
+pub entered-more : (limit : ℕ) (r : Roster) (l : List Account) (a : Account) → enter limit (entered limit r l) a ≡ entered limit r (l ++ (a ∷ []))
+unfolding entered
+entered-more limit r [] a = refl
+entered-more limit r (b ∷ l) a = entered-more limit (enter limit r b) l a
+
 -- ---- nobody
 
 getD-replicate : {A : Type 0} (n i : ℕ) (x : A) → getD (replicate n x) i x ≡ x

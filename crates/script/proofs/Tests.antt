@@ -65,10 +65,10 @@ module _ (xs : List ℕ) (k : ℕ) where
 
 -- ---- a row's length
 
-no-row : (n k : ℕ) (q : Bool) → (n ≡ k → ⊥) → false ≡ (eqb n k && q)
+pub no-row : (n k : ℕ) (q : Bool) → (n ≡ k → ⊥) → false ≡ (eqb n k && q)
 no-row n k q h = rw (ne-eqb n k h) refl
 
-a-row : (n k : ℕ) (q : Bool) → n ≡ k → q ≡ (eqb n k && q)
+pub a-row : (n k : ℕ) (q : Bool) → n ≡ k → q ≡ (eqb n k && q)
 a-row n k q h = rw (eq-eqb n k h) refl
 
 module _ (xs : List ℕ) where

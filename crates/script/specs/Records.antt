@@ -1,15 +1,16 @@
 -- A command by the 12 cells of its row in the batch, and an account by 7 words.
-use Prim.Native.Nat.{ℕ}
+use Prim.Native.Nat.{ℕ, _*_, _/_}
 use mathlib.Core.Bool.{cond}
 use mathlib.Core.List.{List}
 use lib.Dec.{eqb}
+use lib.ListN.{length, take, drop}
 use Rattle.orderbook.specs.declared.Command.{Command}
 use Rattle.orderbook.specs.declared.Command.the-variants as Co
 use Rattle.accounts.specs.declared.Account.{Account}
 use Rattle.accounts.specs.declared.Funds.{Funds}
 use Rattle.accounts.specs.declared.MaybeFunds as F
 use Rattle.words.specs.Words.{int}
-use Rattle.store.specs.View.{flag, side, maybe-price}
+use Rattle.store.specs.View.{listed, flag, side, maybe-price}
 use Rattle.script.specs.Script.{word-at, small-at, price-at, tif-at, phase-at, maybe-qty}
 
 -- ---- commands: kind, id, owner, side, price, qty, time in force, displayed, display, trigger, limited, limit
@@ -57,3 +58,22 @@ account-of xs =
       «messages_per_second» = small-at xs 3;
       funds = funds (word-at xs 4) (word-at xs 5) (word-at xs 6);
     }
+
+-- ---- a list of accounts
+
+-- the bytes of a row
+abbrev pub account-bytes : ℕ
+account-bytes = 56
+
+abbrev pub account-rows : List ℕ → ℕ
+account-rows xs = length xs / account-bytes
+
+-- the row j
+abbrev pub account-row : List ℕ → ℕ → List ℕ
+account-row xs j = take account-bytes (drop (account-bytes * j) xs)
+
+abbrev pub account-at : List ℕ → ℕ → Account
+account-at xs j = account-of (account-row xs j)
+
+abbrev pub accounts-in : List ℕ → List Account
+accounts-in xs = listed (account-at xs) (account-rows xs)

@@ -1,11 +1,12 @@
 -- Which rows are messages, events, commands and accounts: the length is the row's, and each number that its kind reads is in its enum or its
 -- integer type. A word that the kind does not read may be anything.
-use Prim.Native.Nat.{ℕ}
+use Prim.Native.Nat.{ℕ, zero, suc, _%_}
 use mathlib.Core.Bool.{Bool, true, false, cond, not, _&&_}
 use mathlib.Core.List.{List}
 use lib.Dec.{eqb, leb}
 use lib.ListN.{length}
 use Rattle.script.specs.Script.{word-at}
+use Rattle.script.specs.Records.{account-bytes, account-rows, account-row}
 
 -- the greatest numbers of 16 and of 32 bits
 abbrev pub most-16 : ℕ
@@ -107,3 +108,17 @@ account-fits xs = at-most xs 0 most-32 && limits-fit xs
 
 unfoldable pub is-account : List ℕ → Bool
 is-account xs = eqb (length xs) 56 && account-fits xs
+
+-- ---- rows in a list
+
+-- each of the first n rows passes a test
+unfoldable pub all-fit : (ℕ → Bool) → ℕ → Bool
+all-fit fits zero = true
+all-fit fits (suc n) = all-fit fits n && fits n
+
+abbrev pub is-account-at : List ℕ → ℕ → Bool
+is-account-at xs j = is-account (account-row xs j)
+
+-- whole rows, and each an account
+unfoldable pub are-accounts : List ℕ → Bool
+are-accounts xs = eqb (length xs % account-bytes) 0 && all-fit (is-account-at xs) (account-rows xs)

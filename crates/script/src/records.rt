@@ -5,9 +5,13 @@ use accounts::Funds;
 use accounts::MaybeFunds;
 use orderbook::Command;
 ghost use mathlib.Core.Path.{_≡_};
+ghost use Prim.Native.Nat.{_<_};
 ghost use lib.ListN.{length};
 ghost use Rattle.script.specs.Script.{word-at};
 ghost use Rattle.script.specs.Records as P;
+
+// The bytes of an account's row.
+pub const ACCOUNT: usize = 56;
 
 fn limit(row: &[u8]) -> Command
     requires { ⌜ length (now row) ≡ 96 ⌝ }
@@ -118,4 +122,29 @@ pub fn account(row: &[u8]) -> Account
         messages_per_second: crate::small(row, 3),
         funds,
     }
+}
+
+// ---- a list of accounts
+
+pub fn account_rows(list: &[u8]) -> usize
+    ensures { λ r. ⌜ r ≡ P.account-rows (now (list .entry)) ⌝ }
+{
+    list.len() / ACCOUNT
+}
+
+pub fn account_row(list: &[u8], j: usize) -> &[u8]
+    requires { ⌜ j < P.account-rows (now list) ⌝ }
+    ensures { λ r. ⌜ now r ≡ P.account-row (now (list .entry)) j ⌝ }
+{
+    let at = ACCOUNT * j;
+    let end = at + ACCOUNT;
+    &list[at..end]
+}
+
+pub fn account_at(list: &[u8], j: usize) -> Account
+    requires { ⌜ j < P.account-rows (now list) ⌝ }
+    ensures { λ r. ⌜ r ≡ P.account-at (now (list .entry)) j ⌝ }
+{
+    let row = account_row(list, j);
+    account(row)
 }

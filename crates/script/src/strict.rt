@@ -1,8 +1,9 @@
 // Whether a row is a message, an event, a command or an account: its length, and each number that its kind reads.
 ghost use mathlib.Core.Path.{_≡_};
-ghost use Prim.Native.Nat.{_+_, _*_, _≤_};
+ghost use Prim.Native.Nat.{_+_, _*_, _≤_, _<_};
 ghost use lib.ListN.{length};
 ghost use Rattle.script.specs.Script.{word-at};
+ghost use Rattle.script.specs.Records.{account-rows};
 ghost use Rattle.script.specs.Strict as S;
 
 const MOST_16: u64 = 65_535;
@@ -221,4 +222,35 @@ pub fn is_account(row: &[u8]) -> bool
         return false;
     }
     account_fits(row)
+}
+
+fn is_account_at(list: &[u8], j: usize) -> bool
+    requires { ⌜ j < account-rows (now list) ⌝ }
+    ensures { λ r. ⌜ r ≡ S.is-account-at (now (list .entry)) j ⌝ }
+{
+    let row = crate::records::account_row(list, j);
+    is_account(row)
+}
+
+fn all_accounts(list: &[u8]) -> bool
+    ensures { λ r. ⌜ r ≡ S.all-fit (S.is-account-at (now (list .entry))) (account-rows (now (list .entry))) ⌝ }
+{
+    let mut j = crate::records::account_rows(list);
+    while 0 < j {
+        j -= 1;
+        if !is_account_at(list, j) {
+            return false;
+        }
+    }
+    true
+}
+
+// Whole rows, and each an account.
+pub fn are_accounts(list: &[u8]) -> bool
+    ensures { λ r. ⌜ r ≡ S.are-accounts (now (list .entry)) ⌝ }
+{
+    if list.len() % crate::records::ACCOUNT == 0 {
+        return all_accounts(list);
+    }
+    false
 }

@@ -4,13 +4,14 @@ use native.Mathlib.Omega.{arith}
 use borrow.Author.Needs.{needs}
 use borrow.Author.Tests.{not-true, not-false}
 use Rattle.listing.specs.Rows.{rows}
-use Rattle.edge.specs.Values.{entries-fit}
-use Rattle.edge.proofs.Entries.{entry-fits-not, entries-more, entries-none}
+use Rattle.script.specs.Strict.{all-fit}
+use Rattle.script.proofs.Rows.{fits-not, fits-too, none-left}
+use Rattle.edge.specs.Values.{entry-fits, entry-fits-at}
 use Rattle.edge.proofs.listings.entries_fit.Statement.{statement}
 use Rattle.edge.proofs.listings.entries_fit.Tie as tie
 
 abbrev Inv-loop : tie.InvT-loop
-Inv-loop list j₀ j = (j ≤ rows list) × (entries-fit list (rows list) ≡ entries-fit list j)
+Inv-loop list j₀ j = (j ≤ rows list) × (all-fit (entry-fits-at list) (rows list) ≡ all-fit (entry-fits-at list) j)
 
 abbrev μ-loop : tie.MeasureT-loop
 μ-loop list j₀ j = j
@@ -19,7 +20,7 @@ rows-requires : tie.Need-rows-requires Inv-loop μ-loop
 rows-requires c κs = search needs
 
 loop-holds : tie.Need-loop-holds Inv-loop μ-loop
-loop-holds c = let e = c .rows .ensures in (omega arith, ap (entries-fit (c .before .before .args .list .now)) (sym e))
+loop-holds c = let e = c .rows .ensures in (omega arith, ap (all-fit (entry-fits-at (c .before .before .args .list .now))) (sym e))
 
 sub-j : tie.Need-sub-j Inv-loop μ-loop
 sub-j c = search needs
@@ -35,7 +36,7 @@ returns c =
     let f = c .before in
     let l = f .before .before .before in
     let e : l .loop .j ≡ l .loop .j - 1 + 1 = omega arith in
-    entry-fits-not _ (l .loop .j - 1) _ _ _ (f .before .entry-at .ensures) (f .entry-fits .ensures) (rw e at (l .loop .inv .1)) (not-true _ (c .if1 .taken))
+    fits-not _ (l .loop .j - 1) _ _ (f .entry-fits .ensures ∙ ap entry-fits (f .before .entry-at .ensures)) (rw e at (l .loop .inv .1)) (not-true _ (c .if1 .taken))
 
 loop-less : tie.Need-loop-less Inv-loop μ-loop
 loop-less c = omega arith
@@ -45,13 +46,13 @@ loop-again c =
     let f = c .before in
     let l = f .before .before .before in
     let e : l .loop .j ≡ l .loop .j - 1 + 1 = omega arith in
-    (omega arith, entries-more _ (l .loop .j - 1) _ _ _ (f .before .entry-at .ensures) (f .entry-fits .ensures) (rw e at (l .loop .inv .1)) (not-false _ (c .if1 .left)))
+    (omega arith, fits-too _ (l .loop .j - 1) _ _ (f .entry-fits .ensures ∙ ap entry-fits (f .before .entry-at .ensures)) (rw e at (l .loop .inv .1)) (not-false _ (c .if1 .left)))
 
 returns-2 : tie.Need-returns-2 Inv-loop μ-loop
 returns-2 c =
     let l = c .before in
     let e : l .loop .j ≡ 0 = omega arith in
-    entries-none _ _ (rw e at (l .loop .inv .1))
+    none-left _ _ (rw e at (l .loop .inv .1))
 
 pub entries-fit-spec : {M : Type 1} → statement M
 entries-fit-spec =
