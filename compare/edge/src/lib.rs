@@ -79,7 +79,6 @@ macro_rules! kind {
 }
 
 entry_points! {
-    fn rowanchess_begin as begin(m: write, limit: u64, last: u64, heartbeat: u64, idle_timeout: u64) -> u64;
     fn rowanchess_set_up as set_up(m: write, limit: u64, last: u64, heartbeat: u64, idle_timeout: u64, accounts: read, list: read) -> u64;
     fn rowanchess_restore as restore(m: write, limit: u64, heartbeat: u64, idle_timeout: u64, accounts: read, bytes: read) -> u64;
     fn rowanchess_last_seq as last_seq(m: read) -> Number;
