@@ -64,6 +64,8 @@ pub struct Draw {
     pub only: Option<Vec<String>>,
     /// Accounts and sessions are drawn from all that document 01 has room for.
     pub wide: bool,
+    /// There is room for many lists.
+    pub many: bool,
     /// Between a replay and `finish` all calls are drawn.
     pub freely: bool,
     clock: u64,
@@ -82,6 +84,7 @@ impl Draw {
             theme: Theme::Money,
             only: None,
             wide: false,
+            many: false,
             freely: false,
             clock: 0,
             delivers: false,
@@ -249,8 +252,8 @@ impl Draw {
             _ => false,
         };
         let full = matches!(self.theme, Theme::Full(_));
-        // The player's file has room for more starts that are refused.
-        let odd = if self.only.is_some() { 4 } else { 1 };
+        // The checker's file has room for few starts that are refused.
+        let odd = if self.only.is_some() || self.many { 4 } else { 1 };
         let limit = if !full && self.chance(2 * odd) { self.pick(&[0, 1, 257]) } else { 4 };
         let (accounts, timing) = (self.accounts(), self.timing());
         let last = if !full && self.chance(3) { u64::MAX } else { self.below(8) };

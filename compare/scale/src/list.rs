@@ -5,6 +5,7 @@ use std::panic::{AssertUnwindSafe, catch_unwind};
 use calls::bytes::{decode, encode};
 use calls::draw::Theme;
 use calls::{Call, Draw, Gateway, Seen, Start};
+use protocol::Inbound;
 
 use crate::coverage::{Coverage, Reasons};
 use crate::near::{self, Near};
@@ -68,22 +69,22 @@ impl List<'_> {
             if let (Some(near), true) = (self.near, draw.planned.is_empty())
                 && draw.chance(50)
                 && let Some(call) = near::call(draw, near, model)
+                && (!play.ends_restart(&call) || draw.chance(7))
             {
                 return call;
             }
             let planned = !draw.planned.is_empty();
             let call = draw.call(model, model);
-            let releases = !planned && self.near.is_some_and(|near| near::releases(near, &call));
-            if !releases || draw.chance(7) {
+            let releases = self.near.is_some_and(|near| near::releases(near, &call)) || play.ends_restart(&call);
+            if planned || !releases || draw.chance(7) {
                 return call;
             }
         }
     }
 
     fn make(&mut self, play: &mut Play, call: &Call) -> Result<(), String> {
-        let model = &play.sides.model;
-        let places = model.code(call).map_or(0, |()| model.sees(call).places());
-        let reasons = Reasons::of(model, call);
+        let places = play.sides.places(call);
+        let reasons = Reasons::of(&play.sides.model, call);
         if places > 0 && self.draw.chance(9) {
             let room = if self.draw.chance(50) { places - 1 } else { self.draw.below(places as u64) as usize };
             let seen = self.step(play, Step::Make(call.clone(), room))?.expect("a call");
@@ -116,6 +117,12 @@ impl List<'_> {
         let start = Start::Restore(limit, play.accounts(), timing, damaged);
         self.step(play, Step::Begin(start))?;
         self.step(play, Step::Restart(timing))?;
+        // A command for events to come.
+        let member = play.sides.model.sessions.iter().find(|(_, session)| session.is_open());
+        if let Some((&session, _)) = member {
+            let command = Call::Receive(session, Inbound::MassCancel, self.draw.time());
+            self.draw.planned.push_back(command);
+        }
         Ok(())
     }
 
@@ -155,6 +162,7 @@ pub fn make(seed: u64, tally: &mut Tally) -> Result<(), Box<Difference>> {
     let mut draw = Draw::new(seed.wrapping_mul(0x9E37_79B9_7F4A_7C15));
     let (theme, near) = kind(seed);
     draw.theme = theme;
+    draw.many = true;
     draw.freely = draw.chance(15);
     let start = match near {
         Some(near) => near::start(&mut draw, near),

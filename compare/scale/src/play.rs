@@ -8,7 +8,7 @@ use gateway::exchange::Timing;
 use orderbook::{Order, Stop};
 use protocol::{Inbound, VERSION};
 
-use crate::sides::{Counts, PLENTY, Sides};
+use crate::sides::{Counts, Sides};
 
 #[derive(Clone, Debug)]
 pub enum Step {
@@ -62,6 +62,11 @@ impl Play {
 
     pub fn accounts(&self) -> Vec<Account> {
         self.sides.model.members.values().map(|member| member.account).collect()
+    }
+
+    /// Whether a call ends a restart: an event of a command from before the checkpoint.
+    pub fn ends_restart(&self, call: &Call) -> bool {
+        matches!((call, &self.second), (Call::Deliver(number, _), Some(second)) if *number <= second.saved)
     }
 
     /// What a call gives; none for another step.
@@ -130,7 +135,8 @@ impl Play {
         }
         calls.extend([Call::Publish, Call::Checkpoint]);
         for call in &calls {
-            second.sides.step(call, PLENTY).map_err(|what| format!("{} after a restart: {what}", call.name()))?;
+            let room = second.sides.places(call) + 1;
+            second.sides.step(call, room).map_err(|what| format!("{} after a restart: {what}", call.name()))?;
         }
         self.finished += 1;
         self.leave();

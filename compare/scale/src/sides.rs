@@ -9,7 +9,7 @@ use crate::entered::Entered;
 use crate::library::Library;
 
 /// Places enough for any call.
-pub const PLENTY: usize = 1 << 16;
+const PLENTY: usize = 1 << 16;
 
 /// Messages a second that no list uses up.
 const AMPLE: u32 = 1_000_000;
@@ -115,6 +115,11 @@ impl Sides {
         let mut sides = Sides { model, library, entered, published, counts };
         sides.compare()?;
         Ok(Ok(sides))
+    }
+
+    /// The places that a call takes.
+    pub fn places(&self, call: &Call) -> usize {
+        self.model.code(call).map_or(0, |()| self.model.sees(call).places())
     }
 
     /// Makes a call with `room` places lent on all sides, and compares.
