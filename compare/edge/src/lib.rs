@@ -1,6 +1,8 @@
 //! The library's entry points (crates/edge) on slices of any length. Bytes of a state's length have to be the state that the last call left;
 //! the contracts ask for nothing else.
 
+pub mod entered;
+
 /// Bytes of a state.
 pub const STATE: usize = 467_200;
 /// Bytes of a message or an event; of a command or a piece of mail; of an account; of a listed order; of a level.

@@ -1,7 +1,6 @@
 //! The published `Exchange`, the proved library and the model of document 01 on the same random lists of calls.
 
 pub mod coverage;
-pub mod entered;
 pub mod library;
 pub mod list;
 pub mod near;

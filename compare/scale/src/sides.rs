@@ -1,11 +1,11 @@
 //! The model, the proved library and the published Rust side by side: the same calls, and everything that can be seen compared.
 
 use calls::{Call, Gateway, Mail, Model, Published, Seen, Start};
+use edge::entered::Entered;
 use gateway::wallet::Wallet;
 use orderbook::{Event, Phase, Side};
 use protocol::{Inbound, LoginError, Outbound, RejectCode, VERSION};
 
-use crate::entered::Entered;
 use crate::library::Library;
 
 /// Places enough for any call.
