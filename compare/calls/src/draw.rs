@@ -102,6 +102,10 @@ impl Draw {
         word ^ (word >> 31)
     }
 
+    pub fn bits(&mut self) -> u64 {
+        self.word()
+    }
+
     pub fn below(&mut self, bound: u64) -> u64 {
         self.word() % bound.max(1)
     }

@@ -8,6 +8,7 @@ pub mod depth;
 pub mod draw;
 mod model;
 mod published;
+pub mod rows;
 mod sends;
 pub mod state;
 mod types;
