@@ -16,6 +16,9 @@ use crate::sides::Counts;
 const THEMED: usize = 150;
 const LIMITED: usize = 400;
 
+/// Starts beside a list.
+const STARTS: usize = 4;
+
 /// What is counted over lists.
 #[derive(Default)]
 pub struct Tally {
@@ -51,6 +54,8 @@ pub struct Difference {
 
 struct List<'a> {
     draw: Draw,
+    /// Draws starts beside the list.
+    other: Draw,
     near: Option<Near>,
     steps: Vec<Step>,
     tally: &'a mut Tally,
@@ -115,7 +120,9 @@ impl List<'_> {
             damaged[at] ^= 1 << self.draw.below(8);
         }
         let start = Start::Restore(limit, play.accounts(), timing, damaged);
-        self.step(play, Step::Begin(start))?;
+        if let Some(Seen::Code(code)) = self.step(play, Step::Begin(start.clone()))? {
+            self.tally.coverage.start(&start, code);
+        }
         self.step(play, Step::Restart(timing))?;
         // A command for events to come.
         let member = play.sides.model.sessions.iter().find(|(_, session)| session.is_open());
@@ -126,9 +133,24 @@ impl List<'_> {
         Ok(())
     }
 
+    /// A start beside the list.
+    fn begin(&mut self, play: &mut Play) -> Result<(), String> {
+        let draw = &mut self.other;
+        draw.theme = Theme::of(draw.below(5) as usize, None);
+        let near = draw.pick(&near::ALL);
+        let start = if draw.chance(40) { near::start(draw, near) } else { draw.start(&mut None) };
+        if let Some(Seen::Code(code)) = self.step(play, Step::Begin(start.clone()))? {
+            self.tally.coverage.start(&start, code);
+        }
+        Ok(())
+    }
+
     fn run(&mut self, play: &mut Play) -> Result<(), String> {
         let most = if self.near.is_some() { LIMITED } else { THEMED };
         let mut left = most;
+        for _ in 0..STARTS {
+            self.begin(play)?;
+        }
         while left > 0 || !self.draw.planned.is_empty() {
             if self.draw.planned.is_empty() {
                 left = left.saturating_sub(1);
@@ -152,7 +174,7 @@ impl List<'_> {
 fn kind(seed: u64) -> (Theme, Option<Near>) {
     let at = (seed % 64) as usize;
     match at {
-        0..12 => (Theme::Market, Some(near::ALL[at])),
+        0..16 => (Theme::Market, Some(near::ALL[at.min(12)])),
         _ => (Theme::of(at, None), None),
     }
 }
@@ -168,7 +190,9 @@ pub fn make(seed: u64, tally: &mut Tally) -> Result<(), Box<Difference>> {
         Some(near) => near::start(&mut draw, near),
         None => draw.start(&mut None),
     };
-    let mut list = List { draw, near, steps: Vec::new(), tally };
+    let mut other = Draw::new(!seed);
+    other.many = true;
+    let mut list = List { draw, other, near, steps: Vec::new(), tally };
     let run = || -> Result<(), String> {
         let mut play = match Play::start(&start)? {
             Ok(play) => play,

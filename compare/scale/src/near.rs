@@ -6,7 +6,7 @@ use calls::state::{BATCH, FLIGHTS, LIVE, NOTICES, OWNERS, SESSIONS, TRADES};
 use calls::{Call, Draw, Listed, Model, Start, bytes};
 use gateway::accounts::{Account, Funds};
 use gateway::exchange::{Checkpoint, SavedOrder, SavedWallet, Timing};
-use orderbook::{CancelReason, Command, Event, Order, OrderId, Phase, Side, Stop};
+use orderbook::{CancelReason, Command, Event, Order, OrderId, Phase, Side, Stop, TimeInForce};
 use protocol::{Inbound, VERSION};
 
 #[derive(Clone, Copy, Debug, PartialEq)]
@@ -24,9 +24,11 @@ pub enum Near {
     Greatest,
     Accounts,
     Sessions,
+    /// Hold totals and level quantities near the ends of their types.
+    Totals,
 }
 
-pub const ALL: [Near; 12] = [
+pub const ALL: [Near; 13] = [
     Near::Flights,
     Near::Batch,
     Near::Live,
@@ -39,10 +41,15 @@ pub const ALL: [Near; 12] = [
     Near::Greatest,
     Near::Accounts,
     Near::Sessions,
+    Near::Totals,
 ];
 
 /// The last number of most of these starts: order numbers below it are free for events.
 const LAST: u64 = 3000;
+
+/// Numbers whose sums and products come to the ends of their types.
+const PRICES: [i64; 12] = [1, 1, -1, 3, 100, 1 << 61, 1 << 62, 1 << 62, -(1 << 62), i64::MAX, i64::MIN, i64::MAX / 2];
+const AMOUNTS: [u64; 10] = [0, 1, 1, 2, 3, 1 << 62, 1 << 62, i64::MAX as u64, 1 << 63, u64::MAX];
 
 const SILENCE: Timing = Timing { heartbeat: 1_000_000_000, idle_timeout: 5_000_000_000 };
 
@@ -113,6 +120,11 @@ fn listing(draw: &mut Draw, near: Near) -> Vec<Listed> {
                 let side = draw.side();
                 order(draw, id, side, 97 + at as i64 % 300)
             }
+            Near::Totals => {
+                let (owner, side, price, leaves) = (1 + 2 * draw.below(2) as u32, draw.side(), draw.pick(&PRICES), draw.pick(&AMOUNTS));
+                let visible = draw.pick(&AMOUNTS);
+                Listed::Order(Order { id, owner, side, price, visible, leaves })
+            }
             Near::Levels => order(draw, id, only, at as i64),
             Near::Orders => order(draw, id, if at % 2 == 0 { Side::Buy } else { Side::Sell }, 90 + at as i64 % 40),
             _ => order(draw, id, if at % 2 == 0 { Side::Buy } else { Side::Sell }, price),
@@ -124,17 +136,18 @@ fn listing(draw: &mut Draw, near: Near) -> Vec<Listed> {
 }
 
 /// Bytes with orders that hold, nearly as many as there may be.
-fn saved(draw: &mut Draw) -> Vec<u8> {
-    let count = nearly(draw, LIVE) as u64;
+fn saved(draw: &mut Draw, near: Near) -> Vec<u8> {
+    let totals = near == Near::Totals;
+    let count = if totals { draw.below(4) } else { nearly(draw, LIVE) as u64 };
     let order = |at: u64| SavedOrder {
         id: at + 1,
         account: if draw.chance(95) { 1 + 2 * draw.below(2) as u32 } else { 0 },
         client_ref: 70 + at,
         buy: draw.chance(50),
-        price: Some(97 + draw.below(6) as i64),
-        leaves: 1 + draw.below(5),
+        price: Some(if totals { draw.pick(&PRICES) } else { 97 + draw.below(6) as i64 }),
+        leaves: if totals { draw.pick(&AMOUNTS) } else { 1 + draw.below(5) },
     };
-    let orders = (0..count).map(order).collect();
+    let orders: Vec<SavedOrder> = (0..count).map(order).collect();
     let wallets = [1, 3].map(|account| SavedWallet { account, cash: 1 << 40, position: 1 << 40 }).to_vec();
     bytes::encode(&Checkpoint { seq: LAST, wallets, orders, market_price: draw.chance(50).then_some(100) })
 }
@@ -162,8 +175,8 @@ pub fn start(draw: &mut Draw, near: Near) -> Start {
     let accounts = accounts(draw, count);
     let last = if near == Near::Greatest { u64::MAX - draw.below(6) } else { LAST };
     match near {
-        Near::Notices | Near::Replay => {
-            let saved = saved(draw);
+        Near::Notices | Near::Replay | Near::Totals if near != Near::Totals || draw.chance(50) => {
+            let saved = saved(draw, near);
             if near == Near::Replay {
                 plan_replay(draw);
             } else {
@@ -196,6 +209,9 @@ fn plan(draw: &mut Draw, near: Near, last: u64, listing: &[Listed]) {
             draw.planned.push_back(Call::ReplayCommand(number, Command::CancelAll { owner: 0 }));
         }
         draw.planned.push_back(Call::Finish(listing.to_vec()));
+    }
+    if near == Near::Totals && draw.chance(50) {
+        return;
     }
     if near == Near::Sessions {
         for session in 0..SESSIONS {
@@ -259,6 +275,7 @@ pub fn releases(near: Near, call: &Call) -> bool {
     match near {
         Near::Batch => matches!(call, Call::TakeBatch),
         Near::Flights => matches!(call, Call::Deliver(..)),
+        Near::Totals => matches!(call, Call::Connect(..)),
         Near::Trades | Near::Notices | Near::Changed => publishes,
         Near::Sessions => matches!(call, Call::Detach(_) | Call::Disconnect(_) | Call::ShutDown | Call::Tick(_)),
         _ => false,
@@ -272,8 +289,43 @@ fn resting(draw: &mut Draw, model: &Model) -> OrderId {
     found.unwrap_or(from)
 }
 
+/// An event with numbers near the ends of their types.
+fn totals_event(draw: &mut Draw, model: &Model, number: u64) -> Event {
+    let live = |draw: &mut Draw| {
+        let ids: Vec<OrderId> = model.live.keys().copied().collect();
+        if ids.is_empty() || draw.chance(5) { draw.below(9) } else { draw.pick(&ids) }
+    };
+    let id = live(draw).min(number);
+    let price = draw.pick(&PRICES);
+    let (leaves, visible) = (draw.pick(&AMOUNTS), draw.pick(&AMOUNTS));
+    match draw.below(8) {
+        0..3 => Event::Modified { id, price, qty: 9, leaves },
+        3 | 4 => Event::Rested { id, side: draw.side(), price: 1 + draw.below(2) as i64, qty: leaves, visible },
+        5 => Event::Replenished { id, side: Side::Buy, price: 0, visible },
+        6 => {
+            let (maker, qty, maker_leaves) = (live(draw), draw.pick(&AMOUNTS), draw.pick(&AMOUNTS));
+            Event::Trade { trade_id: 1, taker: id, maker, taker_side: Side::Buy, price, qty, taker_leaves: leaves, maker_leaves }
+        }
+        _ => Event::Cancelled { id, qty: 1, reason: CancelReason::Requested },
+    }
+}
+
+/// A command whose order holds much, or an event, replayed.
+fn totals_replay(draw: &mut Draw, model: &Model) -> Call {
+    let (number, owner) = (model.last.wrapping_add(1), 1 + 2 * draw.below(2) as u32);
+    let front = model.flights.back().map(|flight| flight.number);
+    if let Some(number) = front.filter(|_| draw.chance(50)) {
+        return Call::ReplayEvent(number, totals_event(draw, model, number));
+    }
+    let (side, price, qty) = (draw.side(), draw.pick(&PRICES), draw.pick(&AMOUNTS));
+    Call::ReplayCommand(number, Command::Limit { id: number, owner, side, price, qty, tif: TimeInForce::Gtc, display: None })
+}
+
 /// A call about the limit.
 pub fn call(draw: &mut Draw, near: Near, model: &Model) -> Option<Call> {
+    if near == Near::Totals && model.sessions.is_empty() {
+        return Some(totals_replay(draw, model));
+    }
     let number = if draw.chance(70) { model.flights.front() } else { model.flights.back() }.map(|flight| flight.number)?;
     let live = |draw: &mut Draw| {
         let from = draw.below(1100);
@@ -311,13 +363,17 @@ pub fn call(draw: &mut Draw, near: Near, model: &Model) -> Option<Call> {
                 _ => Call::ReplayCommand(next, command),
             });
         }
-        Near::Orders | Near::Levels | Near::Changed => match draw.below(8) {
-            0 | 1 => Event::Cancelled { id: resting(draw, model), qty: 1, reason: CancelReason::Requested },
+        Near::Totals => totals_event(draw, model, number),
+        Near::Orders | Near::Levels | Near::Changed => match draw.below(12) {
+            0 => Event::Cancelled { id: resting(draw, model), qty: 1, reason: CancelReason::Requested },
             2 => Event::Modified { id: resting(draw, model), price: 1, qty: 1, leaves: 1 },
             3 => Event::Replenished { id: resting(draw, model), side: Side::Buy, price: 0, visible: 1 + draw.below(4) },
             _ => {
                 let (id, price) = (1 + draw.below(LAST), if draw.chance(60) { 5000 + draw.below(600) as i64 } else { 100 + draw.below(300) as i64 });
-                Event::Rested { id, side: draw.side(), price, qty: 1, visible: 1 }
+                let bids = model.depth.half(Side::Buy).len() > model.depth.half(Side::Sell).len();
+                let fuller = if bids { Side::Buy } else { Side::Sell };
+                let side = if near == Near::Levels && draw.chance(80) { fuller } else { draw.side() };
+                Event::Rested { id, side, price, qty: 1, visible: 1 }
             }
         },
         Near::Trades => {

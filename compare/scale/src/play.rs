@@ -69,7 +69,7 @@ impl Play {
         matches!((call, &self.second), (Call::Deliver(number, _), Some(second)) if *number <= second.saved)
     }
 
-    /// What a call gives; none for another step.
+    /// What a call gives, or the code of a start beside the list (0 where it is accepted); none for another step.
     pub fn step(&mut self, step: &Step) -> Result<Option<Seen>, String> {
         match step {
             Step::Make(call, room) => {
@@ -82,7 +82,7 @@ impl Play {
                 }
                 return Ok(Some(seen));
             }
-            Step::Begin(start) => drop(Sides::start(start)?),
+            Step::Begin(start) => return Ok(Some(Seen::Code(Sides::start(start)?.err().unwrap_or(0)))),
             Step::Restart(timing) => self.restart(*timing)?,
             Step::Finish => self.finish()?,
             Step::Drain => self.sides.drain()?,
