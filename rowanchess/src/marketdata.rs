@@ -21,10 +21,18 @@ pub struct Depth<'a> {
 
 impl Depth<'_> {
     /// The levels of `side`, best price first.
-    pub fn levels(
-        &self,
-        side: Side,
-    ) -> Result<impl Iterator<Item = (Price, Level)> + use<>, Refusal> {
+    ///
+    /// ```
+    #[doc = include_str!("doc/opening.txt")]
+    /// for (n, price) in [(1, 250), (2, 240), (3, 250)] {
+    ///     exchange.receive(1, order(Side::Buy, 4, price), 0, &mut Nobody)?;
+    ///     exchange.deliver(n, Event::Rested { id: n, side: Side::Buy, price, qty: 4, visible: 4 }, &mut Nobody)?;
+    /// }
+    /// let bids: Vec<_> = exchange.depth().levels(Side::Buy)?.collect();
+    /// assert_eq!(bids, [(250, Level { qty: 8, orders: 2 }), (240, Level { qty: 4, orders: 1 })]);
+    /// # Ok::<(), Refusal>(())
+    /// ```
+    pub fn levels(&self, side: Side) -> Result<impl Iterator<Item = (Price, Level)> + use<>, Refusal> {
         self.exchange.levels(side)
     }
 }

@@ -29,6 +29,12 @@ pub enum Side {
 
 impl Side {
     /// The side this side trades against.
+    ///
+    /// ```
+    /// use rowanchess::orderbook::Side;
+    ///
+    /// assert_eq!(Side::Buy.opposite(), Side::Sell);
+    /// ```
     #[inline]
     pub const fn opposite(self) -> Side {
         match self {
@@ -143,6 +149,13 @@ pub enum Command {
 impl Command {
     /// The order this command creates or refers to; `None` for a mass cancel or a phase
     /// change.
+    ///
+    /// ```
+    /// use rowanchess::orderbook::Command;
+    ///
+    /// assert_eq!(Command::Cancel { id: 3, owner: 1 }.id(), Some(3));
+    /// assert_eq!(Command::CancelAll { owner: 1 }.id(), None);
+    /// ```
     #[inline]
     pub const fn id(&self) -> Option<OrderId> {
         match *self {
@@ -157,6 +170,13 @@ impl Command {
 
     /// The participant who sent the command; `None` for a phase change, which comes from
     /// the exchange itself.
+    ///
+    /// ```
+    /// use rowanchess::orderbook::{Command, Phase};
+    ///
+    /// assert_eq!(Command::CancelAll { owner: 1 }.owner(), Some(1));
+    /// assert_eq!(Command::SetPhase { phase: Phase::Halted }.owner(), None);
+    /// ```
     #[inline]
     pub const fn owner(&self) -> Option<OwnerId> {
         match *self {

@@ -4,14 +4,6 @@ use std::error::Error;
 use std::fmt;
 
 /// Why a call is refused, by document 01's codes. A refused call has changed nothing.
-///
-/// ```
-/// use rowanchess::Refusal;
-///
-/// assert_eq!(Refusal::NotQuiet.code(), 10);
-/// assert_eq!(Refusal::of(10), Some(Refusal::NotQuiet));
-/// assert_eq!(Refusal::of(0), None);
-/// ```
 #[derive(Clone, Copy, Debug, PartialEq, Eq, Hash)]
 #[repr(u8)]
 pub enum Refusal {
@@ -59,15 +51,24 @@ impl Refusal {
     ];
 
     /// Document 01's code, 1 to 12.
+    ///
+    /// ```
+    /// assert_eq!(rowanchess::Refusal::NotQuiet.code(), 10);
+    /// ```
     pub fn code(self) -> u8 {
         self as u8
     }
 
     /// The refusal of a code; none for 0, which is no refusal, and above 12.
+    ///
+    /// ```
+    /// use rowanchess::Refusal;
+    ///
+    /// assert_eq!(Refusal::of(10), Some(Refusal::NotQuiet));
+    /// assert_eq!(Refusal::of(0), None);
+    /// ```
     pub fn of(code: u64) -> Option<Refusal> {
-        Refusal::ALL
-            .get(usize::try_from(code).ok()?.checked_sub(1)?)
-            .copied()
+        Refusal::ALL.get(usize::try_from(code).ok()?.checked_sub(1)?).copied()
     }
 }
 

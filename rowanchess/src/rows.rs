@@ -4,12 +4,10 @@
 use crate::accounts::Account;
 use crate::exchange::{Checkpoint, Mail, SavedOrder, SavedWallet};
 use crate::marketdata::Level;
-use crate::orderbook::{
-    CancelReason, Command, Event, Listed, Phase, Price, RejectReason, Side, TimeInForce,
-};
+use crate::orderbook::{CancelReason, Command, Event, Listed, Phase, Price, RejectReason, Side, TimeInForce};
 use crate::protocol::{
-    Balance, Inbound, LevelUpdate, LoginError, LogoutReason, NewOrder, OrderKind, Outbound,
-    RejectCode, Report, ReportKind, TradeTick,
+    Balance, Inbound, LevelUpdate, LoginError, LogoutReason, NewOrder, OrderKind, Outbound, RejectCode, Report,
+    ReportKind, TradeTick,
 };
 
 /// A message, or an event: its kind, then its fields.
@@ -69,7 +67,10 @@ fn maybe_price(row: &[u8], i: usize) -> Option<Price> {
 // ---- codes
 
 /// An enum without data, by the numbers of its cases.
-pub trait Code: Copy {
+pub trait Code: Copy + 'static {
+    /// Each case with its name.
+    #[cfg(test)]
+    const CASES: &[(&str, Self)];
     fn code(self) -> u64;
     fn of(code: u64) -> Self;
 }
@@ -82,6 +83,9 @@ fn stray(what: &str, code: u64) -> ! {
 macro_rules! codes {
     ($kind:ident, [$($case:ident = $code:literal),* $(,)?]) => {
         impl Code for $kind {
+            #[cfg(test)]
+            const CASES: &[(&str, $kind)] = &[$((stringify!($case), $kind::$case)),*];
+
             #[inline]
             fn code(self) -> u64 {
                 match self {
@@ -103,35 +107,11 @@ macro_rules! codes {
 codes!(Side, [Buy = 0, Sell = 1]);
 codes!(TimeInForce, [Gtc = 0, Ioc = 1, Fok = 2, PostOnly = 3]);
 codes!(Phase, [Continuous = 0, Auction = 1, Halted = 2, Closed = 3]);
-codes!(
-    LoginError,
-    [
-        UnsupportedVersion = 1,
-        BadCredentials = 2,
-        AlreadyLoggedIn = 3,
-        AlreadyInSession = 4
-    ]
-);
-codes!(
-    LogoutReason,
-    [
-        Requested = 1,
-        Idle = 2,
-        ProtocolError = 3,
-        SlowConsumer = 4,
-        Shutdown = 5
-    ]
-);
+codes!(LoginError, [UnsupportedVersion = 1, BadCredentials = 2, AlreadyLoggedIn = 3, AlreadyInSession = 4]);
+codes!(LogoutReason, [Requested = 1, Idle = 2, ProtocolError = 3, SlowConsumer = 4, Shutdown = 5]);
 codes!(
     RejectCode,
-    [
-        TooManyOrders = 1,
-        Throttled = 2,
-        Unavailable = 3,
-        InsufficientFunds = 4,
-        NotAllowed = 5,
-        OffMarket = 6,
-    ]
+    [TooManyOrders = 1, Throttled = 2, Unavailable = 3, InsufficientFunds = 4, NotAllowed = 5, OffMarket = 6,]
 );
 codes!(
     RejectReason,
@@ -197,30 +177,10 @@ pub fn accounts(accounts: &[Account]) -> Vec<u8> {
 
 fn listed(entry: &Listed) -> [u8; LISTED] {
     match *entry {
-        Listed::Order {
-            id,
-            owner,
-            side,
-            price,
-            leaves,
-            visible,
-        } => row(&[
-            0,
-            id,
-            owner.into(),
-            side.code(),
-            1,
-            price as u64,
-            leaves,
-            visible,
-        ]),
-        Listed::Stop {
-            id,
-            owner,
-            side,
-            limit,
-            qty,
-        } => {
+        Listed::Order { id, owner, side, price, leaves, visible } => {
+            row(&[0, id, owner.into(), side.code(), 1, price as u64, leaves, visible])
+        }
+        Listed::Stop { id, owner, side, limit, qty } => {
             let [limited, limit] = price_option(limit);
             row(&[1, id, owner.into(), side.code(), limited, limit, qty])
         }
@@ -234,23 +194,9 @@ pub fn listing(book: &[Listed]) -> Vec<u8> {
 fn new_order(order: NewOrder) -> [u8; MESSAGE] {
     let (client_ref, side, qty) = (order.client_ref, order.side.code(), order.qty);
     match order.kind {
-        OrderKind::Limit {
-            price,
-            tif,
-            display,
-        } => {
+        OrderKind::Limit { price, tif, display } => {
             let [displayed, display] = option(display, |qty| qty);
-            row(&[
-                3,
-                client_ref,
-                side,
-                qty,
-                0,
-                price as u64,
-                tif.code(),
-                displayed,
-                display,
-            ])
+            row(&[3, client_ref, side, qty, 0, price as u64, tif.code(), displayed, display])
         }
         OrderKind::Market => row(&[3, client_ref, side, qty, 1]),
         OrderKind::Stop { trigger, limit } => {
@@ -263,20 +209,12 @@ fn new_order(order: NewOrder) -> [u8; MESSAGE] {
 #[inline]
 pub fn message(message: Inbound) -> [u8; MESSAGE] {
     match message {
-        Inbound::Login {
-            version,
-            account,
-            token,
-        } => row(&[0, version.into(), account.into(), token]),
+        Inbound::Login { version, account, token } => row(&[0, version.into(), account.into(), token]),
         Inbound::Logout => row(&[1]),
         Inbound::Heartbeat => row(&[2]),
         Inbound::NewOrder(order) => new_order(order),
         Inbound::Cancel { order_id } => row(&[4, order_id]),
-        Inbound::Modify {
-            order_id,
-            price,
-            qty,
-        } => row(&[5, order_id, price as u64, qty]),
+        Inbound::Modify { order_id, price, qty } => row(&[5, order_id, price as u64, qty]),
         Inbound::MassCancel => row(&[6]),
         Inbound::Subscribe => row(&[7]),
     }
@@ -287,53 +225,14 @@ pub fn event(event: Event) -> [u8; MESSAGE] {
     match event {
         Event::Accepted { id } => row(&[0, id]),
         Event::Rejected { id, reason } => row(&[1, id, reason.code()]),
-        Event::Trade {
-            trade_id,
-            taker,
-            maker,
-            taker_side,
-            price,
-            qty,
-            taker_leaves,
-            maker_leaves,
-        } => row(&[
-            2,
-            trade_id,
-            taker,
-            maker,
-            taker_side.code(),
-            price as u64,
-            qty,
-            taker_leaves,
-            maker_leaves,
-        ]),
-        Event::Rested {
-            id,
-            side,
-            price,
-            qty,
-            visible,
-        } => row(&[3, id, side.code(), price as u64, qty, visible]),
-        Event::Replenished {
-            id,
-            side,
-            price,
-            visible,
-        } => row(&[4, id, side.code(), price as u64, visible]),
+        Event::Trade { trade_id, taker, maker, taker_side, price, qty, taker_leaves, maker_leaves } => {
+            row(&[2, trade_id, taker, maker, taker_side.code(), price as u64, qty, taker_leaves, maker_leaves])
+        }
+        Event::Rested { id, side, price, qty, visible } => row(&[3, id, side.code(), price as u64, qty, visible]),
+        Event::Replenished { id, side, price, visible } => row(&[4, id, side.code(), price as u64, visible]),
         Event::Cancelled { id, qty, reason } => row(&[5, id, qty, reason.code()]),
-        Event::Modified {
-            id,
-            price,
-            qty,
-            leaves,
-        } => row(&[6, id, price as u64, qty, leaves]),
-        Event::StopPlaced {
-            id,
-            side,
-            trigger,
-            limit,
-            qty,
-        } => {
+        Event::Modified { id, price, qty, leaves } => row(&[6, id, price as u64, qty, leaves]),
+        Event::StopPlaced { id, side, trigger, limit, qty } => {
             let [limited, limit] = price_option(limit);
             row(&[7, id, side.code(), trigger as u64, limited, limit, qty])
         }
@@ -346,64 +245,16 @@ pub fn event(event: Event) -> [u8; MESSAGE] {
 /// Kind, id, owner, side (of a phase change: its phase), price, quantity, time in force, display (2 words), trigger, limit (2 words).
 pub fn command(command: Command) -> [u8; MAIL] {
     match command {
-        Command::Limit {
-            id,
-            owner,
-            side,
-            price,
-            qty,
-            tif,
-            display,
-        } => {
+        Command::Limit { id, owner, side, price, qty, tif, display } => {
             let [displayed, display] = option(display, |qty| qty);
-            row(&[
-                0,
-                id,
-                owner.into(),
-                side.code(),
-                price as u64,
-                qty,
-                tif.code(),
-                displayed,
-                display,
-            ])
+            row(&[0, id, owner.into(), side.code(), price as u64, qty, tif.code(), displayed, display])
         }
-        Command::Market {
-            id,
-            owner,
-            side,
-            qty,
-        } => row(&[1, id, owner.into(), side.code(), 0, qty]),
+        Command::Market { id, owner, side, qty } => row(&[1, id, owner.into(), side.code(), 0, qty]),
         Command::Cancel { id, owner } => row(&[2, id, owner.into()]),
-        Command::Modify {
-            id,
-            owner,
-            price,
-            qty,
-        } => row(&[3, id, owner.into(), 0, price as u64, qty]),
-        Command::Stop {
-            id,
-            owner,
-            side,
-            trigger,
-            limit,
-            qty,
-        } => {
+        Command::Modify { id, owner, price, qty } => row(&[3, id, owner.into(), 0, price as u64, qty]),
+        Command::Stop { id, owner, side, trigger, limit, qty } => {
             let [limited, limit] = price_option(limit);
-            row(&[
-                4,
-                id,
-                owner.into(),
-                side.code(),
-                0,
-                qty,
-                0,
-                0,
-                0,
-                trigger as u64,
-                limited,
-                limit,
-            ])
+            row(&[4, id, owner.into(), side.code(), 0, qty, 0, 0, 0, trigger as u64, limited, limit])
         }
         Command::CancelAll { owner } => row(&[5, 0, owner.into()]),
         Command::SetPhase { phase } => row(&[6, 0, 0, phase.code()]),
@@ -425,27 +276,10 @@ pub fn command_of(row: &[u8; MAIL]) -> Command {
             tif: TimeInForce::of(word(row, 6)),
             display: maybe(row, 7),
         },
-        1 => Command::Market {
-            id,
-            owner,
-            side: side(row, 3),
-            qty,
-        },
+        1 => Command::Market { id, owner, side: side(row, 3), qty },
         2 => Command::Cancel { id, owner },
-        3 => Command::Modify {
-            id,
-            owner,
-            price,
-            qty,
-        },
-        4 => Command::Stop {
-            id,
-            owner,
-            side: side(row, 3),
-            trigger: signed(row, 9),
-            limit: maybe_price(row, 10),
-            qty,
-        },
+        3 => Command::Modify { id, owner, price, qty },
+        4 => Command::Stop { id, owner, side: side(row, 3), trigger: signed(row, 9), limit: maybe_price(row, 10), qty },
         5 => Command::CancelAll { owner },
         kind => stray("command", kind),
     }
@@ -463,26 +297,10 @@ fn report_kind(row: &[u8; MAIL]) -> ReportKind {
             qty: word(row, 9),
             leaves: word(row, 10),
         },
-        3 => ReportKind::Rested {
-            side: side(row, 6),
-            price: signed(row, 7),
-            qty: word(row, 8),
-            visible: word(row, 9),
-        },
-        4 => ReportKind::Replenished {
-            side: side(row, 6),
-            price: signed(row, 7),
-            visible: word(row, 8),
-        },
-        5 => ReportKind::Cancelled {
-            qty: word(row, 6),
-            reason: CancelReason::of(word(row, 7)),
-        },
-        6 => ReportKind::Modified {
-            price: signed(row, 6),
-            qty: word(row, 7),
-            leaves: word(row, 8),
-        },
+        3 => ReportKind::Rested { side: side(row, 6), price: signed(row, 7), qty: word(row, 8), visible: word(row, 9) },
+        4 => ReportKind::Replenished { side: side(row, 6), price: signed(row, 7), visible: word(row, 8) },
+        5 => ReportKind::Cancelled { qty: word(row, 6), reason: CancelReason::of(word(row, 7)) },
+        6 => ReportKind::Modified { price: signed(row, 6), qty: word(row, 7), leaves: word(row, 8) },
         7 => ReportKind::StopPlaced {
             side: side(row, 6),
             trigger: signed(row, 7),
@@ -490,9 +308,7 @@ fn report_kind(row: &[u8; MAIL]) -> ReportKind {
             qty: word(row, 10),
         },
         8 => ReportKind::Triggered,
-        9 => ReportKind::MassCancelled {
-            count: small(row, 6),
-        },
+        9 => ReportKind::MassCancelled { count: small(row, 6) },
         10 => ReportKind::PhaseChanged(Phase::of(word(row, 6))),
         kind => stray("report", kind),
     }
@@ -502,31 +318,18 @@ fn report_kind(row: &[u8; MAIL]) -> ReportKind {
 pub fn mail_of(row: &[u8; MAIL]) -> Mail {
     let message = match word(row, 1) {
         0 => return Mail::Close(word(row, 0) as usize),
-        1 => Outbound::LoginAccepted {
-            account: small(row, 2),
-            last_seq: word(row, 3),
-        },
-        2 => Outbound::LoginRejected {
-            reason: LoginError::of(word(row, 2)),
-        },
+        1 => Outbound::LoginAccepted { account: small(row, 2), last_seq: word(row, 3) },
+        2 => Outbound::LoginRejected { reason: LoginError::of(word(row, 2)) },
         3 => Outbound::Heartbeat,
-        4 => Outbound::Logout {
-            reason: LogoutReason::of(word(row, 2)),
-        },
-        5 => Outbound::Reject {
-            reason: RejectCode::of(word(row, 2)),
-            client_ref: word(row, 3),
-        },
+        4 => Outbound::Logout { reason: LogoutReason::of(word(row, 2)) },
+        5 => Outbound::Reject { reason: RejectCode::of(word(row, 2)), client_ref: word(row, 3) },
         6 => Outbound::Report(Report {
             seq: word(row, 2),
             order_id: word(row, 3),
             client_ref: word(row, 4),
             kind: report_kind(row),
         }),
-        7 => Outbound::BookSnapshot {
-            seq: word(row, 2),
-            levels: small(row, 3),
-        },
+        7 => Outbound::BookSnapshot { seq: word(row, 2), levels: small(row, 3) },
         8 => Outbound::LevelUpdate(LevelUpdate {
             seq: word(row, 2),
             side: side(row, 3),
@@ -553,13 +356,7 @@ pub fn mail_of(row: &[u8; MAIL]) -> Mail {
 }
 
 pub fn level_of(row: [u8; LEVEL]) -> (Price, Level) {
-    (
-        signed(&row, 0),
-        Level {
-            qty: word(&row, 1),
-            orders: small(&row, 2),
-        },
-    )
+    (signed(&row, 0), Level { qty: word(&row, 1), orders: small(&row, 2) })
 }
 
 // ---- a checkpoint's bytes: document 01, "Checkpoint bytes"
@@ -623,31 +420,123 @@ pub fn checkpoint_of(bytes: &[u8]) -> Checkpoint {
     let seq = from.long();
     let [marked] = from.take();
     let market_price = from.price(marked == 1);
-    let wallet = |from: &mut Bytes| SavedWallet {
-        account: from.short(),
-        cash: from.signed(),
-        position: from.signed(),
-    };
+    let wallet = |from: &mut Bytes| SavedWallet { account: from.short(), cash: from.signed(), position: from.signed() };
     let wallets = (0..from.short()).map(|_| wallet(&mut from)).collect();
     let order = |from: &mut Bytes| {
         let (id, account, client_ref) = (from.long(), from.short(), from.long());
         let [flags] = from.take();
         let price = from.price(flags & 2 != 0);
         let (buy, leaves) = (flags & 1 != 0, from.long());
-        SavedOrder {
-            id,
-            account,
-            client_ref,
-            buy,
-            price,
-            leaves,
-        }
+        SavedOrder { id, account, client_ref, buy, price, leaves }
     };
     let orders = (0..from.short()).map(|_| order(&mut from)).collect();
-    Checkpoint {
-        seq,
-        wallets,
-        orders,
-        market_price,
+    Checkpoint { seq, wallets, orders, market_price }
+}
+
+#[cfg(test)]
+mod tests {
+    use super::*;
+    use crate::refusal::Refusal;
+    use crate::sys::STATE;
+
+    /// The numbers that the C header gives its names.
+    fn header(name: &str) -> u64 {
+        let header = include_str!("../../include/rowanchess.h");
+        let words: Vec<&str> = header.split(|c: char| !(c.is_alphanumeric() || c == '_')).collect();
+        let words: Vec<&str> = words.into_iter().filter(|word| !word.is_empty()).collect();
+        let defined = words.windows(2).filter(|pair| pair[0] == name);
+        let numbers: Vec<u64> = defined.filter_map(|pair| pair[1].parse().ok()).collect();
+        assert_eq!(numbers.len(), 1, "{name} in the header");
+        numbers[0]
+    }
+
+    /// `TooManyOrders` as `TOO_MANY_ORDERS`.
+    fn upper(name: &str) -> String {
+        let mut upper = String::new();
+        for (at, c) in name.char_indices() {
+            if at > 0 && c.is_uppercase() {
+                upper.push('_');
+            }
+            upper.push(c.to_ascii_uppercase());
+        }
+        upper
+    }
+
+    fn same_codes<T: Code + PartialEq + std::fmt::Debug>(prefix: &str) {
+        for &(name, case) in T::CASES {
+            assert_eq!(T::of(case.code()), case);
+            assert_eq!(header(&format!("ROWANCHESS_{prefix}{}", upper(name))), case.code());
+        }
+    }
+
+    #[test]
+    fn codes_are_the_headers() {
+        same_codes::<Side>("");
+        same_codes::<TimeInForce>("");
+        same_codes::<Phase>("");
+        same_codes::<LoginError>("LOGIN_");
+        same_codes::<LogoutReason>("LOGOUT_");
+        same_codes::<RejectCode>("REJECT_");
+        same_codes::<RejectReason>("REASON_");
+        same_codes::<CancelReason>("CANCEL_");
+        for code in 1..=12 {
+            let refusal = Refusal::of(code).expect("a refusal");
+            assert_eq!(u64::from(refusal.code()), code);
+            assert_eq!(header(&format!("ROWANCHESS_{}", upper(&format!("{refusal:?}")))), code);
+        }
+        assert_eq!(Refusal::of(13), None);
+    }
+
+    #[test]
+    fn sizes_are_the_headers() {
+        let sizes = [
+            ("STATE", STATE),
+            ("MESSAGE", MESSAGE),
+            ("EVENT", MESSAGE),
+            ("MAIL", MAIL),
+            ("COMMAND", MAIL),
+            ("ACCOUNT", ACCOUNT),
+            ("LISTED", LISTED),
+            ("LEVEL", LEVEL),
+            ("CHECKPOINT", 25 + 20 * 256 + 37 * 1_024),
+        ];
+        for (name, size) in sizes {
+            assert_eq!(header(&format!("ROWANCHESS_{name}")), size as u64);
+        }
+    }
+
+    #[test]
+    fn commands_come_back() {
+        let (id, owner, side, price, qty) = (5, u32::MAX, Side::Sell, i64::MIN, u64::MAX);
+        let (trigger, tif) = (-1, TimeInForce::PostOnly);
+        let commands = [
+            Command::Limit { id, owner, side, price, qty, tif, display: Some(0) },
+            Command::Limit { id, owner, side, price, qty, tif: TimeInForce::Gtc, display: None },
+            Command::Market { id, owner, side, qty },
+            Command::Cancel { id, owner },
+            Command::Modify { id, owner, price, qty },
+            Command::Stop { id, owner, side, trigger, limit: None, qty },
+            Command::Stop { id, owner, side, trigger, limit: Some(-7), qty },
+            Command::CancelAll { owner },
+        ];
+        for known in commands {
+            assert_eq!(command_of(&command(known)), known);
+        }
+    }
+
+    #[test]
+    fn checkpoints_come_back() {
+        let wallet = |account| SavedWallet { account, cash: i64::MIN, position: -1 };
+        let order = |id, buy, price| SavedOrder { id, account: 3, client_ref: u64::MAX, buy, price, leaves: 9 };
+        let saved = Checkpoint {
+            seq: u64::MAX,
+            wallets: vec![wallet(0), wallet(7)],
+            orders: vec![order(1, true, Some(-4)), order(2, false, None), order(8, true, None)],
+            market_price: Some(i64::MIN),
+        };
+        assert_eq!(checkpoint_of(&checkpoint(&saved)), saved);
+        let empty = Checkpoint { seq: 0, wallets: vec![], orders: vec![], market_price: None };
+        assert_eq!(checkpoint(&empty), [0; 25]);
+        assert_eq!(checkpoint_of(&[0; 25]), empty);
     }
 }

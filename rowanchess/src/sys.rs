@@ -7,7 +7,7 @@
 #![allow(unsafe_code)]
 
 /// Bytes of a state (docs/STATE.md).
-const STATE: usize = 467_200;
+pub const STATE: usize = 467_200;
 
 /// A code, and how many rows (of a checkpoint: bytes) were written.
 #[repr(C)]
@@ -66,13 +66,7 @@ unsafe extern "C" {
     ) -> u64;
     fn rowanchess_last_seq(m: *const u8, len: usize) -> Number;
     fn rowanchess_wallet(m: *const u8, len: usize, account: u32) -> Wallet;
-    fn rowanchess_levels(
-        m: *const u8,
-        len: usize,
-        side: u64,
-        out: *mut u8,
-        out_len: usize,
-    ) -> Reply;
+    fn rowanchess_levels(m: *const u8, len: usize, side: u64, out: *mut u8, out_len: usize) -> Reply;
     fn rowanchess_set_paper_collar(m: *mut u8, len: usize, there: u64, percent: u32) -> u64;
     fn rowanchess_connect(m: *mut u8, len: usize, session: usize, time: u64) -> u64;
     fn rowanchess_receive(
@@ -87,14 +81,7 @@ unsafe extern "C" {
     ) -> Reply;
     fn rowanchess_tick(m: *mut u8, len: usize, time: u64, out: *mut u8, out_len: usize) -> Reply;
     fn rowanchess_publish(m: *mut u8, len: usize, out: *mut u8, out_len: usize) -> Reply;
-    fn rowanchess_end(
-        m: *mut u8,
-        len: usize,
-        session: usize,
-        why: u8,
-        out: *mut u8,
-        out_len: usize,
-    ) -> Reply;
+    fn rowanchess_end(m: *mut u8, len: usize, session: usize, why: u8, out: *mut u8, out_len: usize) -> Reply;
     fn rowanchess_shut_down(m: *mut u8, len: usize, out: *mut u8, out_len: usize) -> Reply;
     fn rowanchess_disconnect(m: *mut u8, len: usize, session: usize) -> u64;
     fn rowanchess_detach(m: *mut u8, len: usize, session: usize) -> Account;
@@ -109,22 +96,17 @@ unsafe extern "C" {
         out_len: usize,
     ) -> Reply;
     fn rowanchess_add_account(m: *mut u8, len: usize, row: *const u8, row_len: usize) -> u64;
-    fn rowanchess_replay_command(
-        m: *mut u8,
-        len: usize,
-        n: u64,
-        row: *const u8,
-        row_len: usize,
-    ) -> u64;
-    fn rowanchess_replay_event(
-        m: *mut u8,
-        len: usize,
-        n: u64,
-        row: *const u8,
-        row_len: usize,
-    ) -> u64;
+    fn rowanchess_replay_command(m: *mut u8, len: usize, n: u64, row: *const u8, row_len: usize) -> u64;
+    fn rowanchess_replay_event(m: *mut u8, len: usize, n: u64, row: *const u8, row_len: usize) -> u64;
     fn rowanchess_finish(m: *mut u8, len: usize, list: *const u8, list_len: usize) -> u64;
     fn rowanchess_checkpoint(m: *const u8, len: usize, out: *mut u8, out_len: usize) -> Reply;
+    fn rowanchess_order_section(bytes: *const u8, len: usize) -> usize;
+}
+
+/// Where the order section of a checkpoint's bytes starts.
+pub fn order_section(bytes: &[u8]) -> usize {
+    // SAFETY: there is no premise. Slices: `bytes` is read.
+    unsafe { rowanchess_order_section(bytes.as_ptr(), bytes.len()) }
 }
 
 /// The bytes of a gateway, as the last entry point left them.
@@ -210,23 +192,13 @@ impl State {
 
     pub fn levels(&self, side: u64, out: &mut [u8]) -> Reply {
         // SAFETY: `self` is lent and read. Slices: `out` is written.
-        unsafe {
-            rowanchess_levels(
-                self.0.as_ptr(),
-                self.0.len(),
-                side,
-                out.as_mut_ptr(),
-                out.len(),
-            )
-        }
+        unsafe { rowanchess_levels(self.0.as_ptr(), self.0.len(), side, out.as_mut_ptr(), out.len()) }
     }
 
     pub fn set_paper_collar(&mut self, percent: Option<u32>) {
         let (there, percent) = percent.map_or((0, 0), |percent| (1, percent));
         // SAFETY: `self` is lent and written.
-        let code = unsafe {
-            rowanchess_set_paper_collar(self.0.as_mut_ptr(), self.0.len(), there, percent)
-        };
+        let code = unsafe { rowanchess_set_paper_collar(self.0.as_mut_ptr(), self.0.len(), there, percent) };
         debug_assert_eq!(code, 0, "it refuses no state");
     }
 
@@ -235,6 +207,7 @@ impl State {
         unsafe { rowanchess_connect(self.0.as_mut_ptr(), self.0.len(), session, now) }
     }
 
+    #[inline]
     pub fn receive(&mut self, session: usize, row: &[u8], now: u64, out: &mut [u8]) -> Reply {
         // SAFETY: `self` is lent and written. Slices: `row` is read, `out` is written.
         unsafe {
@@ -253,54 +226,24 @@ impl State {
 
     pub fn tick(&mut self, now: u64, out: &mut [u8]) -> Reply {
         // SAFETY: `self` is lent and written. Slices: `out` is written.
-        unsafe {
-            rowanchess_tick(
-                self.0.as_mut_ptr(),
-                self.0.len(),
-                now,
-                out.as_mut_ptr(),
-                out.len(),
-            )
-        }
+        unsafe { rowanchess_tick(self.0.as_mut_ptr(), self.0.len(), now, out.as_mut_ptr(), out.len()) }
     }
 
+    #[inline]
     pub fn publish(&mut self, out: &mut [u8]) -> Reply {
         // SAFETY: `self` is lent and written. Slices: `out` is written.
-        unsafe {
-            rowanchess_publish(
-                self.0.as_mut_ptr(),
-                self.0.len(),
-                out.as_mut_ptr(),
-                out.len(),
-            )
-        }
+        unsafe { rowanchess_publish(self.0.as_mut_ptr(), self.0.len(), out.as_mut_ptr(), out.len()) }
     }
 
     /// `why` is the code of a reason to log out.
     pub fn end(&mut self, session: usize, why: u8, out: &mut [u8]) -> Reply {
         // SAFETY: `self` is lent and written. Slices: `out` is written.
-        unsafe {
-            rowanchess_end(
-                self.0.as_mut_ptr(),
-                self.0.len(),
-                session,
-                why,
-                out.as_mut_ptr(),
-                out.len(),
-            )
-        }
+        unsafe { rowanchess_end(self.0.as_mut_ptr(), self.0.len(), session, why, out.as_mut_ptr(), out.len()) }
     }
 
     pub fn shut_down(&mut self, out: &mut [u8]) -> Reply {
         // SAFETY: `self` is lent and written. Slices: `out` is written.
-        unsafe {
-            rowanchess_shut_down(
-                self.0.as_mut_ptr(),
-                self.0.len(),
-                out.as_mut_ptr(),
-                out.len(),
-            )
-        }
+        unsafe { rowanchess_shut_down(self.0.as_mut_ptr(), self.0.len(), out.as_mut_ptr(), out.len()) }
     }
 
     pub fn disconnect(&mut self, session: usize) -> u64 {
@@ -317,16 +260,10 @@ impl State {
 
     pub fn take_batch(&mut self, out: &mut [u8]) -> Reply {
         // SAFETY: `self` is lent and written. Slices: `out` is written.
-        unsafe {
-            rowanchess_take_batch(
-                self.0.as_mut_ptr(),
-                self.0.len(),
-                out.as_mut_ptr(),
-                out.len(),
-            )
-        }
+        unsafe { rowanchess_take_batch(self.0.as_mut_ptr(), self.0.len(), out.as_mut_ptr(), out.len()) }
     }
 
+    #[inline]
     pub fn deliver(&mut self, n: u64, row: &[u8], out: &mut [u8]) -> Reply {
         // SAFETY: `self` is lent and written. Slices: `row` is read, `out` is written.
         unsafe {
@@ -344,35 +281,17 @@ impl State {
 
     pub fn add_account(&mut self, row: &[u8]) -> u64 {
         // SAFETY: `self` is lent and written. Slices: `row` is read.
-        unsafe {
-            rowanchess_add_account(self.0.as_mut_ptr(), self.0.len(), row.as_ptr(), row.len())
-        }
+        unsafe { rowanchess_add_account(self.0.as_mut_ptr(), self.0.len(), row.as_ptr(), row.len()) }
     }
 
     pub fn replay_command(&mut self, n: u64, row: &[u8]) -> u64 {
         // SAFETY: `self` is lent and written. Slices: `row` is read.
-        unsafe {
-            rowanchess_replay_command(
-                self.0.as_mut_ptr(),
-                self.0.len(),
-                n,
-                row.as_ptr(),
-                row.len(),
-            )
-        }
+        unsafe { rowanchess_replay_command(self.0.as_mut_ptr(), self.0.len(), n, row.as_ptr(), row.len()) }
     }
 
     pub fn replay_event(&mut self, n: u64, row: &[u8]) -> u64 {
         // SAFETY: `self` is lent and written. Slices: `row` is read.
-        unsafe {
-            rowanchess_replay_event(
-                self.0.as_mut_ptr(),
-                self.0.len(),
-                n,
-                row.as_ptr(),
-                row.len(),
-            )
-        }
+        unsafe { rowanchess_replay_event(self.0.as_mut_ptr(), self.0.len(), n, row.as_ptr(), row.len()) }
     }
 
     pub fn finish(&mut self, list: &[u8]) -> u64 {

@@ -18,6 +18,13 @@ pub struct Wallet {
 
 impl Wallet {
     /// The wallet, as a client is told it.
+    ///
+    /// ```
+    /// use rowanchess::wallet::Wallet;
+    ///
+    /// let wallet = Wallet { cash: 1_000, cash_held: 500, ..Wallet::default() };
+    /// assert_eq!(wallet.balance().cash_held, 500);
+    /// ```
     pub fn balance(&self) -> Balance {
         Balance {
             cash: self.cash,

@@ -1,10 +1,11 @@
-//! Times delivering on the proved library, on the published `Exchange` and on a plain Rust program over the standard library's maps, in one run,
-//! and prints a table. Nothing is asserted.
+//! Times delivering on the proved library, on the published `Exchange`, on a plain Rust program over the standard library's maps, and on the
+//! proved library behind the crate `rowanchess`, in one run, and prints a table. Nothing is asserted.
 
 mod draw;
 mod plain;
 mod proved;
 mod published;
+mod wrapped;
 
 use std::hint::black_box;
 use std::time::{Duration, Instant};
@@ -15,6 +16,7 @@ use draw::{Book, EVENTS, Message, Turn};
 use plain::Plain;
 use proved::Proved;
 use published::Published;
+use wrapped::Wrapped;
 
 pub const TOKEN: u64 = 7;
 
@@ -29,9 +31,12 @@ pub fn funds(account: usize) -> Option<(i64, i64)> {
 
 /// A gateway under test.
 pub trait Column {
+    /// An event as the gateway's own type has it; made before the clock starts.
+    type Event: Copy;
+    fn event(event: Event) -> Self::Event;
     fn receive(&mut self, session: usize, message: Message, now: u64);
     fn take_batch(&mut self) -> usize;
-    fn deliver(&mut self, n: u64, event: Event);
+    fn deliver(&mut self, n: u64, event: Self::Event);
     /// How many messages were sent since the last publishing.
     fn publish(&mut self) -> usize;
     fn wallets(&self) -> Vec<[i64; 4]>;
@@ -45,18 +50,24 @@ struct Spent {
     sent: usize,
 }
 
+/// The events of a turn, for a column.
+fn events<C: Column>(turn: &Turn) -> Vec<(u64, C::Event)> {
+    turn.events.iter().map(|&(n, event)| (n, C::event(event))).collect()
+}
+
 /// As a host does: a batch of messages, their commands taken, their events delivered, then a publishing.
-fn run(column: &mut impl Column, turns: &[Turn], now: &mut u64) -> Spent {
+fn run<C: Column>(column: &mut C, turns: &[Turn], now: &mut u64) -> Spent {
     let mut spent = Spent::default();
+    let all: Vec<_> = turns.iter().map(events::<C>).collect();
     let start = Instant::now();
-    for turn in turns {
+    for (turn, events) in turns.iter().zip(&all) {
         *now += 1_000_000;
         for &(session, message) in &turn.messages {
             column.receive(session, message, *now);
         }
         black_box(column.take_batch());
         let from = Instant::now();
-        for &(n, event) in &turn.events {
+        for &(n, event) in events {
             column.deliver(n, event);
         }
         spent.deliver += from.elapsed();
@@ -71,47 +82,55 @@ fn median(mut numbers: Vec<f64>) -> f64 {
     numbers[numbers.len() / 2]
 }
 
-/// Medians over the rounds, nanoseconds an event: of the proved library, the published `Exchange` and the plain program.
+/// Medians over the rounds, nanoseconds an event: of the proved library, the published `Exchange`, the plain program and the crate.
 struct Line {
-    deliver: [f64; 3],
-    whole: [f64; 3],
+    deliver: [f64; 4],
+    whole: [f64; 4],
 }
 
 fn measure(live: usize, prices: u64) -> Line {
     let mut book = Book::new(prices);
-    let (mut a, mut b, mut c) = (Proved::new(), Published::new(), Plain::new());
-    let mut clocks = [0u64; 3];
-    let mut sent = [0; 3];
+    let (mut a, mut b, mut c, mut d) = (Proved::new(), Published::new(), Plain::new(), Wrapped::new());
+    let mut clocks = [0u64; 4];
+    let mut sent = [0; 4];
     let mut fills = Vec::new();
     while book.orders.len() < live {
         fills.push(book.fill((live - book.orders.len()).min(32)));
     }
     let warm: Vec<Turn> = (0..TURNS).map(|_| book.turn()).collect();
+    let mut round = |at: usize, turns: &[Turn]| {
+        let now = &mut clocks[at];
+        let spent = match at {
+            0 => run(&mut a, turns, now),
+            1 => run(&mut b, turns, now),
+            2 => run(&mut c, turns, now),
+            _ => run(&mut d, turns, now),
+        };
+        sent[at] += spent.sent;
+        spent
+    };
     for turns in [&fills, &warm] {
-        sent[0] += run(&mut a, turns, &mut clocks[0]).sent;
-        sent[1] += run(&mut b, turns, &mut clocks[1]).sent;
-        sent[2] += run(&mut c, turns, &mut clocks[2]).sent;
+        for at in 0..4 {
+            round(at, turns);
+        }
     }
-    let mut deliver: [Vec<f64>; 3] = Default::default();
-    let mut whole: [Vec<f64>; 3] = Default::default();
-    for round in 0..ROUNDS {
+    let mut deliver: [Vec<f64>; 4] = Default::default();
+    let mut whole: [Vec<f64>; 4] = Default::default();
+    for first in 0..ROUNDS {
         let turns: Vec<Turn> = (0..TURNS).map(|_| book.turn()).collect();
-        for k in 0..3 {
-            let at = (round + k) % 3;
-            let spent = match at {
-                0 => run(&mut a, &turns, &mut clocks[0]),
-                1 => run(&mut b, &turns, &mut clocks[1]),
-                _ => run(&mut c, &turns, &mut clocks[2]),
-            };
+        for k in 0..4 {
+            let at = (first + k) % 4;
+            let spent = round(at, &turns);
             let events = (TURNS * EVENTS) as f64;
             deliver[at].push(spent.deliver.as_nanos() as f64 / events);
             whole[at].push(spent.whole.as_nanos() as f64 / events);
-            sent[at] += spent.sent;
         }
     }
-    let same = a.wallets() == b.wallets() && b.wallets() == c.wallets();
-    if a.refused != 0 || sent[0] != sent[1] || sent[1] != sent[2] || !same {
-        println!("the columns differ: {} refused, messages {sent:?}, wallets alike: {same}", a.refused);
+    let wallets = [a.wallets(), b.wallets(), c.wallets(), d.wallets()];
+    let same = wallets.windows(2).all(|pair| pair[0] == pair[1]);
+    let refused = a.refused + d.refused;
+    if refused != 0 || sent.windows(2).any(|pair| pair[0] != pair[1]) || !same {
+        println!("the columns differ: {refused} refused, messages {sent:?}, wallets alike: {same}");
     }
     Line {
         deliver: deliver.map(median),
@@ -122,7 +141,7 @@ fn measure(live: usize, prices: u64) -> Line {
 const KINDS: [&str; 4] = ["accepted", "trade", "rested", "cancelled"];
 
 /// Nanoseconds of each event, by its place among the four of an order. A clock is read around each, and what that takes alone is taken off.
-fn by_kind(column: &mut impl Column, turns: &[Turn]) -> [f64; 4] {
+fn by_kind<C: Column>(column: &mut C, turns: &[Turn]) -> [f64; 4] {
     let mut times: [Vec<f64>; 4] = Default::default();
     let (mut now, mut alone) = (1 << 40, Vec::new());
     for turn in turns {
@@ -131,7 +150,7 @@ fn by_kind(column: &mut impl Column, turns: &[Turn]) -> [f64; 4] {
             column.receive(session, message, now);
         }
         black_box(column.take_batch());
-        for (place, &(n, event)) in turn.events.iter().enumerate() {
+        for (place, &(n, event)) in events::<C>(turn).iter().enumerate() {
             let from = Instant::now();
             column.deliver(n, event);
             times[place % 4].push(from.elapsed().as_nanos() as f64);
@@ -150,17 +169,19 @@ fn kinds(live: usize, prices: u64) {
     while book.orders.len() < live {
         turns.push(book.fill((live - book.orders.len()).min(32)));
     }
-    let (mut a, mut b, mut c) = (Proved::new(), Published::new(), Plain::new());
+    let (mut a, mut b, mut c, mut d) = (Proved::new(), Published::new(), Plain::new(), Wrapped::new());
     run(&mut a, &turns, &mut 0);
     run(&mut b, &turns, &mut 0);
     run(&mut c, &turns, &mut 0);
+    run(&mut d, &turns, &mut 0);
     let turns: Vec<Turn> = (0..4_000).map(|_| book.turn()).collect();
-    let (a, b, c) = (by_kind(&mut a, &turns), by_kind(&mut b, &turns), by_kind(&mut c, &turns));
+    let (a, b) = (by_kind(&mut a, &turns), by_kind(&mut b, &turns));
+    let (c, d) = (by_kind(&mut c, &turns), by_kind(&mut d, &turns));
     println!("Each kind alone, {live} live orders, {prices} prices a side:\n");
-    println!("| event | proved, ns | published, ns | plain, ns |");
-    println!("|---|---|---|---|");
+    println!("| event | proved, ns | published, ns | plain, ns | crate, ns |");
+    println!("|---|---|---|---|---|");
     for (k, name) in KINDS.iter().enumerate() {
-        println!("| {name} | {:.0} | {:.0} | {:.0} |", a[k], b[k], c[k]);
+        println!("| {name} | {:.0} | {:.0} | {:.0} | {:.0} |", a[k], b[k], c[k], d[k]);
     }
 }
 
@@ -192,14 +213,15 @@ fn restarting() {
 }
 
 fn main() {
-    println!("| live orders | prices a side | part | proved, ns | published, ns | plain, ns | of the published | of the plain |");
-    println!("|---|---|---|---|---|---|---|---|");
+    println!("| live orders | prices a side | part | proved, ns | published, ns | plain, ns | crate, ns | of the published | of the plain | crate / proved |");
+    println!("|---|---|---|---|---|---|---|---|---|---|");
     let (mut asked, mut plot) = (None, String::new());
     for (live, prices) in [(100, 120), (300, 120), (1_000, 120), (1_000, 2_000)] {
         let live = live - live / 20;
         let line = measure(live, prices);
-        for (part, [a, b, c]) in [("deliver", line.deliver), ("whole loop", line.whole)] {
-            println!("| {live} | {prices} | {part} | {a:.1} | {b:.1} | {c:.1} | {:.2} | {:.2} |", a / b, a / c);
+        for (part, [a, b, c, d]) in [("deliver", line.deliver), ("whole loop", line.whole)] {
+            let times = format!("{a:.1} | {b:.1} | {c:.1} | {d:.1}");
+            println!("| {live} | {prices} | {part} | {times} | {:.2} | {:.2} | {:.2} |", a / b, a / c, d / a);
         }
         let ratio = line.deliver[0] / line.deliver[2];
         let bar = "#".repeat((40.0 * ratio) as usize);
@@ -211,6 +233,7 @@ fn main() {
     println!("\nDelivering, proved / plain:\n\n{plot}");
     kinds(950, 120);
     restarting();
-    let [a, b, c] = asked.expect("it was measured");
+    let [a, b, c, d] = asked.expect("it was measured");
+    println!("The crate over the entry points, delivering: {:.2}\n", d / a);
     println!("deliver: {:.2} of the standard maps, {:.2} of the published Exchange", a / c, a / b);
 }

@@ -269,6 +269,12 @@ impl Plain {
 }
 
 impl Column for Plain {
+    type Event = Event;
+
+    fn event(event: Event) -> Event {
+        event
+    }
+
     fn receive(&mut self, session: usize, message: Message, now: u64) {
         self.now = now;
         self.last += 1;

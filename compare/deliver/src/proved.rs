@@ -200,6 +200,12 @@ pub fn listing(orders: &[Resting]) -> Vec<u8> {
 }
 
 impl Column for Proved {
+    type Event = Event;
+
+    fn event(event: Event) -> Event {
+        event
+    }
+
     fn receive(&mut self, session: usize, message: Message, now: u64) {
         let row = match message {
             Message::New { side, price, qty } => row(&[3, now, side_code(side), qty, 0, price as u64]),

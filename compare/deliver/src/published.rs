@@ -65,6 +65,12 @@ impl Published {
 }
 
 impl Column for Published {
+    type Event = Event;
+
+    fn event(event: Event) -> Event {
+        event
+    }
+
     fn receive(&mut self, session: usize, message: Message, now: u64) {
         let message = match message {
             Message::New { side, price, qty } => Inbound::NewOrder(NewOrder {

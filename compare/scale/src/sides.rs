@@ -9,7 +9,7 @@ use protocol::{Inbound, LoginError, Outbound, RejectCode, VERSION};
 use crate::library::Library;
 
 /// Places enough for any call.
-const PLENTY: usize = 1 << 16;
+const PLENTY: usize = usize::MAX;
 
 /// Messages a second that no list uses up.
 const AMPLE: u32 = 1_000_000;
