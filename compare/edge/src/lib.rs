@@ -3,6 +3,9 @@
 
 pub mod entered;
 
+// It links the library.
+use rowanchess as _;
+
 /// Bytes of a state.
 pub const STATE: usize = 467_200;
 /// Bytes of a message or an event; of a command or a piece of mail; of an account; of a listed order; of a level.
@@ -51,6 +54,7 @@ macro_rules! entry_points {
     ($($(#[$doc:meta])* fn $name:ident as $short:ident($($arg:ident: $type:tt),*) -> $out:ty;)*) => {
         $(
             $(#[$doc])*
+            #[inline]
             pub fn $short($($arg: kind!($type)),*) -> $out {
                 entry_points!(@call $name $out; []; []; $($arg: $type,)*)
             }

@@ -1,8 +1,0 @@
-//! Links what `rt staticlib edge` wrote.
-
-fn main() {
-    let folder = concat!(env!("CARGO_MANIFEST_DIR"), "/../../target/staticlib");
-    println!("cargo:rerun-if-changed={folder}/libedge.a");
-    println!("cargo:rustc-link-search=native={folder}");
-    println!("cargo:rustc-link-lib=static=edge");
-}
