@@ -2,7 +2,7 @@
 
 use std::collections::BTreeSet;
 
-#[path = "../../source/crates/orderbook/src/types.rs"]
+#[path = "../../../source/crates/orderbook/src/types.rs"]
 mod types;
 pub use types::*;
 
