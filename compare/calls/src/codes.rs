@@ -49,10 +49,9 @@ impl Model {
         };
         let moves = match *event {
             Event::Rejected { id, .. } if places => vec![one(id, 0, true, None, false)],
-            Event::Trade { taker, maker, taker_leaves, maker_leaves, .. } => vec![
-                one(taker, taker_leaves, taker_leaves == 0, None, true),
-                one(maker, maker_leaves, maker_leaves == 0, None, true),
-            ],
+            Event::Trade { taker, maker, taker_leaves, maker_leaves, .. } => {
+                vec![one(taker, taker_leaves, taker_leaves == 0, None, true), one(maker, maker_leaves, maker_leaves == 0, None, true)]
+            }
             Event::Rested { id, qty, .. } => vec![one(id, qty, false, None, false)],
             Event::Cancelled { id, .. } => vec![one(id, 0, true, None, false)],
             Event::Modified { id, price, leaves, .. } => vec![one(id, leaves, leaves == 0, Some(price), false)],
@@ -122,9 +121,8 @@ impl Model {
 
     fn command_code(&self, number: u64, command: &Command) -> Result<(), u8> {
         let order = placed(command);
-        let total_fits = |order: &Live| {
-            !self.has_wallet(order.account) || fits(&(self.total(order.account, order.side) + i128::from(order.hold())))
-        };
+        let total_fits =
+            |order: &Live| !self.has_wallet(order.account) || fits(&(self.total(order.account, order.side) + i128::from(order.hold())));
         first(&[
             (4, !self.sessions.is_empty() || number.checked_sub(1) != Some(self.last)),
             (8, order.is_some() && command.id() != Some(number)),

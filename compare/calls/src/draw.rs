@@ -172,6 +172,9 @@ impl Draw {
 
     /// Times mostly rise a little, or by about the silence that timing allows.
     pub fn time(&mut self) -> u64 {
+        if self.many && self.below(2000) == 0 {
+            return self.pick(&[0, 1 << 32, 1 << 63, u64::MAX]);
+        }
         let slow = !matches!(self.theme, Theme::Sessions);
         self.clock = match self.below(20) {
             0 if slow => self.clock.saturating_sub(self.below(2_000_000_000)),
@@ -402,10 +405,9 @@ impl Draw {
         };
         let event = match self.weigh(&weights) {
             0 => Event::Accepted { id },
-            1 => Event::Rejected {
-                id,
-                reason: self.pick(&[RejectReason::UnknownOrder, RejectReason::BookFull, RejectReason::MarketClosed]),
-            },
+            1 => {
+                Event::Rejected { id, reason: self.pick(&[RejectReason::UnknownOrder, RejectReason::BookFull, RejectReason::MarketClosed]) }
+            }
             2 => self.trade(model, &resting, id, Live { side, price: Some(price), leaves, ..live }),
             3 => Event::Rested { id, side, price, qty: leaves, visible },
             4 => Event::Replenished { id, side, price, visible: self.qty() },

@@ -75,10 +75,7 @@ impl Model {
     fn restore(limit: u32, accounts: &[Account], timing: Timing, bytes: &[u8]) -> Result<Model, u8> {
         let saved = decode(bytes).ok_or(11)?;
         let foreign = |account: &Account| account.id >= limit;
-        first(&[
-            (5, limit > OWNERS),
-            (1, accounts.iter().any(foreign) || saved.wallets.iter().any(|wallet| wallet.account >= limit)),
-        ])?;
+        first(&[(5, limit > OWNERS), (1, accounts.iter().any(foreign) || saved.wallets.iter().any(|wallet| wallet.account >= limit))])?;
         let mut model = Model::empty(limit, saved.seq, accounts, timing);
         for SavedOrder { id, account, client_ref, buy, price, leaves } in saved.orders {
             first(&[(2, id > saved.seq), (1, account >= limit)])?;
@@ -243,9 +240,7 @@ impl Model {
     }
 
     fn saved(&self) -> Checkpoint {
-        let wallet = |(&account, member): (&u32, &Member)| {
-            member.money.map(|(cash, position)| SavedWallet { account, cash, position })
-        };
+        let wallet = |(&account, member): (&u32, &Member)| member.money.map(|(cash, position)| SavedWallet { account, cash, position });
         let order = |(&id, live): (&OrderId, &Live)| {
             let Live { account, client_ref, price, leaves, side } = *live;
             SavedOrder { id, account, client_ref, buy: side == Side::Buy, price, leaves }

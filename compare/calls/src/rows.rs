@@ -97,8 +97,7 @@ fn cancel_reason(code: u64) -> Option<CancelReason> {
     use CancelReason::{
         FillOrKill, ImmediateOrCancel, MassCancel, NoLiquidity, PriceBand, PriceProtection, Requested, SelfTrade, TradingPhase,
     };
-    let reasons =
-        [Requested, NoLiquidity, PriceProtection, SelfTrade, MassCancel, ImmediateOrCancel, FillOrKill, PriceBand, TradingPhase];
+    let reasons = [Requested, NoLiquidity, PriceProtection, SelfTrade, MassCancel, ImmediateOrCancel, FillOrKill, PriceBand, TradingPhase];
     case(code, 1, &reasons)
 }
 

@@ -128,7 +128,6 @@ pub(crate) fn placed(command: &Command) -> Option<Live> {
     Some(Live { account, client_ref: 0, side, price, leaves })
 }
 
-
 /// In a wallet's totals' type.
 pub(crate) fn fits(total: &i128) -> bool {
     i64::try_from(*total).is_ok()

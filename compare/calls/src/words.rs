@@ -177,9 +177,7 @@ pub fn command(command: &Command) -> [u64; ROW] {
 /// 0 for an order and 1 for a stop; number, owner, side, option of a price, leaves, and what an order shows.
 pub fn listed(entry: &Listed) -> [u64; LISTED] {
     match entry {
-        Listed::Order(order) => {
-            row(&[0], &[&order.id, &order.owner, &order.side, &1u64, &order.price, &order.leaves, &order.visible])
-        }
+        Listed::Order(order) => row(&[0], &[&order.id, &order.owner, &order.side, &1u64, &order.price, &order.leaves, &order.visible]),
         Listed::Stop(stop) => row(&[1], &[&stop.id, &stop.owner, &stop.side, &stop.limit, &stop.qty]),
     }
 }

@@ -79,9 +79,15 @@ macro_rules! entry_points {
 }
 
 macro_rules! kind {
-    (read) => { &[u8] };
-    (write) => { &mut [u8] };
-    ($type:ident) => { $type };
+    (read) => {
+        &[u8]
+    };
+    (write) => {
+        &mut [u8]
+    };
+    ($type:ident) => {
+        $type
+    };
 }
 
 entry_points! {

@@ -3,32 +3,8 @@
 use calls::Draw;
 
 /// Numbers at the ends of codes and types.
-const ENDS: [u64; 24] = [
-    0,
-    1,
-    2,
-    3,
-    4,
-    5,
-    6,
-    7,
-    8,
-    9,
-    10,
-    11,
-    15,
-    16,
-    63,
-    64,
-    255,
-    256,
-    65_535,
-    65_536,
-    u32::MAX as u64,
-    1 << 32,
-    1 << 63,
-    u64::MAX,
-];
+const ENDS: [u64; 24] =
+    [0, 1, 2, 3, 4, 5, 6, 7, 8, 9, 10, 11, 15, 16, 63, 64, 255, 256, 65_535, 65_536, u32::MAX as u64, 1 << 32, 1 << 63, u64::MAX];
 
 pub fn number(draw: &mut Draw) -> u64 {
     match draw.below(4) {

@@ -6,9 +6,7 @@ use gateway::exchange::Timing;
 use gateway::wallet::Wallet;
 use marketdata::Level;
 use orderbook::{CancelReason, Command, Event, Phase, RejectReason, Side, TimeInForce};
-use protocol::{
-    Inbound, LevelUpdate, LoginError, LogoutReason, NewOrder, OrderKind, Outbound, RejectCode, Report, ReportKind, TradeTick,
-};
+use protocol::{Inbound, LevelUpdate, LoginError, LogoutReason, NewOrder, OrderKind, Outbound, RejectCode, Report, ReportKind, TradeTick};
 
 pub trait Antt {
     fn antt(&self) -> String;

@@ -70,7 +70,13 @@ impl File {
             Start::SetUp(limit, last, accounts, listing, timing) => (0, limit, *last, timing, accounts, listing, Vec::new()),
             Start::Restore(limit, accounts, timing, bytes) => (20, limit, 0, timing, accounts, &none, bytes.clone()),
         };
-        let gateway = if second && code == 0 { Whose::Both } else if second { Whose::Second } else { Whose::First };
+        let gateway = if second && code == 0 {
+            Whose::Both
+        } else if second {
+            Whose::Second
+        } else {
+            Whose::First
+        };
         let rows = if number == 0 { listing.len() } else { saved.len() };
         let parts: &[&dyn Words] = &[&u64::from(code), &rows, &accounts.len(), limit, &last, &timing.heartbeat, &timing.idle_timeout];
         self.words.extend(row::<CALL>(&[gateway.number(number), 0], parts));

@@ -44,7 +44,18 @@ const CODES: [(&str, &[u8]); 21] = [
 const KINDS: [(&str, &[&str]); 13] = [
     (
         "receive",
-        &["Login", "Logout", "Heartbeat", "Cancel", "Modify", "MassCancel", "Subscribe", "NewOrder Limit", "NewOrder Market", "NewOrder Stop"],
+        &[
+            "Login",
+            "Logout",
+            "Heartbeat",
+            "Cancel",
+            "Modify",
+            "MassCancel",
+            "Subscribe",
+            "NewOrder Limit",
+            "NewOrder Market",
+            "NewOrder Stop",
+        ],
     ),
     ("mail", &["LoginAccepted", "Heartbeat", "BookSnapshot", "LevelUpdate", "TradeTick", "Balance", "close"]),
     ("login rejected", &["UnsupportedVersion", "BadCredentials", "AlreadyLoggedIn", "AlreadyInSession"]),
@@ -214,9 +225,7 @@ pub struct Reasons(Option<&'static str>);
 impl Reasons {
     pub fn of(model: &Model, call: &Call) -> Reasons {
         Reasons(match call {
-            Call::Receive(session, message, _) => {
-                model.account_of(*session).and_then(|account| model.no_room_for(account, message))
-            }
+            Call::Receive(session, message, _) => model.account_of(*session).and_then(|account| model.no_room_for(account, message)),
             Call::Disconnect(_) => model.full(),
             Call::Deliver(number, event) if model.code(call) == Err(5) => model.no_room(*number, event),
             Call::ReplayCommand(..) if model.flights.len() >= FLIGHTS => Some("in flight"),

@@ -8,10 +8,10 @@ use std::thread;
 use std::time::Instant;
 
 use scale::list::{Difference, Tally, make};
+use scale::replay;
 use scale::shrink::shrink;
 use scale::sides::Counts;
 use scale::source::test;
-use scale::replay;
 
 /// Calls between two looks at how many there were.
 fn run(calls: u64, seed: u64) -> Result<Tally, (u64, Box<Difference>)> {

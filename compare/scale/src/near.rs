@@ -168,10 +168,10 @@ pub fn start(draw: &mut Draw, near: Near) -> Start {
     draw.wide = matches!(near, Near::Accounts | Near::Sessions);
     draw.theme = draw.pick(&[Theme::Money, Theme::Market]);
     let count = match near {
-        Near::Accounts | Near::Sessions => OWNERS - draw.below(5) as u32,
+        Near::Accounts | Near::Sessions => OWNERS - 1 - draw.below(5) as u32,
         _ => 4,
     };
-    let limit = if draw.wide { OWNERS } else { 4 };
+    let limit = if draw.wide { draw.pick(&[OWNERS - 1, OWNERS, OWNERS, OWNERS, OWNERS + 1]) } else { 4 };
     let accounts = accounts(draw, count);
     let last = if near == Near::Greatest { u64::MAX - draw.below(6) } else { LAST };
     match near {
@@ -369,7 +369,8 @@ pub fn call(draw: &mut Draw, near: Near, model: &Model) -> Option<Call> {
             2 => Event::Modified { id: resting(draw, model), price: 1, qty: 1, leaves: 1 },
             3 => Event::Replenished { id: resting(draw, model), side: Side::Buy, price: 0, visible: 1 + draw.below(4) },
             _ => {
-                let (id, price) = (1 + draw.below(LAST), if draw.chance(60) { 5000 + draw.below(600) as i64 } else { 100 + draw.below(300) as i64 });
+                let (id, price) =
+                    (1 + draw.below(LAST), if draw.chance(60) { 5000 + draw.below(600) as i64 } else { 100 + draw.below(300) as i64 });
                 let bids = model.depth.half(Side::Buy).len() > model.depth.half(Side::Sell).len();
                 let fuller = if bids { Side::Buy } else { Side::Sell };
                 let side = if near == Near::Levels && draw.chance(80) { fuller } else { draw.side() };
@@ -395,7 +396,7 @@ pub fn call(draw: &mut Draw, near: Near, model: &Model) -> Option<Call> {
             }
         }
         Near::Accounts => {
-            let id = draw.below(260) as u32;
+            let id = if draw.chance(50) { 250 + draw.below(9) as u32 } else { draw.below(260) as u32 };
             return Some(Call::AddAccount(draw.account(id)));
         }
         Near::Sessions => return Some(Call::Connect(draw.below(66) as usize, draw.time())),

@@ -197,8 +197,7 @@ impl Sides {
             let held = |buys: bool| totals.get(&(account, buys)).map_or(0, |&total| total as i64);
             let member = model.members.get(&account);
             let money = member.and_then(|member| member.money);
-            let wallet =
-                money.map(|(cash, position)| Wallet { cash, position, cash_held: held(true), position_held: held(false) });
+            let wallet = money.map(|(cash, position)| Wallet { cash, position, cash_held: held(true), position_held: held(false) });
             differ("wallet", &wallet, &library.wallet(account), "the library")?;
             if let Some(published) = published {
                 differ("wallet", &wallet, &published.wallet(account), "the Rust")?;

@@ -103,9 +103,7 @@ fn applied(name: &str, parts: &[&dyn Source]) -> String {
 impl Source for Start {
     fn source(&self) -> String {
         match self {
-            Start::SetUp(limit, last, accounts, listing, timing) => {
-                applied("Start::SetUp", &[limit, last, accounts, listing, timing])
-            }
+            Start::SetUp(limit, last, accounts, listing, timing) => applied("Start::SetUp", &[limit, last, accounts, listing, timing]),
             Start::Restore(limit, accounts, timing, bytes) => applied("Start::Restore", &[limit, accounts, timing, bytes]),
         }
     }
