@@ -43,6 +43,9 @@ macro_rules! published_structs {
             accounts Funds: cash position;
             accounts Account: id token max_open_orders messages_per_second funds;
             exchange Timing: heartbeat idle_timeout;
+            exchange SavedWallet: account cash position;
+            exchange SavedOrder: id account client_ref buy price leaves;
+            exchange Checkpoint: seq wallets orders market_price;
             marketdata Level: qty orders;
             protocol NewOrder: client_ref side qty kind;
             protocol Report: seq order_id client_ref kind;

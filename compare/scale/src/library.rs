@@ -1,8 +1,9 @@
 //! The proved `rowanchess::Exchange`, for calls made of the published types.
 
+use calls::bytes::decode;
 use calls::{Answer, Call, Gateway, Listed, Mail, Seen, Start};
 use gateway::accounts::{Account, Funds};
-use gateway::exchange::Timing;
+use gateway::exchange::{Checkpoint, SavedOrder, SavedWallet, Timing};
 use gateway::wallet::Wallet;
 use marketdata::Level;
 use orderbook::{CancelReason, Command, Event, Phase, RejectReason, Side, TimeInForce};
@@ -26,7 +27,7 @@ macro_rules! numbers {
     };
 }
 
-numbers!(u16 u32 u64 i64);
+numbers!(bool u16 u32 u64 i64);
 
 impl<T: Turn<U>, U> Turn<Option<U>> for Option<T> {
     fn turn(self) -> Option<U> {
@@ -97,6 +98,12 @@ impl Turn<rowanchess::orderbook::Listed> for Listed {
     }
 }
 
+impl<T: Turn<U>, U> Turn<Vec<U>> for Vec<T> {
+    fn turn(self) -> Vec<U> {
+        self.into_iter().map(Turn::turn).collect()
+    }
+}
+
 fn all<T: Copy + Turn<U>, U>(items: &[T]) -> Vec<U> {
     items.iter().map(|&item| item.turn()).collect()
 }
@@ -140,7 +147,14 @@ impl Library {
             Call::Finish(listing) => exchange.finish(&all(listing))?,
             Call::Checkpoint => answer = Answer::Bytes(exchange.checkpoint_bytes()?),
         }
+        let reads = matches!(call, Call::Wallet(_) | Call::LastSeq | Call::Levels(_) | Call::Checkpoint);
+        assert!(reads || self.0.mail().eq(mails.iter().copied()), "the mail of the last call is another");
         Ok(Seen::Sees(answer, mails.into_iter().map(mail).collect()))
+    }
+
+    /// A checkpoint's value, where it is accepted.
+    pub fn saved(&self) -> Option<Checkpoint> {
+        self.0.checkpoint().ok().turn()
     }
 }
 
@@ -154,7 +168,12 @@ impl Gateway for Library {
             }
             Start::Restore(limit, accounts, timing, bytes) => {
                 let book = rowanchess::orderbook::BookConfig { max_owners: *limit };
-                Exchange::restore_bytes(bytes, &book, &all(accounts), timing.turn())
+                let (accounts, timing) = (all(accounts), timing.turn());
+                // From the value too, where it has one.
+                match decode(bytes).filter(|saved| saved.seq % 2 == 0) {
+                    Some(saved) => Exchange::restore(&saved.turn(), &book, &accounts, timing),
+                    None => Exchange::restore_bytes(bytes, &book, &accounts, timing),
+                }
             }
         };
         made.map(Library).map_err(Refusal::code)

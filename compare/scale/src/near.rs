@@ -357,9 +357,10 @@ pub fn call(draw: &mut Draw, near: Near, model: &Model) -> Option<Call> {
                 _ => Command::Market { id: next, owner, side: draw.side(), qty: 1 },
             };
             let id = live(draw);
-            return Some(match draw.below(6) {
+            return Some(match draw.below(10) {
                 0 => Call::ReplayEvent(number, Event::Cancelled { id, qty: 1, reason: CancelReason::Requested }),
                 1 => finish(draw, model),
+                2 => Call::ReplayEvent(number, Event::MassCancelled { owner: draw.below(6) as u32, count: 1 }),
                 _ => Call::ReplayCommand(next, command),
             });
         }

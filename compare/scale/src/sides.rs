@@ -1,5 +1,6 @@
 //! The model, the proved library and the published Rust side by side: the same calls, and everything that can be seen compared.
 
+use calls::bytes::decode;
 use calls::{Call, Gateway, Mail, Model, Published, Seen, Start};
 use edge::entered::Entered;
 use gateway::wallet::Wallet;
@@ -229,6 +230,7 @@ impl Sides {
         }
         if let Some(bytes) = bytes {
             self.counts.checkpoints += 1;
+            differ("checkpoint's value", &decode(&bytes), &self.library.saved(), "the library")?;
             let orders = 37 * self.model.live.len();
             differ("order section", &(bytes.len() - orders), &edge::order_section(&bytes), "the library")?;
         }
@@ -255,7 +257,7 @@ impl Sides {
             differ("wallet after a restart", &self.library.wallet(account), &other.library.wallet(account), "the restored library")?;
         }
         let orders = |sides: &Sides| {
-            let mut saved_orders = calls::bytes::decode(&sides.library.checkpoint()?)?;
+            let mut saved_orders = decode(&sides.library.checkpoint()?)?;
             saved_orders.orders.iter_mut().filter(|order| order.id > saved).for_each(|order| order.client_ref = 0);
             Some(saved_orders)
         };

@@ -2,7 +2,7 @@
 
 use calls::{Call, Listed, Start};
 use gateway::accounts::{Account, Funds};
-use gateway::exchange::Timing;
+use gateway::exchange::{Checkpoint, SavedOrder, SavedWallet, Timing};
 use gateway::wallet::Wallet;
 use marketdata::Level;
 use orderbook::{CancelReason, Command, Event, Order, Phase, RejectReason, Side, Stop, TimeInForce};
@@ -26,7 +26,7 @@ macro_rules! numbers {
     };
 }
 
-numbers!(u8 u16 u32 u64 usize i64);
+numbers!(bool u8 u16 u32 u64 usize i64);
 
 impl<T: Source> Source for Option<T> {
     fn source(&self) -> String {
