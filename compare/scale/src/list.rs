@@ -138,7 +138,7 @@ impl List<'_> {
         let draw = &mut self.other;
         draw.theme = Theme::of(draw.below(5) as usize, None);
         let near = draw.pick(&near::ALL);
-        let start = if draw.chance(40) { near::start(draw, near) } else { draw.start(&mut None) };
+        let start = if draw.chance(12) { near::start(draw, near) } else { draw.start(&mut None) };
         if let Some(Seen::Code(code)) = self.step(play, Step::Begin(start.clone()))? {
             self.tally.coverage.start(&start, code);
         }
