@@ -487,6 +487,83 @@ mod tests {
         assert_eq!(Refusal::of(13), None);
     }
 
+    /// The header's number for the case of `value`.
+    fn kind(prefix: &str, value: impl std::fmt::Debug) -> u64 {
+        let text = format!("{value:?}");
+        let name = text.split(|c: char| !c.is_alphanumeric()).next().expect("a name");
+        header(&format!("ROWANCHESS_{prefix}_{}", upper(name)))
+    }
+
+    #[test]
+    fn kinds_are_the_headers() {
+        let (id, owner, side, price, qty, reason) = (5, 1, Side::Sell, 2, 3, CancelReason::Requested);
+        let (leaves, visible, trigger, limit, phase) = (3, 3, 2, None, Phase::Closed);
+        let (taker, maker, taker_side, taker_leaves, maker_leaves) = (id, 4, side, 0, 0);
+        let order = |kind| NewOrder { client_ref: 1, side, qty, kind };
+        let tif = TimeInForce::Gtc;
+        let order_kinds =
+            [OrderKind::Limit { price, tif, display: None }, OrderKind::Market, OrderKind::Stop { trigger, limit }];
+        for known in order_kinds {
+            assert_eq!(kind("ORDER", known), word(&new_order(order(known)), 4));
+        }
+        let messages = [
+            Inbound::Login { version: 1, account: 1, token: 1 },
+            Inbound::Logout,
+            Inbound::Heartbeat,
+            Inbound::NewOrder(order(OrderKind::Market)),
+            Inbound::Cancel { order_id: id },
+            Inbound::Modify { order_id: id, price, qty },
+            Inbound::MassCancel,
+            Inbound::Subscribe,
+        ];
+        for known in messages {
+            assert_eq!(kind("MESSAGE", known), word(&message(known), 0));
+        }
+        let events = [
+            Event::Accepted { id },
+            Event::Rejected { id, reason: RejectReason::BookFull },
+            Event::Trade { trade_id: 1, taker, maker, taker_side, price, qty, taker_leaves, maker_leaves },
+            Event::Rested { id, side, price, qty, visible },
+            Event::Replenished { id, side, price, visible },
+            Event::Cancelled { id, qty, reason },
+            Event::Modified { id, price, qty, leaves },
+            Event::StopPlaced { id, side, trigger, limit, qty },
+            Event::Triggered { id },
+            Event::MassCancelled { owner, count: 1 },
+            Event::PhaseChanged { phase },
+        ];
+        for known in events {
+            assert_eq!(kind("EVENT", known), word(&event(known), 0));
+        }
+        let commands = [
+            Command::Limit { id, owner, side, price, qty, tif, display: None },
+            Command::Market { id, owner, side, qty },
+            Command::Cancel { id, owner },
+            Command::Modify { id, owner, price, qty },
+            Command::Stop { id, owner, side, trigger, limit, qty },
+            Command::CancelAll { owner },
+            Command::SetPhase { phase },
+        ];
+        for known in commands {
+            assert_eq!(kind("COMMAND", known), word(&command(known), 0));
+        }
+        for known in
+            [Listed::Order { id, owner, side, price, leaves, visible }, Listed::Stop { id, owner, side, limit, qty }]
+        {
+            assert_eq!(kind("LISTED", known), word(&listed(&known), 0));
+        }
+        // 1 is a code of everything that these rows have.
+        for number in 1..=10 {
+            let Mail::Send(1, message) = mail_of(&row(&[1, number, 1, 1, 1, 1, 1])) else { panic!("a message") };
+            assert_eq!(kind("MAIL", message), number);
+        }
+        assert_eq!(mail_of(&row(&[1, header("ROWANCHESS_MAIL_CLOSE")])), Mail::Close(1));
+        for number in 0..=10 {
+            let report = report_kind(&row(&[1, 6, 1, 1, 1, number, 1, 1, 1, 1, 1]));
+            assert_eq!(kind("REPORT", report), number);
+        }
+    }
+
     #[test]
     fn sizes_are_the_headers() {
         let sizes = [
