@@ -15,10 +15,6 @@ const PLENTY: usize = usize::MAX;
 /// Messages a second that no list uses up.
 const AMPLE: u32 = 1_000_000;
 
-/// Orders up to which a checkpoint is compared after every call, and one in how many calls beyond.
-const FEW: usize = 64;
-const SELDOM: u64 = 16;
-
 #[derive(Clone, Copy, Default)]
 pub struct Counts {
     /// Calls, of these with the published Rust, and those that only the model decides: refusals, and what comes after the Rust has left.
@@ -216,10 +212,7 @@ impl Sides {
         if let Some(published) = published {
             differ("last number", &model.last, &published.last_seq(), "the Rust")?;
         }
-        if model.live.len() <= FEW || self.counts.calls % SELDOM == 0 {
-            self.checkpoints()?;
-        }
-        Ok(())
+        self.checkpoints()
     }
 
     fn checkpoints(&mut self) -> Result<(), String> {
