@@ -1,6 +1,7 @@
 //! Times delivering on the proved library, on the published `Exchange`, on a plain Rust program over the standard library's maps, and on the
 //! proved library behind the crate `rowanchess`, in one run, and prints a table. Nothing is asserted.
 
+mod column;
 mod draw;
 mod plain;
 mod proved;
@@ -10,37 +11,16 @@ mod wrapped;
 use std::hint::black_box;
 use std::time::{Duration, Instant};
 
-use orderbook::Event;
-
-use draw::{Book, EVENTS, Message, Turn};
+use column::Column;
+use draw::{Book, EVENTS, Turn};
 use plain::Plain;
 use proved::Proved;
 use published::Published;
 use wrapped::Wrapped;
 
-pub const TOKEN: u64 = 7;
-
 /// Timed rounds of one million events in all. Many short ones: the other work of the machine then spoils few of them.
 const ROUNDS: usize = 625;
 const TURNS: usize = 1_000_000 / EVENTS / ROUNDS;
-
-/// Every other account has a wallet: cash and seats.
-pub fn funds(account: usize) -> Option<(i64, i64)> {
-    (account % 2 == 0).then_some((1 << 60, 1 << 60))
-}
-
-/// A gateway under test.
-pub trait Column {
-    /// An event as the gateway's own type has it; made before the clock starts.
-    type Event: Copy;
-    fn event(event: Event) -> Self::Event;
-    fn receive(&mut self, session: usize, message: Message, now: u64);
-    fn take_batch(&mut self) -> usize;
-    fn deliver(&mut self, n: u64, event: Self::Event);
-    /// How many messages were sent since the last publishing.
-    fn publish(&mut self) -> usize;
-    fn wallets(&self) -> Vec<[i64; 4]>;
-}
 
 /// What was spent in `deliver`, what in the whole loop, and how many messages were sent.
 #[derive(Default)]

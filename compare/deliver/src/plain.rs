@@ -6,8 +6,8 @@ use std::collections::{BTreeMap, HashMap, HashSet, VecDeque};
 
 use orderbook::{CancelReason, Event, Side};
 
+use crate::column::{Column, funds};
 use crate::draw::{Message, SESSIONS};
-use crate::{Column, funds};
 
 #[derive(Clone, Copy)]
 struct Wallet {

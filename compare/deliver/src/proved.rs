@@ -1,83 +1,15 @@
-//! The proved library's entry points (crates/edge), each with the slices that it wants.
+//! The proved library's entry points (crates/edge).
 
+use edge::{MAIL, Reply, STATE};
 use orderbook::{Event, Side};
 
+use crate::column::{Column, TOKEN, funds};
 use crate::draw::{Message, Resting, SESSIONS};
-use crate::{Column, TOKEN, funds};
 
-const STATE: usize = 467_200;
-const ROW: usize = 96;
 const LIMIT: u64 = 256;
 
 /// No heartbeat is due, and no session idle.
 const NEVER: u64 = u64::MAX;
-
-#[repr(C)]
-struct Reply {
-    code: u64,
-    count: usize,
-}
-
-#[repr(C)]
-struct Wallet {
-    code: u64,
-    there: u64,
-    cash: i64,
-    position: i64,
-    cash_held: i64,
-    position_held: i64,
-}
-
-unsafe extern "C" {
-    fn rowanchess_set_up(
-        m: *mut u8,
-        len: usize,
-        limit: u64,
-        last: u64,
-        heartbeat: u64,
-        idle: u64,
-        accounts: *const u8,
-        accounts_len: usize,
-        list: *const u8,
-        list_len: usize,
-    ) -> u64;
-    fn rowanchess_restore(
-        m: *mut u8,
-        len: usize,
-        limit: u64,
-        heartbeat: u64,
-        idle: u64,
-        accounts: *const u8,
-        accounts_len: usize,
-        bytes: *const u8,
-        bytes_len: usize,
-    ) -> u64;
-    fn rowanchess_connect(m: *mut u8, len: usize, session: usize, time: u64) -> u64;
-    fn rowanchess_receive(
-        m: *mut u8,
-        len: usize,
-        session: usize,
-        row: *const u8,
-        row_len: usize,
-        time: u64,
-        out: *mut u8,
-        out_len: usize,
-    ) -> Reply;
-    fn rowanchess_take_batch(m: *mut u8, len: usize, out: *mut u8, out_len: usize) -> Reply;
-    fn rowanchess_deliver(
-        m: *mut u8,
-        len: usize,
-        n: u64,
-        row: *const u8,
-        row_len: usize,
-        out: *mut u8,
-        out_len: usize,
-    ) -> Reply;
-    fn rowanchess_publish(m: *mut u8, len: usize, out: *mut u8, out_len: usize) -> Reply;
-    fn rowanchess_wallet(m: *const u8, len: usize, account: u32) -> Wallet;
-    fn rowanchess_finish(m: *mut u8, len: usize, list: *const u8, list_len: usize) -> u64;
-    fn rowanchess_checkpoint(m: *const u8, len: usize, out: *mut u8, out_len: usize) -> Reply;
-}
 
 pub struct Proved {
     state: Vec<u8>,
@@ -155,14 +87,13 @@ impl Proved {
     pub fn new() -> Proved {
         let mut column = Proved {
             state: vec![0; STATE],
-            out: vec![0; 4_096 * ROW],
+            out: vec![0; 4_096 * MAIL],
             sent: 0,
             refused: 0,
         };
         column.set_up(0, &accounts(SESSIONS, funds), &[]);
         for session in 0..SESSIONS {
-            // SAFETY: here and below, each address comes with the length of a slice that lives through the call, and the state is this column's alone.
-            unsafe { rowanchess_connect(column.state.as_mut_ptr(), STATE, session, 0) };
+            edge::connect(&mut column.state, session, 0);
             column.receive_row(session, &row(&[0, 1, session as u64, TOKEN]), 0);
             column.receive_row(session, &row(&[7]), 0);
         }
@@ -171,16 +102,12 @@ impl Proved {
     }
 
     pub fn set_up(&mut self, last: u64, accounts: &[u8], list: &[u8]) {
-        let m = self.state.as_mut_ptr();
-        let (rows, rows_len) = (accounts.as_ptr(), accounts.len());
-        let code = unsafe { rowanchess_set_up(m, STATE, LIMIT, last, NEVER, NEVER, rows, rows_len, list.as_ptr(), list.len()) };
+        let code = edge::set_up(&mut self.state, LIMIT, last, NEVER, NEVER, accounts, list);
         self.refused += usize::from(code != 0);
     }
 
     pub fn restore(&mut self, accounts: &[u8], bytes: &[u8]) {
-        let m = self.state.as_mut_ptr();
-        let (rows, rows_len) = (accounts.as_ptr(), accounts.len());
-        let code = unsafe { rowanchess_restore(m, STATE, LIMIT, NEVER, NEVER, rows, rows_len, bytes.as_ptr(), bytes.len()) };
+        let code = edge::restore(&mut self.state, LIMIT, NEVER, NEVER, accounts, bytes);
         self.refused += usize::from(code != 0);
     }
 
@@ -191,23 +118,19 @@ impl Proved {
     }
 
     fn receive_row(&mut self, session: usize, row: &[u8; 128], now: u64) {
-        let (m, out) = (self.state.as_mut_ptr(), self.out.as_mut_ptr());
-        let len = self.out.len();
-        let reply = unsafe { rowanchess_receive(m, STATE, session, row.as_ptr(), 128, now, out, len) };
+        let reply = edge::receive(&mut self.state, session, row, now, &mut self.out);
         self.note(reply);
     }
 
     /// The bytes of a checkpoint.
     pub fn checkpoint(&mut self) -> &[u8] {
-        let (m, out) = (self.state.as_ptr(), self.out.as_mut_ptr());
-        let reply = unsafe { rowanchess_checkpoint(m, STATE, out, self.out.len()) };
+        let reply = edge::checkpoint(&self.state, &mut self.out);
         self.refused += usize::from(reply.code != 0);
         &self.out[..reply.count]
     }
 
     pub fn finish(&mut self, list: &[u8]) {
-        let m = self.state.as_mut_ptr();
-        let code = unsafe { rowanchess_finish(m, STATE, list.as_ptr(), list.len()) };
+        let code = edge::finish(&mut self.state, list);
         self.refused += usize::from(code != 0);
     }
 }
@@ -238,27 +161,23 @@ impl Column for Proved {
     }
 
     fn take_batch(&mut self) -> usize {
-        let (m, out) = (self.state.as_mut_ptr(), self.out.as_mut_ptr());
-        let reply = unsafe { rowanchess_take_batch(m, STATE, out, self.out.len()) };
-        reply.count
+        edge::take_batch(&mut self.state, &mut self.out).count
     }
 
     fn deliver(&mut self, n: u64, event: Event) {
         let row = event_row(event);
-        let (m, out) = (self.state.as_mut_ptr(), self.out.as_mut_ptr());
-        let reply = unsafe { rowanchess_deliver(m, STATE, n, row.as_ptr(), 128, out, 4 * ROW) };
+        let reply = edge::deliver(&mut self.state, n, &row, &mut self.out[..4 * MAIL]);
         self.note(reply);
     }
 
     fn publish(&mut self) -> usize {
-        let (m, out) = (self.state.as_mut_ptr(), self.out.as_mut_ptr());
-        let reply = unsafe { rowanchess_publish(m, STATE, out, self.out.len()) };
+        let reply = edge::publish(&mut self.state, &mut self.out);
         self.note(reply);
         std::mem::take(&mut self.sent)
     }
 
     fn wallets(&self) -> Vec<[i64; 4]> {
-        let wallet = |a| unsafe { rowanchess_wallet(self.state.as_ptr(), STATE, a) };
+        let wallet = |a| edge::wallet(&self.state, a);
         let wallets = (0..SESSIONS as u32).map(wallet).filter(|w| w.there == 1);
         wallets
             .map(|w| [w.cash, w.position, w.cash_held, w.position_held])

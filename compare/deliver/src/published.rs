@@ -5,8 +5,8 @@ use gateway::exchange::{Exchange, Mailbox, SessionId, Timing};
 use orderbook::{BookConfig, Event, OrderBook, TimeInForce};
 use protocol::{Inbound, NewOrder, OrderKind, Outbound};
 
+use crate::column::{Column, TOKEN, funds};
 use crate::draw::{Message, SESSIONS};
-use crate::{Column, TOKEN, funds};
 
 #[derive(Default)]
 struct Mail(Vec<(SessionId, Outbound)>);

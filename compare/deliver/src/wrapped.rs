@@ -7,8 +7,8 @@ use rowanchess::exchange::{Exchange, Mailbox, SessionId, Timing};
 use rowanchess::orderbook::{BookConfig, CancelReason, Event, Side, TimeInForce};
 use rowanchess::protocol::{Inbound, NewOrder, OrderKind, Outbound, VERSION};
 
+use crate::column::{Column, TOKEN, funds};
 use crate::draw::{Message, SESSIONS};
-use crate::{Column, TOKEN, funds};
 
 /// Each message is made and seen; the entry points alone leave rows.
 #[derive(Default)]

@@ -1,21 +1,18 @@
 //! Values in the words of the definitions, each in parentheses where it has parts.
 
+use calls::{Answer, Call, Listed, Mail, Seen, Start};
 use gateway::accounts::{Account, Funds};
 use gateway::exchange::Timing;
 use gateway::wallet::Wallet;
 use marketdata::Level;
 use orderbook::{CancelReason, Command, Event, Phase, RejectReason, Side, TimeInForce};
-use protocol::{
-    Inbound, LevelUpdate, LoginError, LogoutReason, NewOrder, OrderKind, Outbound, RejectCode, Report, ReportKind, TradeTick,
-};
-
-use crate::exchange::{Answer, Listed, Mail, Seen};
+use protocol::{Inbound, LevelUpdate, LoginError, LogoutReason, NewOrder, OrderKind, Outbound, RejectCode, Report, ReportKind, TradeTick};
 
 pub trait Antt {
     fn antt(&self) -> String;
 }
 
-pub fn applied(name: &str, parts: &[&dyn Antt]) -> String {
+fn applied(name: &str, parts: &[&dyn Antt]) -> String {
     if parts.is_empty() {
         return name.to_owned();
     }
@@ -24,11 +21,11 @@ pub fn applied(name: &str, parts: &[&dyn Antt]) -> String {
 }
 
 /// Without the parentheses around it.
-pub fn bare(text: &str) -> &str {
+fn bare(text: &str) -> &str {
     text.strip_prefix('(').and_then(|text| text.strip_suffix(')')).unwrap_or(text)
 }
 
-pub fn list(items: &[impl Antt]) -> String {
+fn list(items: &[impl Antt]) -> String {
     if items.is_empty() {
         return "[]".to_owned();
     }
@@ -192,4 +189,39 @@ impl Antt for Seen {
         };
         format!("answers {answer}")
     }
+}
+
+impl Antt for Start {
+    fn antt(&self) -> String {
+        match self {
+            Start::SetUp(limit, last, accounts, listing, timing) => {
+                format!("set-up {limit} {last} {} {} {}", list(accounts), list(listing), timing.antt())
+            }
+            Start::Restore(limit, accounts, timing, bytes) => {
+                format!("restore {limit} {} {} {}", list(accounts), timing.antt(), list(bytes))
+            }
+        }
+    }
+}
+
+/// A call with `room` places lent, where it takes a lent list.
+pub fn call(call: &Call, room: usize) -> String {
+    let parts: &[&dyn Antt] = match call {
+        Call::AddAccount(account) => &[account],
+        Call::Connect(session, now) => &[session, now],
+        Call::Collar(percent) => &[percent],
+        Call::Wallet(account) => &[account],
+        Call::Levels(side) => &[side, &room],
+        Call::Receive(session, message, now) => &[session, message, now, &room],
+        Call::Tick(now) => &[now, &room],
+        Call::Publish | Call::ShutDown | Call::TakeBatch | Call::Checkpoint => &[&room],
+        Call::End(session, reason) => &[session, reason, &room],
+        Call::Disconnect(session) | Call::Detach(session) => &[session],
+        Call::Deliver(number, event) => &[number, event, &room],
+        Call::ReplayCommand(number, command) => &[number, command],
+        Call::ReplayEvent(number, event) => &[number, event],
+        Call::Finish(listing) => return format!("finish {}", list(listing)),
+        Call::LastSeq => &[],
+    };
+    bare(&applied(call.name(), parts)).to_owned()
 }

@@ -3,21 +3,20 @@
 //! `lists --play CALLS SEED COUNT [THEME]` prints a file for the program `player`, with the named calls only (`connect,tick,..`).
 
 mod antt;
-mod draw;
-mod exchange;
 mod play;
-mod rule;
 
 use std::io::Write;
 
+use calls::bytes::{decode, encode};
+use calls::draw::{Limit, Theme};
+use calls::{Call, Draw, Gateway, Model, Published, Seen, Start};
 use gateway::accounts::Account;
-use gateway::exchange::{Checkpoint, Exchange};
+use gateway::exchange::Checkpoint;
+use orderbook::{Event, OrderId};
+use protocol::RejectCode;
 
 use antt::Antt;
-use draw::{Draw, Limit, Theme};
-use exchange::{Answer, Call, Seen, Start};
-use play::{File, Gateway};
-use rule::Rule;
+use play::{File, Whose};
 
 /// A list: its start, its calls with the places lent to each, and what each gave. A start that is refused gives its code.
 struct List {
@@ -41,42 +40,60 @@ enum Again {
 struct Second {
     /// The checkpoint's last number.
     saved: u64,
-    rule: Rule,
-    exchange: Exchange,
+    model: Model,
+    published: Published,
 }
 
 impl Second {
     fn start(start: &Start) -> Option<Second> {
-        let (rule, exchange) = (Rule::start(start).ok()?, start.exchange()?);
-        Some(Second { saved: exchange.last_seq(), rule, exchange })
+        let (model, published) = (Model::start(start).ok()?, Published::start(start).ok()?);
+        Some(Second { saved: model.last, model, published })
     }
 
     /// Makes the call, unless document 01 refuses it.
     fn feed(&mut self, call: &Call) -> bool {
-        let passes = self.rule.code(call, &self.exchange).is_ok();
-        let Some(seen) = passes.then(|| call.on(&mut self.exchange, self.rule.limit)).flatten() else { return false };
-        self.rule.follow(call, &seen, &self.exchange);
-        true
+        let passes = self.model.code(call).is_ok() && self.published.call(call, 0).is_some();
+        passes && self.model.call(call, 0).is_some()
     }
 
-    fn agrees(&self, first: &Exchange) -> bool {
-        let same = |account: u32| self.exchange.wallet(account) == first.wallet(account);
-        self.exchange.last_seq() == first.last_seq() && (0..self.rule.limit).all(same)
+    fn agrees(&self, first: &Published) -> bool {
+        let same = |account: u32| self.published.wallet(account) == first.wallet(account);
+        self.published.last_seq() == first.last_seq() && (0..self.model.limit).all(same)
     }
+}
+
+/// What is worth counting of a call: the table that refuses an event, or the kind of a trade that is accepted.
+fn remark(model: &Model, call: &Call) -> Option<String> {
+    let Call::Deliver(number, event) = call else { return None };
+    if let Some(table) = model.no_room(*number, event) {
+        return Some(format!("deliver finds no room for {table}"));
+    }
+    let Event::Trade { taker, maker, .. } = event else { return None };
+    let owner = |id: &OrderId| model.live.get(id).map(|live| live.account);
+    let kind = match (owner(taker), owner(maker)) {
+        (Some(one), Some(other)) if one == other => "of one account",
+        (Some(one), Some(other)) => match usize::from(model.has_wallet(one)) + usize::from(model.has_wallet(other)) {
+            0 => "between no wallets",
+            1 => "between a wallet and none",
+            _ => "between two wallets",
+        },
+        _ => "of an order no longer live",
+    };
+    model.code(call).is_ok().then(|| format!("trade {kind}"))
 }
 
 /// Draws a list. A checkpoint taken last is left in `saved` with the accounts of its moment.
 fn list(draw: &mut Draw, saved: &mut Option<(Vec<Account>, Checkpoint)>) -> List {
     let start = draw.start(saved);
     let mut list = List { start, calls: Vec::new(), seen: Vec::new(), second: Vec::new(), remarks: Vec::new() };
-    let mut rule = match Rule::start(&list.start) {
-        Ok(rule) => rule,
+    let mut model = match Model::start(&list.start) {
+        Ok(model) => model,
         Err(code) => {
             list.seen.push(Seen::Code(code));
             return list;
         }
     };
-    let Some(mut exchange) = list.start.exchange() else {
+    let Ok(mut published) = Published::start(&list.start) else {
         eprintln!("the Rust panics at the start");
         return list;
     };
@@ -84,43 +101,36 @@ fn list(draw: &mut Draw, saved: &mut Option<(Vec<Account>, Checkpoint)>) -> List
     let most = draw.theme.calls(draw.only.is_some());
     for at in 0.. {
         if at == most && !matches!(draw.theme, Theme::Full(_)) && draw.chance(30) {
-            draw.plan_checkpoint(&rule);
+            draw.plan_checkpoint(&model);
         }
         if at >= most && draw.planned.is_empty() {
             break;
         }
-        let call = draw.call(&rule, &exchange);
-        let code = rule.code(&call, &exchange);
-        let full = rule.unavailable(&call, &exchange);
-        let owner = rule.owner(&call, &exchange);
-        list.remarks.extend(rule.remark(&call, &exchange));
-        let made = (code.is_ok() && !full).then(|| call.on(&mut exchange, rule.limit));
-        let panics = matches!(made, Some(None));
-        let seen = match (code, made, &call) {
-            (Err(code), ..) => Seen::Code(code),
-            (_, Some(Some(seen)), _) => seen,
-            // The Rust finds no number for the command, or has no such limit.
-            (_, _, Call::Receive(session, message, _)) if full || rule.last == u64::MAX => Seen::unavailable(*session, message),
-            _ => {
-                eprintln!("the Rust panics in {}", call.antt(99));
-                break;
-            }
+        let call = draw.call(&model, &published);
+        list.remarks.extend(remark(&model, &call));
+        let ours = model.code(&call).map_or_else(Seen::Code, |()| model.sees(&call));
+        // The Rust has no such limit, and finds no number behind the greatest.
+        let full = ours.rejects(RejectCode::Unavailable);
+        let seen = if ours.is_refusal() || full { Some(ours) } else { published.call(&call, 0) };
+        let Some(seen) = seen else {
+            eprintln!("the Rust panics in {}", antt::call(&call, 99));
+            break;
         };
         let places = seen.places();
         if places > 0 && draw.chance(12) {
             list.calls.push((call.clone(), places - 1));
             list.seen.push(Seen::Code(6));
         }
-        let refused = matches!(seen, Seen::Code(_));
+        let refused = seen.is_refusal();
         let many = refused || matches!(draw.theme, Theme::Full(Limit::Feed)) || draw.chance(50);
         list.calls.push((call.clone(), if many { places.max(999) } else { places }));
-        if !panics && !refused && !full {
-            let item = rule.item(&call, owner, &exchange);
-            rule.follow(&call, &seen, &exchange);
-            draw.plan_after(&call, &rule, &exchange);
-            if let (Some(item), Some(gateway)) = (item, &mut second) {
+        if !refused && !full {
+            let before = model.last;
+            model.call(&call, usize::MAX);
+            draw.plan_after(&call, &model);
+            if let (Some(item), Some(gateway)) = (model.item(&call, before), &mut second) {
                 if gateway.feed(&item) {
-                    assert!(gateway.agrees(&exchange), "the Rust's second gateway differs");
+                    assert!(gateway.agrees(&published), "the Rust's second gateway differs");
                     list.second.push((list.calls.len(), Again::Item(item)));
                 } else {
                     // An event of a command from before the checkpoint, which 01 leaves out.
@@ -130,29 +140,30 @@ fn list(draw: &mut Draw, saved: &mut Option<(Vec<Account>, Checkpoint)>) -> List
             }
         }
         list.seen.push(seen);
-        if panics {
+        if full && model.last == u64::MAX {
             break;
         }
-        if let (Call::Checkpoint, Some(checkpoint)) = (&call, exchange.checkpoint()) {
-            let accounts: Vec<Account> = rule.accounts.values().copied().collect();
+        if let (Call::Checkpoint, Some(bytes)) = (&call, published.checkpoint()) {
+            let checkpoint = decode(&bytes).expect("a checkpoint");
+            let accounts: Vec<Account> = model.members.values().map(|member| member.account).collect();
             if draw.restarts() && !refused {
                 let timing = draw.timing();
                 for _ in 0..2 {
                     let (damage, bytes) = draw.damage(&checkpoint);
                     list.remarks.push(format!("damaged {damage}"));
-                    let start = Start::Malformed(rule.limit, accounts.clone(), timing, bytes);
+                    let start = Start::Restore(model.limit, accounts.clone(), timing, bytes);
                     list.second.push((list.calls.len(), Again::Restore(start, 11)));
                 }
-                let start = Start::Restore(rule.limit, accounts.clone(), timing, checkpoint.clone());
+                let start = Start::Restore(model.limit, accounts.clone(), timing, encode(&checkpoint));
                 second = Second::start(&start);
-                assert!(second.as_ref().is_some_and(|second| second.agrees(&exchange)), "the Rust's checkpoint differs");
+                assert!(second.as_ref().is_some_and(|second| second.agrees(&published)), "the Rust's checkpoint differs");
                 list.second.push((list.calls.len(), Again::Restore(start, 0)));
             }
             *saved = Some((accounts, checkpoint));
         }
     }
     if let Some(mut gateway) = second {
-        let finish = draw.finish(&gateway.rule);
+        let finish = draw.finish(&gateway.model);
         if gateway.feed(&finish) {
             list.second.push((list.calls.len(), Again::Finish(finish)));
         }
@@ -187,7 +198,7 @@ fn print(args: &[u64], draw: &mut Draw) {
         draw.theme = Theme::of(at, args.get(2));
         let list = list(draw, &mut saved);
         let terms = |items: Vec<String>| wrapped(&[items, vec!["[]".to_owned()]].concat().join(" ∷ "));
-        let calls = list.calls.iter().map(|(call, room)| call.antt(*room)).collect();
+        let calls = list.calls.iter().map(|(call, room)| antt::call(call, *room)).collect();
         println!("abbrev start-{at} : Started\nstart-{at} =\n{}\n", wrapped(&list.start.antt()));
         println!("abbrev calls-{at} : List Call\ncalls-{at} =\n{}\n", terms(calls));
         println!("abbrev seen-{at} : List Seen\nseen-{at} =\n{}\n", terms(list.seen.iter().map(Antt::antt).collect()));
@@ -223,12 +234,12 @@ fn play(args: &[u64], draw: &mut Draw) {
             while let Some((_, again)) = second.next_if(|(after, _)| *after == at) {
                 match again {
                     Again::Restore(start, code) => file.start(start, *code, true),
-                    Again::Item(call) => file.call(call, 0, &Seen::Sees(Answer::Nothing, Vec::new()), Gateway::Both),
-                    Again::Finish(call) => file.call(call, 0, &Seen::Sees(Answer::Nothing, Vec::new()), Gateway::Both),
+                    Again::Item(call) => file.call(call, 0, &Seen::quiet(), Whose::Both),
+                    Again::Finish(call) => file.call(call, 0, &Seen::quiet(), Whose::Both),
                 }
             }
             if let Some(((call, room), seen)) = list.calls.get(at).zip(list.seen.get(at)) {
-                file.call(call, *room, seen, Gateway::First);
+                file.call(call, *room, seen, Whose::First);
             }
         }
     }

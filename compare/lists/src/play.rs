@@ -1,234 +1,33 @@
-//! Lists of calls as rows of words, for the program `player` (compare/README.md has the rows).
+//! Lists of calls as a file of words, for the program `player` (compare/README.md has the rows).
 
 use std::collections::BTreeMap;
 
-use gateway::accounts::Account;
-use gateway::wallet::Wallet;
-use marketdata::Level;
-use orderbook::{CancelReason, Command, Event, Phase, RejectReason, Side, TimeInForce};
-use protocol::{Inbound, LoginError, LogoutReason, NewOrder, OrderKind, Outbound, RejectCode, ReportKind};
+use calls::words::{self, LEVEL, ROW, Words, arguments, row};
+use calls::{Answer, Call, Mail, Seen, Start};
+use protocol::{Inbound, Outbound};
 
-use crate::exchange::{Answer, Call, Listed, Mail, Seen, Start, bytes};
-
-/// The words of a start, an account or a call; of a message or a command; of a listed order; of a level.
+/// The words of a start, an account or a call.
 const CALL: usize = 16;
-const ROW: usize = 12;
-const LISTED: usize = 8;
-const LEVEL: usize = 3;
 
 /// The most bytes that the player lends, and what it fills them with.
 const MOST: usize = 24_576;
 const BLANK: u8 = 0xA5;
 
-/// A value as words. A signed number is in two's complement; an option is 1 and the value, or 0 and 0.
-trait Words {
-    fn words(&self) -> Vec<u64>;
-}
-
-macro_rules! numbers {
-    ($($number:ty)*) => {
-        $(impl Words for $number {
-            fn words(&self) -> Vec<u64> {
-                vec![*self as u64]
-            }
-        })*
-    };
-}
-
-numbers!(u16 u32 u64 usize i64);
-
-macro_rules! options {
-    ($($part:ty)*) => {
-        $(impl Words for Option<$part> {
-            fn words(&self) -> Vec<u64> {
-                self.map_or(vec![0, 0], |part| vec![1, part as u64])
-            }
-        })*
-    };
-}
-
-options!(i64 u64 u32);
-
-fn joined(parts: &[&dyn Words]) -> Vec<u64> {
-    parts.iter().flat_map(|part| part.words()).collect()
-}
-
-/// The row of `first` and the parts, filled up with 0.
-fn row<const SIZE: usize>(first: &[u64], parts: &[&dyn Words]) -> [u64; SIZE] {
-    let mut row = [0; SIZE];
-    let words = [first, &joined(parts)].concat();
-    row[..words.len()].copy_from_slice(&words);
-    row
-}
-
-// The codes of the enums without data, from a first one.
-macro_rules! codes {
-    ($($type:ty, $first:literal: $($case:ident)*;)*) => {
-        $(impl Words for $type {
-            fn words(&self) -> Vec<u64> {
-                let cases = [$(matches!(self, Self::$case)),*];
-                vec![cases.iter().position(|&is| is).expect("a case") as u64 + $first]
-            }
-        })*
-    };
-}
-
-codes! {
-    Side, 0: Buy Sell;
-    TimeInForce, 0: Gtc Ioc Fok PostOnly;
-    Phase, 0: Continuous Auction Halted Closed;
-    RejectReason, 1: InvalidQuantity PriceOutOfRange PriceOutsideProtection DuplicateOrderId UnknownOrder BookFull InvalidOwner
-        PostOnlyWouldCross InvalidDisplay PriceOutsideBand StopWouldTrigger PendingStop AuctionCall TradingHalted MarketClosed;
-    CancelReason, 1: Requested NoLiquidity PriceProtection SelfTrade MassCancel ImmediateOrCancel FillOrKill PriceBand TradingPhase;
-    LoginError, 1: UnsupportedVersion BadCredentials AlreadyLoggedIn AlreadyInSession;
-    LogoutReason, 1: Requested Idle ProtocolError SlowConsumer Shutdown;
-    RejectCode, 1: TooManyOrders Throttled Unavailable InsufficientFunds NotAllowed OffMarket;
-}
-
-// A case is its number and its fields.
-macro_rules! enums {
-    ($($type:ty: $($case:ident = $number:literal $({ $($field:ident)* })? $(($inner:ident))?),*;)*) => {
-        $(impl Words for $type {
-            fn words(&self) -> Vec<u64> {
-                match self {
-                    $(Self::$case $({ $($field),* })? $(($inner))? => {
-                        [vec![$number], joined(&[$($($field),*)? $($inner)?])].concat()
-                    })*
-                }
-            }
-        })*
-    };
-}
-
-enums! {
-    OrderKind: Limit = 0 { price tif display }, Market = 1, Stop = 2 { trigger limit };
-    Inbound: Login = 0 { version account token }, Logout = 1, Heartbeat = 2, NewOrder = 3 (order), Cancel = 4 { order_id },
-        Modify = 5 { order_id price qty }, MassCancel = 6, Subscribe = 7;
-    Event: Accepted = 0 { id }, Rejected = 1 { id reason },
-        Trade = 2 { trade_id taker maker taker_side price qty taker_leaves maker_leaves },
-        Rested = 3 { id side price qty visible }, Replenished = 4 { id side price visible }, Cancelled = 5 { id qty reason },
-        Modified = 6 { id price qty leaves }, StopPlaced = 7 { id side trigger limit qty }, Triggered = 8 { id },
-        MassCancelled = 9 { owner count }, PhaseChanged = 10 { phase };
-    ReportKind: Accepted = 0, Rejected = 1 (reason), Fill = 2 { trade_id side price qty leaves },
-        Rested = 3 { side price qty visible }, Replenished = 4 { side price visible }, Cancelled = 5 { qty reason },
-        Modified = 6 { price qty leaves }, StopPlaced = 7 { side trigger limit qty }, Triggered = 8, MassCancelled = 9 { count },
-        PhaseChanged = 10 (phase);
-    Outbound: LoginAccepted = 1 { account last_seq }, LoginRejected = 2 { reason }, Heartbeat = 3, Logout = 4 { reason },
-        Reject = 5 { reason client_ref }, Report = 6 (report), BookSnapshot = 7 { seq levels }, LevelUpdate = 8 (update),
-        TradeTick = 9 (tick), Balance = 10 (balance);
-}
-
-macro_rules! structs {
-    ($($type:ty: $($field:ident)*;)*) => {
-        $(impl Words for $type {
-            fn words(&self) -> Vec<u64> {
-                joined(&[$(&self.$field),*])
-            }
-        })*
-    };
-}
-
-structs! {
-    NewOrder: client_ref side qty kind;
-    protocol::Report: seq order_id client_ref kind;
-    protocol::LevelUpdate: seq side price qty orders;
-    protocol::TradeTick: seq trade_id side price qty;
-    protocol::Balance: cash position cash_held position_held;
-    Wallet: cash position cash_held position_held;
-}
-
-impl Words for Account {
-    fn words(&self) -> Vec<u64> {
-        let funds = self.funds.map_or(vec![0, 0, 0], |funds| vec![1, funds.cash as u64, funds.position as u64]);
-        [joined(&[&self.id, &self.token, &self.max_open_orders, &self.messages_per_second]), funds].concat()
-    }
-}
-
-/// A close is of kind 0.
-fn mail(mail: &Mail) -> [u64; ROW] {
-    match mail {
-        Mail::Send(session, message) => row(&[], &[session, message]),
-        Mail::Close(session) => row(&[], &[session]),
-    }
-}
-
-/// Kind, number, owner, side, price, quantity, time in force, option of a display, trigger, option of a limit.
-fn command(command: &Command) -> [u64; ROW] {
-    match *command {
-        Command::Limit { id, owner, side, price, qty, tif, display } => row(&[0], &[&id, &owner, &side, &price, &qty, &tif, &display]),
-        Command::Market { id, owner, side, qty } => row(&[1], &[&id, &owner, &side, &0u64, &qty]),
-        Command::Cancel { id, owner } => row(&[2], &[&id, &owner]),
-        Command::Modify { id, owner, price, qty } => row(&[3], &[&id, &owner, &0u64, &price, &qty]),
-        Command::Stop { id, owner, side, trigger, limit, qty } => {
-            let none = [0u64; 3];
-            row(&[4], &[&id, &owner, &side, &0u64, &qty, &none[0], &none[1], &none[2], &trigger, &limit])
-        }
-        Command::CancelAll { owner } => row(&[5], &[&0u64, &owner]),
-        Command::SetPhase { phase } => row(&[6], &[&0u64, &0u64, &phase]),
-    }
-}
-
-/// 0 for an order and 1 for a stop; number, owner, side, option of a price, leaves, and what an order shows.
-fn listed(entry: &Listed) -> [u64; LISTED] {
-    match entry {
-        Listed::Order(order) => {
-            row(&[0], &[&order.id, &order.owner, &order.side, &1u64, &order.price, &order.leaves, &order.visible])
-        }
-        Listed::Stop(stop) => row(&[1], &[&stop.id, &stop.owner, &stop.side, &stop.limit, &stop.qty]),
-    }
-}
-
-fn level((price, level): &(i64, Level)) -> [u64; LEVEL] {
-    row(&[], &[price, &level.qty, &level.orders])
-}
-
-impl Call {
-    /// Its number in the file, its name, and the words of its arguments.
-    fn named(&self) -> (u64, &'static str, Vec<u64>) {
-        let parts: (u64, &str, &[&dyn Words]) = match self {
-            Call::AddAccount(account) => (1, "add-account", &[account]),
-            Call::Connect(session, now) => (2, "connect", &[session, now]),
-            Call::Collar(percent) => (3, "set-paper-collar", &[percent]),
-            Call::Wallet(account) => (4, "wallet", &[account]),
-            Call::LastSeq => (5, "last-seq", &[]),
-            Call::Levels(side) => (6, "depth-levels", &[side]),
-            Call::Receive(session, message, now) => (7, "receive-from", &[session, now, message]),
-            Call::Tick(now) => (8, "tick", &[now]),
-            Call::Publish => (9, "publish", &[]),
-            Call::End(session, reason) => (10, "end-session", &[session, reason]),
-            Call::ShutDown => (11, "shut-down", &[]),
-            Call::Disconnect(session) => (12, "disconnect", &[session]),
-            Call::Detach(session) => (13, "detach", &[session]),
-            Call::TakeBatch => (14, "take-batch", &[]),
-            Call::Deliver(number, event) => (15, "deliver-event", &[number, event]),
-            Call::ReplayCommand(number, _) => (16, "replay-command", &[number]),
-            Call::ReplayEvent(number, event) => (17, "replay-event", &[number, event]),
-            Call::Finish(_) => (18, "finish", &[]),
-            Call::Checkpoint => (19, "checkpoint", &[]),
-        };
-        (parts.0, parts.1, joined(parts.2))
-    }
-
-    pub fn name(&self) -> &'static str {
-        self.named().1
-    }
-}
-
 /// Whose call it is: the first gateway's, the second's, or the second's with the two compared after it.
 #[derive(Clone, Copy)]
-pub enum Gateway {
+pub enum Whose {
     First,
     Second,
     Both,
 }
 
-impl Gateway {
+impl Whose {
     /// A call's number in the file.
     fn number(self, call: u64) -> u64 {
         match self {
-            Gateway::First => call,
-            Gateway::Second => 32 + call,
-            Gateway::Both => 64 + call,
+            Whose::First => call,
+            Whose::Second => 32 + call,
+            Whose::Both => 64 + call,
         }
     }
 }
@@ -269,26 +68,31 @@ impl File {
         let none = Vec::new();
         let (number, limit, last, timing, accounts, listing, saved) = match start {
             Start::SetUp(limit, last, accounts, listing, timing) => (0, limit, *last, timing, accounts, listing, Vec::new()),
-            Start::Restore(limit, accounts, timing, saved) => (20, limit, 0, timing, accounts, &none, bytes(saved)),
-            Start::Malformed(limit, accounts, timing, bytes) => (20, limit, 0, timing, accounts, &none, bytes.clone()),
+            Start::Restore(limit, accounts, timing, bytes) => (20, limit, 0, timing, accounts, &none, bytes.clone()),
         };
-        let gateway = if second && code == 0 { Gateway::Both } else if second { Gateway::Second } else { Gateway::First };
+        let gateway = if second && code == 0 {
+            Whose::Both
+        } else if second {
+            Whose::Second
+        } else {
+            Whose::First
+        };
         let rows = if number == 0 { listing.len() } else { saved.len() };
         let parts: &[&dyn Words] = &[&u64::from(code), &rows, &accounts.len(), limit, &last, &timing.heartbeat, &timing.idle_timeout];
         self.words.extend(row::<CALL>(&[gateway.number(number), 0], parts));
         for account in accounts {
             self.words.extend(row::<CALL>(&[], &[account]));
         }
-        self.words.extend(listing.iter().flat_map(listed));
+        self.words.extend(listing.iter().flat_map(words::listed));
         self.words.extend(packed(&saved));
         self.run = None;
-        let name = if number == 0 { "set-up" } else { "restore" };
+        let name = start.name();
         self.meets(format!("{name} code {code}{}", if second { " of a second gateway" } else { "" }));
     }
 
     /// A call with `room` places lent, and what it gave.
-    pub fn call(&mut self, call: &Call, room: usize, seen: &Seen, gateway: Gateway) {
-        let (number, name, mut words) = call.named();
+    pub fn call(&mut self, call: &Call, room: usize, seen: &Seen, gateway: Whose) {
+        let ((number, name), mut words) = (call.numbered(), arguments(call));
         let number = gateway.number(number);
         let most = match call {
             Call::Levels(_) => MOST / (8 * LEVEL),
@@ -305,15 +109,15 @@ impl File {
                 Answer::Account(account) => words.extend(account.words()),
                 Answer::Wallet(wallet) => words.extend(wallet.map_or(vec![0], |wallet| [vec![1], wallet.words()].concat())),
                 Answer::Number(number) => words.push(*number),
-                Answer::Levels(levels) => rows.extend(levels.iter().flat_map(level)),
-                Answer::Commands(commands) => rows.extend(commands.iter().flat_map(command)),
+                Answer::Levels(levels) => rows.extend(levels.iter().flat_map(words::level)),
+                Answer::Commands(commands) => rows.extend(commands.iter().flat_map(words::command)),
                 Answer::Bytes(bytes) => rows.extend(packed(bytes)),
             }
-            rows.extend(mails.iter().flat_map(mail));
+            rows.extend(mails.iter().flat_map(words::mail));
         }
         let (count, given): (usize, Vec<u64>) = match call {
-            Call::ReplayCommand(_, given) => (1, command(given).to_vec()),
-            Call::Finish(listing) => (listing.len(), listing.iter().flat_map(listed).collect()),
+            Call::ReplayCommand(_, given) => (1, words::command(given).to_vec()),
+            Call::Finish(listing) => (listing.len(), listing.iter().flat_map(words::listed).collect()),
             _ => (places, Vec::new()),
         };
         words.resize(CALL - 4, 0);
@@ -323,7 +127,7 @@ impl File {
             self.run = (count == 0).then_some(Run { row: head, times: 0, grows: None });
         }
         match gateway {
-            Gateway::First => self.count(call, name, code, seen),
+            Whose::First => self.count(call, name, code, seen),
             _ => self.meets(format!("second gateway: {name}")),
         }
     }

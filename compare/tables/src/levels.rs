@@ -1,9 +1,9 @@
 //! The levels of a side: about 120 of them, at prices drawn from a range of 2,000.
 
-use crate::bench::{Table, in_turns, time_each, time_parts};
 use crate::proved::State;
 use crate::random::Random;
 use crate::standard::{Levels, Side};
+use crate::timing::{Table, in_turns, time_each, time_parts};
 
 pub const LEVELS: usize = 120;
 

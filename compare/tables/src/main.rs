@@ -8,6 +8,7 @@ mod orders;
 mod proved;
 mod random;
 mod standard;
+mod timing;
 
 use std::process::ExitCode;
 

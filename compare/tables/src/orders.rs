@@ -3,10 +3,10 @@
 
 use std::collections::HashSet;
 
-use crate::bench::{Table, in_turns, time_each, time_parts};
 use crate::proved::State;
 use crate::random::{Draw, Random};
 use crate::standard::{Live, Orders};
+use crate::timing::{Table, in_turns, time_each, time_parts};
 
 pub const LIVE: usize = 950;
 

@@ -1,14 +1,16 @@
-//! Draws starts and calls: mostly sensible ones, for the state that the rule follows.
+//! Draws starts and calls: mostly sensible ones, for the state of the model.
 
 use std::collections::{BTreeMap, VecDeque};
 
 use gateway::accounts::{Account, Funds};
-use gateway::exchange::{Checkpoint, Exchange, SavedOrder, SavedWallet, Timing};
+use gateway::exchange::{Checkpoint, SavedOrder, SavedWallet, Timing};
 use orderbook::{CancelReason, Command, Event, Order, OrderId, Phase, RejectReason, Side, Stop, TimeInForce};
 use protocol::{Inbound, LogoutReason, NewOrder, OrderKind, VERSION};
 
-use crate::exchange::{Call, Listed, Start, bytes};
-use crate::rule::{Live, Rule, command, resting};
+use crate::bytes::encode;
+use crate::call::{Call, Listed, Start, placing};
+use crate::depth::Resting;
+use crate::state::{Live, Model};
 
 /// What lists dwell on.
 #[derive(Clone, Copy)]
@@ -60,6 +62,12 @@ pub struct Draw {
     pub theme: Theme,
     /// For the player: the calls to draw, by their names. `set-up` lists orders, `restore` begins lists and restarts gateways.
     pub only: Option<Vec<String>>,
+    /// Accounts and sessions are drawn from all that document 01 has room for.
+    pub wide: bool,
+    /// There is room for many lists.
+    pub many: bool,
+    /// Between a replay and `finish` all calls are drawn.
+    pub freely: bool,
     clock: u64,
     /// The last call was an event.
     delivers: bool,
@@ -71,7 +79,18 @@ pub struct Draw {
 
 impl Draw {
     pub fn new(seed: u64) -> Draw {
-        Draw { state: seed, theme: Theme::Money, only: None, clock: 0, delivers: false, planned: VecDeque::new(), damaged: BTreeMap::new() }
+        Draw {
+            state: seed,
+            theme: Theme::Money,
+            only: None,
+            wide: false,
+            many: false,
+            freely: false,
+            clock: 0,
+            delivers: false,
+            planned: VecDeque::new(),
+            damaged: BTreeMap::new(),
+        }
     }
 
     /// SplitMix64.
@@ -83,12 +102,17 @@ impl Draw {
         word ^ (word >> 31)
     }
 
+    pub fn bits(&mut self) -> u64 {
+        self.word()
+    }
+
     pub fn below(&mut self, bound: u64) -> u64 {
         self.word() % bound.max(1)
     }
 
     /// An account's number, mostly below `usual`.
     fn mostly(&mut self, usual: u64, seldom: u64) -> u32 {
+        let (usual, seldom) = if self.wide { (256, 258) } else { (usual, seldom) };
         let bound = if self.chance(8) { seldom } else { usual };
         self.below(bound) as u32
     }
@@ -112,13 +136,13 @@ impl Draw {
         weights.iter().position(fits).expect("a weight")
     }
 
-    fn shuffle<T>(&mut self, items: &mut [T]) {
+    pub fn shuffle<T>(&mut self, items: &mut [T]) {
         for at in 1..items.len() {
             items.swap(at, self.below(at as u64 + 1) as usize);
         }
     }
 
-    fn side(&mut self) -> Side {
+    pub fn side(&mut self) -> Side {
         self.pick(&[Side::Buy, Side::Sell])
     }
 
@@ -127,7 +151,7 @@ impl Draw {
         self.below(if matches!(self.theme, Theme::Ends) { 4 } else { 60 })
     }
 
-    fn price(&mut self) -> i64 {
+    pub fn price(&mut self) -> i64 {
         match self.seldom() {
             0 => self.pick(&[0, -1, -60, -(1 << 62), i64::MIN]),
             1 => self.pick(&[1, 1 << 61, 1 << 62, 1 << 62, i64::MAX]),
@@ -135,7 +159,7 @@ impl Draw {
         }
     }
 
-    fn qty(&mut self) -> u64 {
+    pub fn qty(&mut self) -> u64 {
         match self.seldom() {
             0..2 => self.pick(&[0, 1 << 62, i64::MAX as u64, i64::MAX as u64, 1 << 63, u64::MAX]),
             _ => 1 + self.below(6),
@@ -147,7 +171,10 @@ impl Draw {
     }
 
     /// Times mostly rise a little, or by about the silence that timing allows.
-    fn time(&mut self) -> u64 {
+    pub fn time(&mut self) -> u64 {
+        if self.many && self.below(2000) == 0 {
+            return self.pick(&[0, 1 << 32, 1 << 63, u64::MAX]);
+        }
         let slow = !matches!(self.theme, Theme::Sessions);
         self.clock = match self.below(20) {
             0 if slow => self.clock.saturating_sub(self.below(2_000_000_000)),
@@ -159,7 +186,7 @@ impl Draw {
         self.clock
     }
 
-    fn account(&mut self, id: u32) -> Account {
+    pub fn account(&mut self, id: u32) -> Account {
         let paper = self.chance(if matches!(self.theme, Theme::Money | Theme::Ends) { 75 } else { 45 });
         let mut amount = |usual: u64| match self.seldom() {
             0..2 => self.pick(&[0, -5, i64::MAX, i64::MIN, 1 << 62]),
@@ -204,8 +231,8 @@ impl Draw {
         Timing { heartbeat, idle_timeout }
     }
 
-    fn entry(&mut self, id: OrderId, live: Live) -> Listed {
-        let Live { account: owner, side, price, leaves } = live;
+    pub fn entry(&mut self, id: OrderId, live: Live) -> Listed {
+        let Live { account: owner, side, price, leaves, .. } = live;
         match price {
             Some(price) if self.chance(80) => {
                 let visible = if self.chance(30) { leaves.min(1 + self.below(3)) } else { leaves };
@@ -218,7 +245,7 @@ impl Draw {
     fn live(&mut self) -> Live {
         let account = if matches!(self.theme, Theme::Ends) { self.mostly(2, 4) } else { self.mostly(4, 5) };
         let price = self.chance(85).then(|| self.price());
-        Live { account, side: self.side(), price, leaves: self.qty() }
+        Live { account, client_ref: 0, side: self.side(), price, leaves: self.qty() }
     }
 
     /// A start; a restore goes on from what is `saved`.
@@ -232,8 +259,8 @@ impl Draw {
             _ => false,
         };
         let full = matches!(self.theme, Theme::Full(_));
-        // The player's file has room for more starts that are refused.
-        let odd = if self.only.is_some() { 4 } else { 1 };
+        // The checker's file has room for few starts that are refused.
+        let odd = if self.only.is_some() || self.many { 4 } else { 1 };
         let limit = if !full && self.chance(2 * odd) { self.pick(&[0, 1, 257]) } else { 4 };
         let (accounts, timing) = (self.accounts(), self.timing());
         let last = if !full && self.chance(3) { u64::MAX } else { self.below(8) };
@@ -262,7 +289,7 @@ impl Draw {
             let wallet = |account: u32| SavedWallet { account, cash: 700, position: -3 };
             let wallets = wallets.map(wallet).collect();
             let order = |id: OrderId| {
-                let Live { account, side, price, leaves } = self.live();
+                let Live { account, side, price, leaves, .. } = self.live();
                 let id = if last < 7 && id == last && self.chance(5 * odd) { id + 1 } else { id };
                 SavedOrder { id, account, client_ref: 70 + id, buy: side == Side::Buy, price, leaves }
             };
@@ -270,7 +297,7 @@ impl Draw {
             (accounts, Checkpoint { seq: last, wallets, orders, market_price: self.limit() })
         });
         if self.only.is_none() && self.chance(8) {
-            let mut bytes = bytes(&saved);
+            let mut bytes = encode(&saved);
             match self.below(4) {
                 0 => drop(bytes.pop()),
                 1 => bytes.push(0),
@@ -278,9 +305,9 @@ impl Draw {
                 _ if saved.market_price.is_none() => bytes[9] = 1,
                 _ => bytes.truncate(self.below(24) as usize),
             }
-            return Start::Malformed(limit, accounts, timing, bytes);
+            return Start::Restore(limit, accounts, timing, bytes);
         }
-        Start::Restore(limit, accounts, timing, saved)
+        Start::Restore(limit, accounts, timing, encode(&saved))
     }
 
     fn new_order(&mut self, wallet: bool) -> NewOrder {
@@ -298,41 +325,41 @@ impl Draw {
     }
 
     /// An order's number: mostly a live one's.
-    fn order(&mut self, rule: &Rule) -> OrderId {
-        let live: Vec<OrderId> = rule.live.keys().copied().collect();
+    pub fn order(&mut self, model: &Model) -> OrderId {
+        let live: Vec<OrderId> = model.live.keys().copied().collect();
         if live.is_empty() || self.chance(6) {
-            return self.below(rule.last.saturating_add(2));
+            return self.below(model.last.saturating_add(2));
         }
         self.pick(&live)
     }
 
-    fn message(&mut self, rule: &Rule, exchange: &Exchange, account: u32) -> Inbound {
-        let order_id = self.order(rule);
+    fn message(&mut self, model: &Model, account: u32) -> Inbound {
+        let order_id = self.order(model);
         match self.weigh(&[50, 10, 8, 6, 10, 3, 3, 3]) {
-            0 => Inbound::NewOrder(self.new_order(rule.has_wallet(account))),
+            0 => Inbound::NewOrder(self.new_order(model.has_wallet(account))),
             1 => Inbound::Cancel { order_id },
             2 => Inbound::Modify { order_id, price: self.price(), qty: self.qty() },
             3 => Inbound::MassCancel,
             4 => Inbound::Subscribe,
             5 => Inbound::Heartbeat,
             6 => Inbound::Logout,
-            _ => self.login(rule, exchange),
+            _ => self.login(model),
         }
     }
 
-    fn login(&mut self, rule: &Rule, exchange: &Exchange) -> Inbound {
+    fn login(&mut self, model: &Model) -> Inbound {
         let account = self.mostly(4, 6);
-        let taken = |account: u32| rule.sessions.iter().any(|&session| exchange.account_of(session) == Some(account));
+        let taken = |account: u32| model.session_of(account).is_some();
         let odd = if matches!(self.theme, Theme::Sessions) { 15 } else { 4 };
         let account = if taken(account) && !self.chance(2 * odd) { (account + 1) % 3 } else { account };
-        let token = rule.accounts.get(&account).map_or(0, |account| account.token) + u64::from(self.chance(odd));
+        let token = model.members.get(&account).map_or(0, |member| member.account.token) + u64::from(self.chance(odd));
         Inbound::Login { version: if self.chance(odd) { 2 } else { VERSION }, account, token }
     }
 
     /// A session: mostly one that is logged in.
-    fn session(&mut self, rule: &Rule, exchange: &Exchange) -> usize {
-        let sessions: Vec<usize> = rule.sessions.iter().copied().collect();
-        let logged_in: Vec<usize> = sessions.iter().copied().filter(|&session| exchange.account_of(session).is_some()).collect();
+    fn session(&mut self, model: &Model) -> usize {
+        let sessions: Vec<usize> = model.sessions.keys().copied().collect();
+        let logged_in: Vec<usize> = sessions.iter().copied().filter(|&session| model.account_of(session).is_some()).collect();
         match self.below(100) {
             0..85 if !logged_in.is_empty() => self.pick(&logged_in),
             0..96 if !sessions.is_empty() => self.pick(&sessions),
@@ -340,31 +367,31 @@ impl Draw {
         }
     }
 
-    fn receive(&mut self, rule: &Rule, exchange: &Exchange) -> Call {
-        let session = self.session(rule, exchange);
-        let message = match exchange.account_of(session) {
-            None if self.chance(94) => self.login(rule, exchange),
-            account => self.message(rule, exchange, account.unwrap_or(0)),
+    fn receive(&mut self, model: &Model) -> Call {
+        let session = self.session(model);
+        let message = match model.account_of(session) {
+            None if self.chance(94) => self.login(model),
+            account => self.message(model, account.unwrap_or(0)),
         };
         Call::Receive(session, message, self.time())
     }
 
     /// An event, mostly of a number in flight and about its order.
-    fn event(&mut self, rule: &Rule, exchange: &Exchange) -> (u64, Event) {
-        let resting = resting(exchange.depth());
-        let at = self.below(2).min(rule.flights.len().saturating_sub(1) as u64) as usize;
-        let flight = rule.flights.get(at).copied();
+    fn event(&mut self, model: &Model, depth: &dyn Resting) -> (u64, Event) {
+        let resting = depth.resting();
+        let at = self.below(2).min(model.flights.len().saturating_sub(1) as u64) as usize;
+        let flight = model.flights.get(at).map(|flight| (flight.number, flight.places));
         let (number, places) = match flight {
             Some(flight) if !self.chance(3) => flight,
-            _ => (self.below(rule.last.saturating_add(3)), false),
+            _ => (self.below(model.last.saturating_add(3)), false),
         };
-        let own = places && rule.live.contains_key(&number);
+        let own = places && model.live.contains_key(&number);
         let id = match self.below(100) {
             0..3 => number.saturating_add(1),
             3..70 if own => number,
-            _ => self.order(rule),
+            _ => self.order(model),
         };
-        let live = rule.live.get(&id).copied().unwrap_or_else(|| self.live());
+        let live = model.live.get(&id).copied().unwrap_or_else(|| self.live());
         let side = if self.chance(4) { live.side.opposite() } else { live.side };
         let price = live.price.filter(|_| !self.chance(10)).unwrap_or_else(|| self.price());
         let leaves = if self.chance(8) { self.qty() } else { live.leaves };
@@ -378,11 +405,10 @@ impl Draw {
         };
         let event = match self.weigh(&weights) {
             0 => Event::Accepted { id },
-            1 => Event::Rejected {
-                id,
-                reason: self.pick(&[RejectReason::UnknownOrder, RejectReason::BookFull, RejectReason::MarketClosed]),
-            },
-            2 => self.trade(rule, &resting, id, Live { side, price: Some(price), leaves, ..live }),
+            1 => {
+                Event::Rejected { id, reason: self.pick(&[RejectReason::UnknownOrder, RejectReason::BookFull, RejectReason::MarketClosed]) }
+            }
+            2 => self.trade(model, &resting, id, Live { side, price: Some(price), leaves, ..live }),
             3 => Event::Rested { id, side, price, qty: leaves, visible },
             4 => Event::Replenished { id, side, price, visible: self.qty() },
             5 => Event::Cancelled {
@@ -404,17 +430,17 @@ impl Draw {
     }
 
     /// A trade of `taker` with another order, mostly one that rests on the other side.
-    fn trade(&mut self, rule: &Rule, resting: &BTreeMap<OrderId, Order>, taker: OrderId, live: Live) -> Event {
+    fn trade(&mut self, model: &Model, resting: &BTreeMap<OrderId, Order>, taker: OrderId, live: Live) -> Event {
         let (taker_side, leaves) = (live.side, live.leaves);
         let makers = resting.values().filter(|order| order.id != taker && order.side != taker_side);
         let makers: Vec<OrderId> = makers.map(|order| order.id).collect();
-        let others: Vec<OrderId> = rule.live.keys().copied().filter(|&id| id != taker).collect();
+        let others: Vec<OrderId> = model.live.keys().copied().filter(|&id| id != taker).collect();
         let maker = match self.below(100) {
             0..80 if !makers.is_empty() => self.pick(&makers),
             0..96 if !others.is_empty() => self.pick(&others),
-            _ => self.order(rule),
+            _ => self.order(model),
         };
-        let left = rule.live.get(&maker).map_or(3, |live| live.leaves);
+        let left = model.live.get(&maker).map_or(3, |live| live.leaves);
         let shown = |id: OrderId| resting.get(&id).map_or(u64::MAX, |order| order.visible);
         let most = leaves.min(left).min(shown(maker)).min(shown(taker));
         let qty = if self.chance(60) || most == 0 { most } else { 1 + self.below(most) };
@@ -431,14 +457,14 @@ impl Draw {
         }
     }
 
-    fn replay_command(&mut self, rule: &Rule) -> Call {
-        let number = rule.last.wrapping_add(if self.chance(3) { 2 } else { 1 });
+    fn replay_command(&mut self, model: &Model) -> Call {
+        let number = model.last.wrapping_add(if self.chance(3) { 2 } else { 1 });
         let owner = self.mostly(4, 6);
-        let id = self.order(rule);
+        let id = self.order(model);
         let command = match self.weigh(&[70, 8, 8, 6, 5]) {
             0 => {
                 let id = if self.chance(3) { id } else { number };
-                command(id, owner, &self.new_order(rule.has_wallet(owner)))
+                placing(id, owner, &self.new_order(model.has_wallet(owner)))
             }
             1 => Command::Cancel { id, owner },
             2 => Command::Modify { id, owner, price: self.price(), qty: self.qty() },
@@ -448,8 +474,8 @@ impl Draw {
         Call::ReplayCommand(number, command)
     }
 
-    pub fn finish(&mut self, rule: &Rule) -> Call {
-        let mut listing: Vec<Listed> = rule.live.iter().map(|(&id, &live)| self.entry(id, live)).collect();
+    pub fn finish(&mut self, model: &Model) -> Call {
+        let mut listing: Vec<Listed> = model.live.iter().map(|(&id, &live)| self.entry(id, live)).collect();
         if self.chance(20) {
             let live = self.live();
             let id = self.below(9);
@@ -462,7 +488,7 @@ impl Draw {
         Call::Finish(listing)
     }
 
-    fn plan_login(&mut self, session: usize, login: Inbound) {
+    pub fn plan_login(&mut self, session: usize, login: Inbound) {
         let calls = [Call::Connect(session, self.time()), Call::Receive(session, login, self.time())];
         self.planned.extend(calls);
     }
@@ -543,7 +569,7 @@ impl Draw {
     }
 
     /// What may follow an accepted call.
-    pub fn plan_after(&mut self, call: &Call, rule: &Rule, exchange: &Exchange) {
+    pub fn plan_after(&mut self, call: &Call, model: &Model) {
         self.delivers = matches!(call, Call::Deliver(..));
         match call {
             Call::Finish(_) if self.chance(70) => {
@@ -552,7 +578,7 @@ impl Draw {
             }
             Call::Disconnect(session) if matches!(self.theme, Theme::Full(_)) => self.plan_member(*session as u32 - 1),
             Call::Detach(session) | Call::Disconnect(session) if *session < 9 && self.chance(40) => {
-                let login = self.login(rule, exchange);
+                let login = self.login(model);
                 self.plan_login(*session, login);
             }
             _ => {}
@@ -560,21 +586,21 @@ impl Draw {
     }
 
     /// The end of some lists: all is delivered and a checkpoint taken.
-    pub fn plan_checkpoint(&mut self, rule: &Rule) {
+    pub fn plan_checkpoint(&mut self, model: &Model) {
         let event = Event::PhaseChanged { phase: Phase::Closed };
-        let last = if rule.replaying { Call::ReplayEvent(rule.last, event) } else { Call::Deliver(rule.last, event) };
+        let last = if model.replaying { Call::ReplayEvent(model.last, event) } else { Call::Deliver(model.last, event) };
         self.planned.extend([Call::TakeBatch, last, Call::Checkpoint]);
     }
 
     /// An order or another command of an account, which a limit alone refuses.
-    fn entry_of(&mut self, rule: &Rule, account: u32, others: bool) -> Call {
+    pub fn entry_of(&mut self, model: &Model, account: u32, others: bool) -> Call {
         let kind = match self.weigh(if account == 0 && others { &[40, 5, 5] } else { &[1, 0, 0] }) {
             0 => OrderKind::Limit { price: 1 + self.below(9) as i64, tif: TimeInForce::Gtc, display: None },
             1 => OrderKind::Market,
             _ => OrderKind::Stop { trigger: self.price(), limit: self.limit() },
         };
         let new = Inbound::NewOrder(NewOrder { client_ref: self.below(90), side: self.side(), qty: 1 + self.below(6), kind });
-        let order_id = self.order(rule);
+        let order_id = self.order(model);
         let message = match self.weigh(if others { &[80, 8, 8, 4] } else { &[1, 0, 0, 0] }) {
             1 => Inbound::Cancel { order_id },
             2 if account == 0 => Inbound::Modify { order_id, price: self.price(), qty: self.qty() },
@@ -585,35 +611,35 @@ impl Draw {
     }
 
     /// A call on the way to a limit, or at it.
-    fn full_call(&mut self, limit: Limit, rule: &Rule) -> Call {
-        let (first, last) = (rule.flights.first().map_or(0, |flight| flight.0), rule.last);
+    fn full_call(&mut self, limit: Limit, model: &Model) -> Call {
+        let (first, last) = (model.flights.front().map_or(0, |flight| flight.number), model.last);
         let account = self.below(2) as u32;
         let accepted = |number: u64| Call::Deliver(number, Event::Accepted { id: number });
-        let oldest = rule.live.range(first..).next().map(|(&id, _)| id);
+        let oldest = model.live.range(first..).next().map(|(&id, _)| id);
         match limit {
-            Limit::Commands if rule.is_full() || self.chance(2) => match self.below(9) {
+            Limit::Commands if model.full().is_some() || self.chance(2) => match self.below(9) {
                 0 => Call::TakeBatch,
                 1 if first > 0 => accepted(first + self.below(last - first + 1)),
                 2 => Call::Disconnect(account as usize + 1),
-                _ => self.entry_of(rule, account, true),
+                _ => self.entry_of(model, account, true),
             },
-            Limit::Commands => self.entry_of(rule, account, true),
-            _ if rule.batch > 200 => Call::TakeBatch,
-            Limit::Orders if rule.flights.len() > 200 => accepted(last),
-            Limit::Orders => self.entry_of(rule, 0, false),
+            Limit::Commands => self.entry_of(model, account, true),
+            _ if model.batch.len() > 200 => Call::TakeBatch,
+            Limit::Orders if model.flights.len() > 200 => accepted(last),
+            Limit::Orders => self.entry_of(model, 0, false),
             Limit::Notices | Limit::Feed => match oldest {
-                Some(id) if rule.flights.len() > 200 || self.delivers && rule.flights.len() > 1 => {
+                Some(id) if model.flights.len() > 200 || self.delivers && model.flights.len() > 1 => {
                     Call::Deliver(id, Event::Cancelled { id, qty: 1, reason: CancelReason::Requested })
                 }
-                _ => self.entry_of(rule, 1, false),
+                _ => self.entry_of(model, 1, false),
             },
         }
     }
 
     /// The next call, of those that are drawn.
-    pub fn call(&mut self, rule: &Rule, exchange: &Exchange) -> Call {
+    pub fn call(&mut self, model: &Model, depth: &dyn Resting) -> Call {
         loop {
-            let call = self.any_call(rule, exchange);
+            let call = self.any_call(model, depth);
             if self.draws(call.name()) {
                 return call;
             }
@@ -631,7 +657,7 @@ impl Draw {
 
     /// Bytes of a checkpoint that no longer are one, and what is wrong with them: of the ways that it has, the one least used.
     pub fn damage(&mut self, saved: &Checkpoint) -> (&'static str, Vec<u8>) {
-        let whole = bytes(saved);
+        let whole = encode(saved);
         let (wallets, orders) = (saved.wallets.len(), saved.orders.len());
         let (wallet, order) = (|at: usize| 21 + 20 * at, |at: usize| 25 + 20 * wallets + 37 * at);
         let put = |from: usize, new: &[u8]| {
@@ -670,20 +696,20 @@ impl Draw {
         way
     }
 
-    fn any_call(&mut self, rule: &Rule, exchange: &Exchange) -> Call {
+    fn any_call(&mut self, model: &Model, depth: &dyn Resting) -> Call {
         if let Some(call) = self.planned.pop_front() {
             return call;
         }
         if let Theme::Full(limit) = self.theme {
-            return self.full_call(limit, rule);
+            return self.full_call(limit, model);
         }
-        let events = if rule.flights.is_empty() { 2 } else { 60 };
-        let (joins, replays) = if rule.sessions.is_empty() { (40, 60) } else { (3, 1) };
+        let events = if model.flights.is_empty() { 2 } else { 60 };
+        let (joins, replays) = if model.sessions.is_empty() { (40, 60) } else { (3, 1) };
         // connect receive deliver publish tick end shut-down disconnect detach take-batch levels wallet last-seq collar
         // add-account checkpoint finish replay-command replay-event
         let weights: [u64; 19] = match self.theme {
             // While the Rust's depth is not document 01's, nothing that shows it.
-            _ if rule.replaying => [2, 0, 0, 0, 0, 0, 0, 0, 2, 0, 0, 8, 3, 2, 2, 3, 12, 30, 50],
+            _ if model.replaying && !self.freely => [2, 0, 0, 0, 0, 0, 0, 0, 2, 0, 0, 8, 3, 2, 2, 3, 12, 30, 50],
             Theme::Money => [joins, 50, events, 10, 1, 1, 0, 1, 1, 4, 1, 12, 1, 3, 1, 3, 0, 0, 0],
             Theme::Market => [joins, 30, 2 * events, 24, 1, 1, 0, 1, 1, 3, 8, 2, 1, 0, 0, 1, 3, 0, 0],
             Theme::Sessions => [joins + 7, 50, events / 2, 8, 26, 4, 1, 6, 6, 3, 1, 1, 1, 1, 3, 1, 0, 1, 1],
@@ -691,21 +717,24 @@ impl Draw {
             Theme::Restart | Theme::Full(_) => [joins, 40, events, 12, 1, 1, 1, 3, 6, 6, 3, 6, 1, 1, 2, 6, 3, replays, 1],
         };
         match self.weigh(&weights) {
-            0 => Call::Connect(if self.chance(3) { self.pick(&[63, 64, 1000]) } else { self.below(4) as usize }, self.time()),
-            1 => self.receive(rule, exchange),
+            0 => {
+                let usual = if self.wide { 66 } else { 4 };
+                Call::Connect(if self.chance(3) { self.pick(&[63, 64, 1000]) } else { self.below(usual) as usize }, self.time())
+            }
+            1 => self.receive(model),
             2 => {
-                let (number, event) = self.event(rule, exchange);
+                let (number, event) = self.event(model, depth);
                 Call::Deliver(number, event)
             }
             3 => Call::Publish,
             4 => Call::Tick(self.time()),
             5 => {
                 let reasons = [LogoutReason::SlowConsumer, LogoutReason::ProtocolError, LogoutReason::Shutdown];
-                Call::End(self.session(rule, exchange), self.pick(&reasons))
+                Call::End(self.session(model), self.pick(&reasons))
             }
             6 => Call::ShutDown,
-            7 => Call::Disconnect(self.session(rule, exchange)),
-            8 => Call::Detach(self.session(rule, exchange)),
+            7 => Call::Disconnect(self.session(model)),
+            8 => Call::Detach(self.session(model)),
             9 => Call::TakeBatch,
             10 => Call::Levels(self.side()),
             11 => Call::Wallet(self.mostly(4, 300)),
@@ -716,10 +745,10 @@ impl Draw {
                 Call::AddAccount(self.account(id))
             }
             15 => Call::Checkpoint,
-            16 => self.finish(rule),
-            17 => self.replay_command(rule),
+            16 => self.finish(model),
+            17 => self.replay_command(model),
             _ => {
-                let (number, event) = self.event(rule, exchange);
+                let (number, event) = self.event(model, depth);
                 Call::ReplayEvent(number, event)
             }
         }

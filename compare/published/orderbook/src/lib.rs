@@ -2,7 +2,7 @@
 
 use std::collections::BTreeSet;
 
-#[path = "../../source/crates/orderbook/src/types.rs"]
+#[path = "../../../source/crates/orderbook/src/types.rs"]
 mod types;
 pub use types::*;
 
@@ -12,7 +12,7 @@ pub struct BookConfig {
 }
 
 /// A resting order.
-#[derive(Clone, Copy)]
+#[derive(Clone, Copy, Debug)]
 pub struct Order {
     pub id: OrderId,
     pub owner: OwnerId,
@@ -23,7 +23,7 @@ pub struct Order {
 }
 
 /// A pending stop.
-#[derive(Clone, Copy)]
+#[derive(Clone, Copy, Debug)]
 pub struct Stop {
     pub id: OrderId,
     pub owner: OwnerId,
