@@ -2,7 +2,8 @@
 use libc::STDOUT_FILENO;
 use playing::put;
 use playing::word;
-ghost use Prim.Native.Nat.{_≤_};
+ghost use Prim.Native.Nat.{_*_, _≤_};
+ghost use lib.ListN.{length};
 ghost use Rattle.edge.specs.Entering.{Lent};
 
 // ---- a start
@@ -14,11 +15,10 @@ fn read_account(fd: i32, to: &mut [u8]) {
     io::read_full(fd, &mut rest);
 }
 
-// The rows of n accounts, of 256 at most.
-fn read_accounts(fd: i32, n: usize) -> [u8; 14336]
-    requires { ⌜ n ≤ 256 ⌝ }
+// The rows of n accounts.
+fn read_accounts(fd: i32, rows: &mut [u8], n: usize)
+    requires { ⌜ 56 * n ≤ length (now rows) ⌝ }
 {
-    let mut rows = [0u8; 14336];
     let mut i: usize = 0;
     while i < n {
         let from = 56 * i;
@@ -26,7 +26,6 @@ fn read_accounts(fd: i32, n: usize) -> [u8; 14336]
         read_account(fd, &mut rows[from..to]);
         i += 1;
     }
-    rows
 }
 
 // ---- what differs
@@ -216,7 +215,8 @@ fn play_start(fd: i32, m: &mut [u8], row: [u8; 128]) -> bool
     ensures { λ r. ⌜ Lent (now (m .exit)) ⌝ }
 {
     let n = at_most(word(&row, 4), 256);
-    let accounts = read_accounts(fd, n);
+    let mut accounts = [0u8; 14336];
+    read_accounts(fd, &mut accounts, n);
     let rows = read_rows(fd, &row);
     let given = bytes_of(&row, word(&row, 3));
     let end = 56 * n;

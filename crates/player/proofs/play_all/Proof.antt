@@ -1,11 +1,13 @@
 use Prim.Native.Nat.{_-_}
+use mathlib.Core.Path.{_≡_}
+use lib.ListN.{length}
 use borrow.Author.Needs.{needs}
 use Rattle.edge.specs.Entering.{Lent}
 use Rattle.player.proofs.play_all.Statement.{statement}
 use Rattle.player.proofs.play_all.Tie as tie
 
 abbrev Inv-loop : tie.InvT-loop
-Inv-loop fd m₀ s₀ t₀ n₀ m s t n = Lent m × Lent s
+Inv-loop fd m₀ s₀ t₀ n₀ m s t n = Lent m × (length m ≡ length m₀) × Lent s × (length s ≡ length s₀)
 
 abbrev μ-loop : tie.MeasureT-loop
 μ-loop fd m₀ s₀ t₀ n₀ m s t n = 18446744073709551615 - n

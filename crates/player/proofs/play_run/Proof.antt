@@ -6,7 +6,7 @@ use Rattle.player.proofs.play_run.Statement.{statement}
 use Rattle.player.proofs.play_run.Tie as tie
 
 abbrev Inv-loop : tie.InvT-loop
-Inv-loop m₀ rows same₀ next₀ left₀ m same next left = Lent m × (length next ≡ 128)
+Inv-loop m₀ rows same₀ next₀ left₀ m same next left = Lent m × (length m ≡ length m₀) × (length next ≡ 128)
 
 abbrev μ-loop : tie.MeasureT-loop
 μ-loop m₀ rows same₀ next₀ left₀ m same next left = left

@@ -1,0 +1,106 @@
+use lib.ListN.{length-take}
+use native.Mathlib.Omega.{arith}
+use borrow.Author.Needs.{needs}
+use Rattle.player.proofs.play_start.Statement.{statement}
+use Rattle.player.proofs.play_start.Tie as tie
+
+slice-aggregate-word : tie.Need-slice-aggregate-word
+slice-aggregate-word c = search needs
+
+word-requires : tie.Need-word-requires
+word-requires c κs = search needs
+
+at-most-requires : tie.Need-at-most-requires
+at-most-requires c κs = search needs
+
+slice-aggregate-read-accounts : tie.Need-slice-aggregate-read-accounts
+slice-aggregate-read-accounts c = search needs
+
+read-accounts-requires : tie.Need-read-accounts-requires
+read-accounts-requires c κs = search needs
+
+slice-aggregate-read-rows : tie.Need-slice-aggregate-read-rows
+slice-aggregate-read-rows c = search needs
+
+read-rows-requires : tie.Need-read-rows-requires
+read-rows-requires c κs = search needs
+
+slice-aggregate-bytes-of : tie.Need-slice-aggregate-bytes-of
+slice-aggregate-bytes-of c = search needs
+
+slice-aggregate-word-2 : tie.Need-slice-aggregate-word-2
+slice-aggregate-word-2 c = search needs
+
+word-requires-2 : tie.Need-word-requires-2
+word-requires-2 c κs = search needs
+
+bytes-of-requires : tie.Need-bytes-of-requires
+bytes-of-requires c κs = search needs
+
+mul-end : tie.Need-mul-end
+mul-end c = search needs
+
+slice-aggregate-start : tie.Need-slice-aggregate-start
+slice-aggregate-start c = search needs
+
+array-share-prefix-accounts : tie.Need-array-share-prefix-accounts
+array-share-prefix-accounts c = search needs
+
+slice-aggregate-start-2 : tie.Need-slice-aggregate-start-2
+slice-aggregate-start-2 c = simp length-take (omega arith)
+
+array-share-prefix-rows : tie.Need-array-share-prefix-rows
+array-share-prefix-rows c = search needs
+
+slice-aggregate-start-3 : tie.Need-slice-aggregate-start-3
+slice-aggregate-start-3 c = simp length-take (omega arith)
+
+start-requires : tie.Need-start-requires
+start-requires c κs = search needs
+
+unanswered-requires : tie.Need-unanswered-requires
+unanswered-requires c κs = search needs
+
+slice-aggregate-put : tie.Need-slice-aggregate-put
+slice-aggregate-put c = search needs
+
+put-requires : tie.Need-put-requires
+put-requires c κs = search needs
+
+answers-requires : tie.Need-answers-requires
+answers-requires c κs = search needs
+
+same-length : tie.Need-same-length
+same-length c = search needs
+
+returns : tie.Need-returns
+returns c = search needs
+
+pub play-start-spec : {M : Type 1} → statement M
+play-start-spec =
+    tie.close
+    (tie.spec
+    slice-aggregate-word
+    word-requires
+    at-most-requires
+    slice-aggregate-read-accounts
+    read-accounts-requires
+    slice-aggregate-read-rows
+    read-rows-requires
+    slice-aggregate-bytes-of
+    slice-aggregate-word-2
+    word-requires-2
+    bytes-of-requires
+    mul-end
+    slice-aggregate-start
+    array-share-prefix-accounts
+    slice-aggregate-start-2
+    array-share-prefix-rows
+    slice-aggregate-start-3
+    start-requires
+    unanswered-requires
+    slice-aggregate-put
+    put-requires
+    answers-requires
+    same-length
+    returns)
