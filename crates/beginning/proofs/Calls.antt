@@ -108,7 +108,8 @@ module _ {M : Type 1} (𝓤 : URA M) (H : Heap 𝓤) (A : Atoms 𝓤) (mem : Mem
         use2 W (raw (Gather .pre to)) asks $ calls-at ! fm Gather known to os (λ w.
         use1 W (later (some (λ (r : Roster). ((‵ (token s) ⊛ ‵ ftrue) ⊛ ‵ (R.the-row .own r (w ∷ []))) ⊛ raw (End r)))) (id⊢ 𝓤 _) $ await ! tt $ pick ! (λ r.
         split ! $ move ! (1 ∷ []) $ use1 W (raw (fact 𝓤 (Entered r))) (said r) $ heard ! (Entered r) (λ e.
-        split ! $ move ! (1 ∷ []) $ facts ! R.the-row (Is R.the-row) (shows 𝓤 H A R.the-row) r (w ∷ []) (λ is. split ! $ move ! (1 ∷ []) $ let-go ! $ k w r e is))))
+        split ! $ move ! (1 ∷ []) $ facts ! R.the-row (Is R.the-row) (shows 𝓤 H A R.the-row) r (w ∷ []) (λ is.
+        split ! $ move ! (1 ∷ []) $ let-go ! $ k w r e is))))
 
   -- ---- what begins: any callee that is given the state m, the roster r and bytes, and begins as s says
   module _ (W : Given 𝓤 H A) (m g : Loan ℕ) (limit : ℕ) (r : Roster) (s : List Account → Started) where
@@ -131,7 +132,8 @@ module _ {M : Type 1} (𝓤 : URA M) (H : Heap 𝓤) (A : Atoms 𝓤) (mem : Mem
 
     -- a contract's `ensured`, at the last bytes zs
     pub ended-at : (n : ℕ) (k : ℕ) (zs : List ℕ)
-        → ent 𝓤 (⋆ 𝓤 H A (‵ (fsep (fsep (finally u8 (m .ref .name) zs) (feq ℕ (length zs) (length (m .ref .now)))) (nones n)) ∷ raw (fact 𝓤 (Begun k zs)) ∷ [])) (mean 𝓤 H A (some (Ended k)))
+        → ent 𝓤 (⋆ 𝓤 H A (‵ (fsep (fsep (finally u8 (m .ref .name) zs) (feq ℕ (length zs) (length (m .ref .now)))) (nones n)) ∷ raw (fact 𝓤 (Begun k zs)) ∷ []))
+        (mean 𝓤 H A (some (Ended k)))
     ended-at n k zs =
         qed W (‵ (fsep (fsep (finally u8 (m .ref .name) zs) (feq ℕ (length zs) (length (m .ref .now)))) (nones n)) ∷ raw (fact 𝓤 (Begun k zs)) ∷ []) ∵
         move ! (1 ∷ []) $ heard ! (Begun k zs) (λ did. fsplit ! $ fsplit ! $ move ! (1 ∷ []) $ feqL ! (λ len.
@@ -163,7 +165,8 @@ module _ {M : Type 1} (𝓤 : URA M) (H : Heap 𝓤) (A : Atoms 𝓤) (W : Given
     Left = ‵ (token m) ∷ ‵ (token s) ∷ ‵ (token g) ∷ ‵ (finally u8 (m .ref .name) zs) ∷ []
 
     pub leaves : (n k : ℕ) → k < 2 ^ 64
-        → ent 𝓤 (⋆ 𝓤 H A Left) (mean 𝓤 H A ((‵ (token m) ⊛ ‵ (token s) ⊛ ‵ (token g) ⊛ ‵ ftrue) ⊛ ‵ (fsep (finally u8 (m .ref .name) zs) (nones n)) ⊛ ‵ (u64 .own k (vint w64 k ∷ []))))
+        → ent 𝓤 (⋆ 𝓤 H A Left)
+        (mean 𝓤 H A ((‵ (token m) ⊛ ‵ (token s) ⊛ ‵ (token g) ⊛ ‵ ftrue) ⊛ ‵ (fsep (finally u8 (m .ref .name) zs) (nones n)) ⊛ ‵ (u64 .own k (vint w64 k ∷ []))))
     leaves n k fits =
         qed W Left ∵ nothing ! $ move ! (1 ∷ 2 ∷ 3 ∷ 0 ∷ []) $ group ! 4 $ frame ! $
         use0 W (‵ (nones n)) (none-had n) $ move ! (1 ∷ 0 ∷ []) $ fjoin ! $ frame ! $ owned ! u64 (Is u64) (uint-makes 𝓤 H A W w64) k _ (refl, fits) $ done !

@@ -70,7 +70,8 @@ module _ {M : Type 1} (𝓤 : URA M) (H : Heap 𝓤) (A : Atoms 𝓤) (mem : Mem
   One = tripleOf 𝓤 H A one.signature (one.spec 𝓤 H A mem run)
 
   -- the state, the accounts, the checkpoint
-  module _ (W : Given 𝓤 H A) (m : Loan ℕ) (s : Loan Account) (g : Loan ℕ) (limit : ℕ) (t : Timing) (limit-fits : limit < 2 ^ 64) (t-is : Is P.the-row t (timings t)) (holds : Holds (m .ref .now)) where
+  module _ (W : Given 𝓤 H A) (m : Loan ℕ) (s : Loan Account) (g : Loan ℕ) (limit : ℕ) (t : Timing)
+      (limit-fits : limit < 2 ^ 64) (t-is : Is P.the-row t (timings t)) (holds : Holds (m .ref .now)) where
     abbrev start : List Account → Started
     start l = restore limit l t (g .ref .now)
 
@@ -80,7 +81,16 @@ module _ {M : Type 1} (𝓤 : URA M) (H : Heap 𝓤) (A : Atoms 𝓤) (mem : Mem
       passed = (m .ref, (limit, (t, (r, (g .ref, tt)))))
 
       abbrev to : One .Ghost
-      to = (((m .κ, (g .κ, tt)), (m .q, (g .q, tt)), tt, passed, (slice-vals (m .ref), (vint w64 limit ∷ [], (timings t, (rosters r, (slice-vals (g .ref), tt)))))), tt)
+      to = (
+        (
+          (m .κ, (g .κ, tt)),
+          (m .q, (g .q, tt)),
+          tt,
+          passed,
+          (slice-vals (m .ref), (vint w64 limit ∷ [], (timings t, (rosters r, (slice-vals (g .ref), tt))))),
+        ),
+        tt,
+      )
 
       callee : Callee 𝓤 H A mem run W m g limit r start One to
       callee = record {
@@ -110,10 +120,12 @@ module _ {M : Type 1} (𝓤 : URA M) (H : Heap 𝓤) (A : Atoms 𝓤) (mem : Mem
     abbrev Post : Val → SProp 𝓤
     Post = walkOf 𝓤 H A all.ended stayed (all.clauses 𝓤 H A mem run) .post bound
 
-    exits : (k : ℕ) (zs : List ℕ) → k < 2 ^ 64 → length zs ≡ length (m .ref .now) → Starts (start (s .ref .now)) k (m .ref .now) zs → ent 𝓤 (⋆ 𝓤 H A (Left 𝓤 H A W m s g zs)) (Post (vint w64 k))
+    exits : (k : ℕ) (zs : List ℕ) → k < 2 ^ 64 → length zs ≡ length (m .ref .now) → Starts (start (s .ref .now)) k (m .ref .now) zs
+        → ent 𝓤 (⋆ 𝓤 H A (Left 𝓤 H A W m s g zs)) (Post (vint w64 k))
     exits k zs fits len did =
         qed W (Left 𝓤 H A W m s g zs) ∵
-        suffices ! _ (ends-at 𝓤 H A all.ended stayed (all.clauses 𝓤 H A mem run) W bound (vint w64 k) k (zs, (tt, (tt, (tt, (tt, tt))))) (len, (tt, (tt, (tt, (tt, tt)))))) $
+        suffices ! _ (ends-at 𝓤 H A all.ended stayed (all.clauses 𝓤 H A mem run) W bound (vint w64 k) k
+        (zs, (tt, (tt, (tt, (tt, tt))))) (len, (tt, (tt, (tt, (tt, tt)))))) $
         says ! did $ by ! (leaves 𝓤 H A W m s g zs 4 k fits)
 
     abbrev args : List Val
@@ -129,7 +141,8 @@ module _ {M : Type 1} (𝓤 : URA M) (H : Heap 𝓤) (A : Atoms 𝓤) (mem : Mem
         fsplit ! $ move ! (1 ∷ []) $ fsplit ! $ move ! (1 ∷ []) $ fsplit ! $ move ! (1 ∷ []) $ fsplit ! $ move ! (1 ∷ []) $ fsplit ! $
         -- [the checkpoint; …; the accounts; the timing; the limit; the state; the checkpoint's token; …; the accounts' token; the state's token]
         keep ! (2 ∷ 8 ∷ 5 ∷ 9 ∷ 0 ∷ 6 ∷ []) $ enter ! (𝓣 .C) (𝓣 .Λ) code.function args _ $
-        alloc1 ! (λ l₀. alloc1 ! (λ l₁. alloc1 ! (λ l₂. alloc1 ! (λ l₃. alloc1 ! (λ l₄. alloc1 ! (λ l₅. alloc1 ! (λ l₆. alloc1 ! (λ l₇. alloc1 ! (λ l₈. alloc0 ! $ params1 ! $
+        alloc1 ! (λ l₀. alloc1 ! (λ l₁. alloc1 ! (λ l₂. alloc1 ! (λ l₃. alloc1 ! (λ l₄.
+        alloc1 ! (λ l₅. alloc1 ! (λ l₆. alloc1 ! (λ l₇. alloc1 ! (λ l₈. alloc0 ! $ params1 ! $
         pass1 ! (init ! 14 refl (tt, (tt, (record { fits = room-m .0 }, tt)))) $ pass1 ! (init ! 12 refl (tt, record { fits = limit-fits })) $
         pass1 ! (init ! 10 refl (LL.lawful P.the-type P′.the-laws 𝓤 H A W .typed t _ t-is .0)) $
         pass1 ! (init ! 8 refl (tt, (tt, (record { fits = room-s .0 }, tt)))) $ pass1 ! (init ! 6 refl (tt, (tt, (record { fits = room-g .0 }, tt)))) $ pass0 ! $
@@ -140,17 +153,22 @@ module _ {M : Type 1} (𝓤 : URA M) (H : Heap 𝓤) (A : Atoms 𝓤) (mem : Mem
         rewrite ! 5 (λ (u : Val). ‵ (fat fullShare R′.mir l₆ 0 u)) (ap only (LL.tells R.the-type R′.the-laws r (w ∷ []) is)) refl $
         -- the state's address and length once more
         assigns ! (addr ! (from ! (fld ! refl (hop ! (look-in ! 15 (sub ! 0 refl (whole !))) (stop !))))) (from ! (stop !)) (init ! 3 refl (tt, tt)) $
-        assigns ! (agg ! (and-then ! (load ! (from ! (stop !)) (look ! 3 refl)) (and-then ! (load ! (from ! (fld ! refl (stop !))) (look-in ! 15 (sub ! 1 refl (whole !)))) (no-more !))))
-        (from ! (stop !)) (init ! 1 refl (tt, (tt, (record { fits = room-m .0 }, tt)))) $
+        assigns ! (agg ! (and-then ! (load ! (from ! (stop !)) (look ! 3 refl))
+        (and-then ! (load ! (from ! (fld ! refl (stop !))) (look-in ! 15 (sub ! 1 refl (whole !))))
+        (no-more !)))) (from ! (stop !)) (init ! 1 refl (tt, (tt, (record { fits = room-m .0 }, tt)))) $
         let r-is : Is R.the-row r (rosters r) = subst (Is R.the-row r) (LL.tells R.the-type R′.the-laws r (w ∷ []) is) is in
         move ! (19 ∷ 20 ∷ 21 ∷ 22 ∷ []) $ begins 𝓤 H A mem run W m g limit r start (fmOf 𝓤 H (W .laws) 𝓣) One (to r r-is e) (callee r r-is e) known′
-        (and-then ! (load ! (from ! (stop !)) (look ! 2 refl)) (and-then ! (load ! (from ! (stop !)) (look ! 14 refl)) (and-then ! (load ! (from ! (stop !)) (look ! 12 refl))
-        (and-then ! (load ! (from ! (stop !)) (look ! 6 refl)) (and-then ! (load ! (from ! (stop !)) (look ! 8 refl)) (no-more !)))))) (λ v k zs k-is len did.
+        (and-then ! (load ! (from ! (stop !)) (look ! 2 refl)) (and-then ! (load ! (from ! (stop !)) (look ! 14 refl))
+        (and-then ! (load ! (from ! (stop !)) (look ! 12 refl)) (and-then ! (load ! (from ! (stop !)) (look ! 6 refl))
+        (and-then ! (load ! (from ! (stop !)) (look ! 8 refl)) (no-more !)))))) (λ v k zs k-is len did.
         -- [the state's token; the checkpoint's; the last bytes; the accounts' token; the locals, the last first]
-        land ! (from ! (stop !)) (init ! 20 refl (uint-lawful 𝓤 H A W w64 .typed k _ k-is .0)) $ rewrite ! 20 (λ (u : Val). ‵ (fat fullShare (tyInt w64) l₀ 0 u)) (ap only (k-is .0)) refl $ returns ! (look ! 20 refl) $
-        forget ! 4 refl $ forget ! 6 refl $ forget ! 8 refl $ forget ! 10 refl $ forget ! 12 refl $ forget ! 14 refl $ forget ! 16 refl $ forget ! 18 refl $ forget ! 20 refl $
+        land ! (from ! (stop !)) (init ! 20 refl (uint-lawful 𝓤 H A W w64 .typed k _ k-is .0)) $
+        rewrite ! 20 (λ (u : Val). ‵ (fat fullShare (tyInt w64) l₀ 0 u)) (ap only (k-is .0)) refl $ returns ! (look ! 20 refl) $
+        forget ! 4 refl $ forget ! 6 refl $ forget ! 8 refl $ forget ! 10 refl $ forget ! 12 refl $ forget ! 14 refl $
+        forget ! 16 refl $ forget ! 18 refl $ forget ! 20 refl $
         move ! (20 ∷ 21 ∷ []) $ free1 ! $ move ! (18 ∷ 19 ∷ []) $ free1 ! $ move ! (16 ∷ 17 ∷ []) $ free1 ! $ move ! (14 ∷ 15 ∷ []) $ free1 ! $
-        move ! (12 ∷ 13 ∷ []) $ free1 ! $ move ! (10 ∷ 11 ∷ []) $ free1 ! $ move ! (8 ∷ 9 ∷ []) $ free1 ! $ move ! (6 ∷ 7 ∷ []) $ free1 ! $ move ! (4 ∷ 5 ∷ []) $ free1 ! $ free0 ! $
+        move ! (12 ∷ 13 ∷ []) $ free1 ! $ move ! (10 ∷ 11 ∷ []) $ free1 ! $ move ! (8 ∷ 9 ∷ []) $ free1 ! $
+        move ! (6 ∷ 7 ∷ []) $ free1 ! $ move ! (4 ∷ 5 ∷ []) $ free1 ! $ free0 ! $
         move ! (0 ∷ 3 ∷ 1 ∷ 2 ∷ []) $ by ! (exits k zs (k-is .1) len (did .starts (s .ref .now) (gathered limit (s .ref .now) r e))))))))))))))
 
   module _ (W : Given 𝓤 H A) (𝓣 : Tables 𝓤 H) (known : Triple 𝓤 (𝓣 .C #roster·gather) (Gather 𝓤 H A mem run)) (known′ : Triple 𝓤 (𝓣 .C #restore·restore) One) where
@@ -168,7 +186,8 @@ module _ {M : Type 1} (𝓤 : URA M) (H : Heap 𝓤) (A : Atoms 𝓤) (mem : Mem
           ),
         ))
         (λ κs qs bounds a g are. needs 𝓤 (Holds (a .0 .now)) _ (λ holds.
-        walk W (record { κ = κs .0; q = qs .0; ref = a .0 }) (record { κ = κs .1 .0; q = qs .1 .0; ref = a .1 .1 .1 .0 }) (record { κ = κs .1 .1 .0; q = qs .1 .1 .0; ref = a .1 .1 .1 .1 .0 })
+        walk W (record { κ = κs .0; q = qs .0; ref = a .0 })
+        (record { κ = κs .1 .0; q = qs .1 .0; ref = a .1 .1 .1 .0 }) (record { κ = κs .1 .1 .0; q = qs .1 .1 .0; ref = a .1 .1 .1 .1 .0 })
         (a .1 .0) (a .1 .1 .0) (are .1 .0 .1) (are .1 .1 .0) holds 𝓣 known known′ (are .0 .0 .1) (are .1 .1 .1 .0 .0 .1) (are .1 .1 .1 .1 .0 .0 .1)))
 
     all-meets : Meets 𝓤 H A all.signature (WpFn 𝓤 H (𝓣 .C) (𝓣 .Λ) code.function) (all.spec 𝓤 H A mem run)

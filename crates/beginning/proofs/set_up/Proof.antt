@@ -71,7 +71,8 @@ module _ {M : Type 1} (𝓤 : URA M) (H : Heap 𝓤) (A : Atoms 𝓤) (mem : Mem
   One = tripleOf 𝓤 H A one.signature (one.spec 𝓤 H A mem run)
 
   -- the state, the accounts, the listing
-  module _ (W : Given 𝓤 H A) (m : Loan ℕ) (s : Loan Account) (g : Loan ℕ) (limit last : ℕ) (t : Timing) (limit-fits : limit < 2 ^ 64) (last-fits : last < 2 ^ 64) (t-is : Is P.the-row t (timings t)) (holds : Holds (m .ref .now)) where
+  module _ (W : Given 𝓤 H A) (m : Loan ℕ) (s : Loan Account) (g : Loan ℕ) (limit last : ℕ) (t : Timing)
+      (limit-fits : limit < 2 ^ 64) (last-fits : last < 2 ^ 64) (t-is : Is P.the-row t (timings t)) (holds : Holds (m .ref .now)) where
     abbrev start : List Account → Started
     start l = set-up limit last l (listing (g .ref .now)) t
 
@@ -121,10 +122,12 @@ module _ {M : Type 1} (𝓤 : URA M) (H : Heap 𝓤) (A : Atoms 𝓤) (mem : Mem
     abbrev Post : Val → SProp 𝓤
     Post = walkOf 𝓤 H A all.ended stayed (all.clauses 𝓤 H A mem run) .post bound
 
-    exits : (k : ℕ) (zs : List ℕ) → k < 2 ^ 64 → length zs ≡ length (m .ref .now) → Starts (start (s .ref .now)) k (m .ref .now) zs → ent 𝓤 (⋆ 𝓤 H A (Left 𝓤 H A W m s g zs)) (Post (vint w64 k))
+    exits : (k : ℕ) (zs : List ℕ) → k < 2 ^ 64 → length zs ≡ length (m .ref .now) → Starts (start (s .ref .now)) k (m .ref .now) zs
+        → ent 𝓤 (⋆ 𝓤 H A (Left 𝓤 H A W m s g zs)) (Post (vint w64 k))
     exits k zs fits len did =
         qed W (Left 𝓤 H A W m s g zs) ∵
-        suffices ! _ (ends-at 𝓤 H A all.ended stayed (all.clauses 𝓤 H A mem run) W bound (vint w64 k) k (zs, (tt, (tt, (tt, (tt, (tt, tt)))))) (len, (tt, (tt, (tt, (tt, (tt, tt))))))) $
+        suffices ! _ (ends-at 𝓤 H A all.ended stayed (all.clauses 𝓤 H A mem run) W bound (vint w64 k) k
+        (zs, (tt, (tt, (tt, (tt, (tt, tt)))))) (len, (tt, (tt, (tt, (tt, (tt, tt))))))) $
         says ! did $ by ! (leaves 𝓤 H A W m s g zs 5 k fits)
 
     abbrev args : List Val
@@ -137,11 +140,14 @@ module _ {M : Type 1} (𝓤 : URA M) (H : Heap 𝓤) (A : Atoms 𝓤) (mem : Mem
         qed W ((‵ (token m) ⊛ ‵ (token s) ⊛ ‵ (token g) ⊛ ‵ ftrue)
         ∷ ‵ (owns (MutSlice (named 0) (m .κ) u8 ∷ u64 ∷ u64 ∷ P.the-row ∷ ShrSlice (named 1) (s .κ) T.the-row ∷ ShrSlice (named 2) (g .κ) u8 ∷ []) a at) ∷ []) ∵
         split ! $ move ! (1 ∷ []) $ split ! $ move ! (1 ∷ []) $ split ! $ move ! (4 ∷ []) $
-        fsplit ! $ move ! (1 ∷ []) $ fsplit ! $ move ! (1 ∷ []) $ fsplit ! $ move ! (1 ∷ []) $ fsplit ! $ move ! (1 ∷ []) $ fsplit ! $ move ! (1 ∷ []) $ fsplit ! $
-        -- [the listing; …; the accounts; three numbers; the state; the listing's token; …; the accounts' token; the state's token]
+        fsplit ! $ move ! (1 ∷ []) $ fsplit ! $ move ! (1 ∷ []) $ fsplit ! $ move ! (1 ∷ []) $ fsplit ! $
+        move ! (1 ∷ []) $ fsplit ! $ move ! (1 ∷ []) $ fsplit ! $
+        -- [the listing; …; the accounts; the timing; the last number; the limit; the state; the listing's token; …; the accounts' token; the state's token]
         keep ! (2 ∷ 9 ∷ 6 ∷ 10 ∷ 0 ∷ 7 ∷ []) $ enter ! (𝓣 .C) (𝓣 .Λ) code.function args _ $
-        alloc1 ! (λ l₀. alloc1 ! (λ l₁. alloc1 ! (λ l₂. alloc1 ! (λ l₃. alloc1 ! (λ l₄. alloc1 ! (λ l₅. alloc1 ! (λ l₆. alloc1 ! (λ l₇. alloc1 ! (λ l₈. alloc1 ! (λ l₉. alloc0 ! $ params1 ! $
-        pass1 ! (init ! 16 refl (tt, (tt, (record { fits = room-m .0 }, tt)))) $ pass1 ! (init ! 14 refl (tt, record { fits = limit-fits })) $ pass1 ! (init ! 12 refl (tt, record { fits = last-fits })) $
+        alloc1 ! (λ l₀. alloc1 ! (λ l₁. alloc1 ! (λ l₂. alloc1 ! (λ l₃. alloc1 ! (λ l₄.
+        alloc1 ! (λ l₅. alloc1 ! (λ l₆. alloc1 ! (λ l₇. alloc1 ! (λ l₈. alloc1 ! (λ l₉. alloc0 ! $ params1 ! $
+        pass1 ! (init ! 16 refl (tt, (tt, (record { fits = room-m .0 }, tt)))) $
+        pass1 ! (init ! 14 refl (tt, record { fits = limit-fits })) $ pass1 ! (init ! 12 refl (tt, record { fits = last-fits })) $
         pass1 ! (init ! 10 refl (LL.lawful P.the-type P′.the-laws 𝓤 H A W .typed t _ t-is .0)) $
         pass1 ! (init ! 8 refl (tt, (tt, (record { fits = room-s .0 }, tt)))) $ pass1 ! (init ! 6 refl (tt, (tt, (record { fits = room-g .0 }, tt)))) $ pass0 ! $
         move ! (20 ∷ 21 ∷ []) $ gathers 𝓤 H A mem run W s limit limit-fits (fmOf 𝓤 H (W .laws) 𝓣) known
@@ -151,17 +157,23 @@ module _ {M : Type 1} (𝓤 : URA M) (H : Heap 𝓤) (A : Atoms 𝓤) (mem : Mem
         rewrite ! 5 (λ (u : Val). ‵ (fat fullShare R′.mir l₇ 0 u)) (ap only (LL.tells R.the-type R′.the-laws r (w ∷ []) is)) refl $
         -- the state's address and length once more
         assigns ! (addr ! (from ! (fld ! refl (hop ! (look-in ! 17 (sub ! 0 refl (whole !))) (stop !))))) (from ! (stop !)) (init ! 3 refl (tt, tt)) $
-        assigns ! (agg ! (and-then ! (load ! (from ! (stop !)) (look ! 3 refl)) (and-then ! (load ! (from ! (fld ! refl (stop !))) (look-in ! 17 (sub ! 1 refl (whole !)))) (no-more !))))
-        (from ! (stop !)) (init ! 1 refl (tt, (tt, (record { fits = room-m .0 }, tt)))) $
+        assigns ! (agg ! (and-then ! (load ! (from ! (stop !)) (look ! 3 refl))
+        (and-then ! (load ! (from ! (fld ! refl (stop !))) (look-in ! 17 (sub ! 1 refl (whole !))))
+        (no-more !)))) (from ! (stop !)) (init ! 1 refl (tt, (tt, (record { fits = room-m .0 }, tt)))) $
         let r-is : Is R.the-row r (rosters r) = subst (Is R.the-row r) (LL.tells R.the-type R′.the-laws r (w ∷ []) is) is in
         move ! (21 ∷ 22 ∷ 23 ∷ 24 ∷ []) $ begins 𝓤 H A mem run W m g limit r start (fmOf 𝓤 H (W .laws) 𝓣) One (to r r-is e) (callee r r-is e) known′
-        (and-then ! (load ! (from ! (stop !)) (look ! 2 refl)) (and-then ! (load ! (from ! (stop !)) (look ! 16 refl)) (and-then ! (load ! (from ! (stop !)) (look ! 14 refl))
-        (and-then ! (load ! (from ! (stop !)) (look ! 12 refl)) (and-then ! (load ! (from ! (stop !)) (look ! 6 refl)) (and-then ! (load ! (from ! (stop !)) (look ! 8 refl)) (no-more !))))))) (λ v k zs k-is len did.
+        (and-then ! (load ! (from ! (stop !)) (look ! 2 refl)) (and-then ! (load ! (from ! (stop !)) (look ! 16 refl))
+        (and-then ! (load ! (from ! (stop !)) (look ! 14 refl)) (and-then ! (load ! (from ! (stop !)) (look ! 12 refl))
+        (and-then ! (load ! (from ! (stop !)) (look ! 6 refl)) (and-then ! (load ! (from ! (stop !)) (look ! 8 refl)) (no-more !))))))) (λ v k zs k-is len did.
         -- [the state's token; the listing's; the last bytes; the accounts' token; the locals, the last first]
-        land ! (from ! (stop !)) (init ! 22 refl (uint-lawful 𝓤 H A W w64 .typed k _ k-is .0)) $ rewrite ! 22 (λ (u : Val). ‵ (fat fullShare (tyInt w64) l₀ 0 u)) (ap only (k-is .0)) refl $ returns ! (look ! 22 refl) $
-        forget ! 4 refl $ forget ! 6 refl $ forget ! 8 refl $ forget ! 10 refl $ forget ! 12 refl $ forget ! 14 refl $ forget ! 16 refl $ forget ! 18 refl $ forget ! 20 refl $ forget ! 22 refl $
-        move ! (22 ∷ 23 ∷ []) $ free1 ! $ move ! (20 ∷ 21 ∷ []) $ free1 ! $ move ! (18 ∷ 19 ∷ []) $ free1 ! $ move ! (16 ∷ 17 ∷ []) $ free1 ! $ move ! (14 ∷ 15 ∷ []) $ free1 ! $
-        move ! (12 ∷ 13 ∷ []) $ free1 ! $ move ! (10 ∷ 11 ∷ []) $ free1 ! $ move ! (8 ∷ 9 ∷ []) $ free1 ! $ move ! (6 ∷ 7 ∷ []) $ free1 ! $ move ! (4 ∷ 5 ∷ []) $ free1 ! $ free0 ! $
+        land ! (from ! (stop !)) (init ! 22 refl (uint-lawful 𝓤 H A W w64 .typed k _ k-is .0)) $
+        rewrite ! 22 (λ (u : Val). ‵ (fat fullShare (tyInt w64) l₀ 0 u)) (ap only (k-is .0)) refl $ returns ! (look ! 22 refl) $
+        forget ! 4 refl $ forget ! 6 refl $ forget ! 8 refl $ forget ! 10 refl $ forget ! 12 refl $ forget ! 14 refl $
+        forget ! 16 refl $ forget ! 18 refl $ forget ! 20 refl $ forget ! 22 refl $
+        move ! (22 ∷ 23 ∷ []) $ free1 ! $ move ! (20 ∷ 21 ∷ []) $ free1 ! $ move ! (18 ∷ 19 ∷ []) $ free1 ! $ move ! (16 ∷ 17 ∷ []) $ free1 ! $
+        move ! (14 ∷ 15 ∷ []) $ free1 ! $
+        move ! (12 ∷ 13 ∷ []) $ free1 ! $ move ! (10 ∷ 11 ∷ []) $ free1 ! $ move ! (8 ∷ 9 ∷ []) $ free1 ! $
+        move ! (6 ∷ 7 ∷ []) $ free1 ! $ move ! (4 ∷ 5 ∷ []) $ free1 ! $ free0 ! $
         move ! (0 ∷ 3 ∷ 1 ∷ 2 ∷ []) $ by ! (exits k zs (k-is .1) len (did .starts (s .ref .now) (gathered limit (s .ref .now) r e)))))))))))))))
 
   module _ (W : Given 𝓤 H A) (𝓣 : Tables 𝓤 H) (known : Triple 𝓤 (𝓣 .C #roster·gather) (Gather 𝓤 H A mem run)) (known′ : Triple 𝓤 (𝓣 .C #setup·set-up) One) where
@@ -182,8 +194,10 @@ module _ {M : Type 1} (𝓤 : URA M) (H : Heap 𝓤) (A : Atoms 𝓤) (mem : Mem
           ),
         ))
         (λ κs qs bounds a g are. needs 𝓤 (Holds (a .0 .now)) _ (λ holds.
-        walk W (record { κ = κs .0; q = qs .0; ref = a .0 }) (record { κ = κs .1 .0; q = qs .1 .0; ref = a .1 .1 .1 .1 .0 }) (record { κ = κs .1 .1 .0; q = qs .1 .1 .0; ref = a .1 .1 .1 .1 .1 .0 })
-        (a .1 .0) (a .1 .1 .0) (a .1 .1 .1 .0) (are .1 .0 .1) (are .1 .1 .0 .1) (are .1 .1 .1 .0) holds 𝓣 known known′ (are .0 .0 .1) (are .1 .1 .1 .1 .0 .0 .1) (are .1 .1 .1 .1 .1 .0 .0 .1)))
+        walk W (record { κ = κs .0; q = qs .0; ref = a .0 })
+        (record { κ = κs .1 .0; q = qs .1 .0; ref = a .1 .1 .1 .1 .0 }) (record { κ = κs .1 .1 .0; q = qs .1 .1 .0; ref = a .1 .1 .1 .1 .1 .0 })
+        (a .1 .0) (a .1 .1 .0) (a .1 .1 .1 .0) (are .1 .0 .1) (are .1 .1 .0 .1) (are .1 .1 .1 .0) holds 𝓣 known known′
+        (are .0 .0 .1) (are .1 .1 .1 .1 .0 .0 .1) (are .1 .1 .1 .1 .1 .0 .0 .1)))
 
     all-meets : Meets 𝓤 H A all.signature (WpFn 𝓤 H (𝓣 .C) (𝓣 .Λ) code.function) (all.spec 𝓤 H A mem run)
     all-meets = walk-meets 𝓤 H A all.ended stayed W (
