@@ -17,6 +17,7 @@ use calls::{Call, Draw, Gateway, Model, Seen, Start, rows};
 use edge::STATE;
 use edge::entered::{BLANK, bytes};
 use gateway::exchange::Timing;
+use scale::near::{self, Near};
 
 use entry::{ENTRIES, Given, place};
 
@@ -153,11 +154,14 @@ impl Fuzz<'_> {
         Ok(wanted.ok().map(|model| Held { copy: all.clone(), all, copied: true, at, model }))
     }
 
-    /// A start that is accepted.
-    fn start(&mut self, theme: Theme) -> Result<Held, String> {
+    /// A start that is accepted, near a limit or not.
+    fn start(&mut self, theme: Theme, near: Option<Near>) -> Result<Held, String> {
         loop {
             self.draw.theme = theme;
-            let start = self.draw.start(&mut None);
+            let start = match near {
+                Some(near) => near::start(&mut self.draw, near),
+                None => self.draw.start(&mut None),
+            };
             if let Some(gateway) = self.begin(&Beginning::of(&start), STATE)? {
                 return Ok(gateway);
             }
@@ -175,10 +179,14 @@ impl Fuzz<'_> {
         self.begin(&beginning, len).map(drop)
     }
 
-    fn given(&mut self, model: &Model) -> Given {
+    fn given(&mut self, model: &Model, near: Option<Near>) -> Given {
         let draw = &mut self.draw;
-        let mut given = Given::of(&draw.call(model, model));
-        if draw.chance(35) {
+        // What leads to a limit stays whole.
+        let whole = near.is_some() && !draw.planned.is_empty();
+        let about = near.filter(|_| !whole && draw.chance(40)).and_then(|near| near::call(draw, near, model));
+        let call = about.unwrap_or_else(|| draw.call(model, model));
+        let mut given = Given::of(&call);
+        if whole || draw.chance(35) {
             return given;
         }
         self.tally.damaged += 1;
@@ -259,9 +267,11 @@ impl Fuzz<'_> {
     }
 
     fn list(&mut self, seed: u64) -> Result<(), String> {
-        let mut gateway = self.start(Theme::of(seed as usize, None))?;
+        // One list of eight is near a limit.
+        let near = (seed % 8 == 0).then(|| near::ALL[(seed / 8) as usize % near::ALL.len()]);
+        let mut gateway = self.start(Theme::of(seed as usize, None), near)?;
         for at in 0..CALLS {
-            let given = self.given(&gateway.model);
+            let given = self.given(&gateway.model, near);
             let seen = self.call(&mut gateway, &given).map_err(|what| format!("call {at}, {given:?}: {what}"))?;
             if let Some(call) = given.call().filter(|_| !seen.is_refusal()) {
                 self.draw.plan_after(&call, &gateway.model);
@@ -270,7 +280,7 @@ impl Fuzz<'_> {
                 self.other.theme = Theme::of(at / 20, None);
                 self.damaged_start()?;
             }
-            if at % 100 == 0 {
+            if at % 100 == 99 && self.draw.planned.is_empty() {
                 self.draw.plan_checkpoint(&gateway.model);
             }
             if let (Some(Call::Checkpoint), Seen::Sees(calls::Answer::Bytes(saved), _)) = (given.call(), &seen) {
