@@ -8,6 +8,6 @@ fn main() {
     }
     let mut m = [0u8; 467200];
     let mut s = [0u8; 467200];
-    playing::file::run(fd, &mut m, &mut s);
+    stored::run(fd, &mut m, &mut s);
     libc::close(fd);
 }

@@ -1,7 +1,5 @@
 // The starts and the calls in the rows of a stored file, made by the entry points: a row has the arguments, a copy of it is given the answer
 // (compare/README.md).
-pub mod file;
-
 use accounts::Timing;
 use edge::Reply;
 ghost use Prim.Native.Nat.{_≤_};

@@ -1,7 +1,7 @@
 // A stored file of lists of calls, row by row: each answer and each lent byte is compared with the Rust's (compare/README.md has the file's rows).
-use crate::put;
-use crate::word;
 use libc::STDOUT_FILENO;
+use playing::put;
+use playing::word;
 ghost use Prim.Native.Nat.{_*_, _≤_};
 ghost use lib.ListN.{length};
 ghost use Rattle.edge.specs.Entering.{Lent};
@@ -159,7 +159,7 @@ fn play(m: &mut [u8], row: [u8; 128], rows: [u8; 24576]) -> bool
     let mut got = unanswered(row);
     let lent = bytes_of(&row, word(&row, 1));
     let given = bytes_of(&row, word(&row, 3));
-    crate::call(m, &row, &rows[..given], &mut got, &mut out[..lent]);
+    playing::call(m, &row, &rows[..given], &mut got, &mut out[..lent]);
     agree(&row, &got, &rows, &out)
 }
 
@@ -220,7 +220,7 @@ fn play_start(fd: i32, m: &mut [u8], row: [u8; 128]) -> bool
     let rows = read_rows(fd, &row);
     let given = bytes_of(&row, word(&row, 3));
     let end = 56 * n;
-    let code = crate::start(m, &row, &accounts[..end], &rows[..given]);
+    let code = playing::start(m, &row, &accounts[..end], &rows[..given]);
     let mut got = unanswered(row);
     put(&mut got, 2, code);
     answers(&row, &got)
@@ -255,8 +255,8 @@ fn are_alike(m: &[u8], s: &[u8]) -> bool
 {
     let mut a: u64 = 0;
     while a < 256 {
-        let first = crate::standing(m, a);
-        let second = crate::standing(s, a);
+        let first = playing::standing(m, a);
+        let second = playing::standing(s, a);
         if !agrees(b"second gateway", &first, &second) {
             return false;
         }
@@ -371,7 +371,7 @@ fn play_all(fd: i32, m: &mut [u8], s: &mut [u8])
 
 // An empty start comes first, so that there are states whatever the file has.
 pub fn run(fd: i32, m: &mut [u8; 467200], s: &mut [u8; 467200]) {
-    crate::begin(m);
-    crate::begin(s);
+    playing::begin(m);
+    playing::begin(s);
     play_all(fd, m, s);
 }
