@@ -2,8 +2,8 @@ use Prim.Native.Nat.{_-_}
 use mathlib.Core.Path.{_≡_}
 use lib.ListN.{length}
 use borrow.Author.Needs.{needs}
-use Rattle.player.proofs.grow_row.Statement.{statement}
-use Rattle.player.proofs.grow_row.Tie as tie
+use Rattle.stored.proofs.grow_row.Statement.{statement}
+use Rattle.stored.proofs.grow_row.Tie as tie
 
 abbrev Inv-loop : tie.InvT-loop
 Inv-loop row₀ words i₀ row i = length row ≡ length row₀

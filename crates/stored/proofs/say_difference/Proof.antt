@@ -1,7 +1,7 @@
 use Prim.Native.Nat.{_-_}
 use borrow.Author.Needs.{needs}
-use Rattle.player.proofs.say_difference.Statement.{statement}
-use Rattle.player.proofs.say_difference.Tie as tie
+use Rattle.stored.proofs.say_difference.Statement.{statement}
+use Rattle.stored.proofs.say_difference.Tie as tie
 
 abbrev Inv-loop : tie.InvT-loop
 Inv-loop want got n i₀ i = Unit {0}
