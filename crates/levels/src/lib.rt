@@ -86,7 +86,7 @@ fn seek(m: &[u8], side: Side, key: u64) -> usize
     ensures { λ r. ⌜ L.Sought side (now (m .entry)) key r ⌝ }
 {
     let n = size(m, side);
-    table::lower_bound(m, base_of(side), 32, n, key)
+    table::bound_by(m, base_of(side), 32, n, key, 3)
 }
 
 // Whether the row i is that level.

@@ -1,6 +1,5 @@
 // Reports of an event: whom they go to, and their rows (`tell_owner`, `tell_sender`, `report` of exchange.rs).
 use pending::Flight;
-use protocol::Outbound;
 use protocol::Report;
 use protocol::ReportKind;
 use table::Found;
@@ -135,5 +134,5 @@ pub fn report(m: &mut [u8], out: &mut [u8], i: usize, n: u64, id: u64, t: Told, 
         client_ref: t.client_ref,
         kind,
     };
-    outcome::send(m, out, i, (t.to - 1) as usize, Outbound::Report(r));
+    outcome::send_report(m, out, i, (t.to - 1) as usize, r);
 }

@@ -1,4 +1,4 @@
--- Bytes moved word by word, and rows moved by their bytes.
+-- Bytes moved one by one, and rows moved by their bytes.
 -- Assumes nothing.
 use mathlib.Core.Path.{_≡_, refl, ap}
 use mathlib.Core.Logic.{inl, inr}
@@ -36,12 +36,7 @@ rest s {i} {n} h =
     let e : l + 1 ≡ n = omega arith in
     omega (arith, minus s a, next s l, ap (λ (k : ℕ). s * k) e)
 
-pub whole : (s k : ℕ) → s % 8 ≡ 0 → s * k % 8 ≡ 0
-whole s k h =
-    let e : s ≡ 8 * (s / 8) = omega (arith, mod-add-div s 8) in
-    rw (e, mul-assoc) (mul-mod-right 8 (s / 8 * k))
-
--- ---- bytes moved word by word
+-- ---- bytes moved one by one
 
 pub moved-none : (xs : List ℕ) (o p : ℕ) → Moved xs xs o p 0
 moved-none xs o p = record { same = record { at = λ k l. absurd (omega arith) }; frame = outside-refl p (p + 0) xs }
@@ -49,9 +44,9 @@ moved-none xs o p = record { same = record { at = λ k l. absurd (omega arith) }
 pub moved-still : (xs : List ℕ) (o n : ℕ) → Moved xs xs o o n
 moved-still xs o n = record { same = record { at = λ k l. refl }; frame = outside-refl o (o + n) xs }
 
-pub moved-word : (ys : List ℕ) (o p : ℕ) → Bytes ys → p + 8 ≤ length ys → Moved ys (put 8 ys p (le 8 ys o)) o p 8
-moved-word ys o p b h =
-    record { same = same-put 8 ys ys o p b h; frame = outside-put p (p + 8) 8 ys p (le 8 ys o) (omega arith) (omega arith) }
+pub moved-byte : (ys : List ℕ) (o p : ℕ) → Bytes ys → p + 1 ≤ length ys → Moved ys (put 1 ys p (le 1 ys o)) o p 1
+moved-byte ys o p b h =
+    record { same = same-put 1 ys ys o p b h; frame = outside-put p (p + 1) 1 ys p (le 1 ys o) (omega arith) (omega arith) }
 
 -- the low part first, where bytes move down
 pub moved-low : {xs ys zs : List ℕ} (o p a b : ℕ) → p ≤ o → Moved xs ys o p a → Moved ys zs (o + a) (p + a) b → Moved xs zs o p (a + b)
@@ -81,16 +76,6 @@ moved-high o p a b h s t =
           (outside-wider p (p + (a + b)) (omega arith) (omega arith) (t .frame));
     }
 
--- four words, from the last to the first and from the first to the last
-pub four-up : {xs ys zs us vs : List ℕ} (o p : ℕ) → o ≤ p → Moved xs ys (o + 8 + 8 + 8) (p + 8 + 8 + 8) 8 → Moved ys zs (o + 8 + 8) (p + 8 + 8) 8 → Moved zs us (o + 8) (p + 8) 8 → Moved us vs o p 8 →
-    Moved xs vs o p 32
-four-up o p h a b c d =
-    moved-high o p 8 24 h (moved-high (o + 8) (p + 8) 8 16 (omega arith) (moved-high (o + 8 + 8) (p + 8 + 8) 8 8 (omega arith) a b) c) d
-
-pub four-down : {xs ys zs us vs : List ℕ} (o p : ℕ) → p ≤ o → Moved xs ys o p 8 → Moved ys zs (o + 8) (p + 8) 8 → Moved zs us (o + 16) (p + 16) 8 → Moved us vs (o + 24) (p + 24) 8 →
-    Moved xs vs o p 32
-four-down o p h a b c d = moved-low o p 24 8 h (moved-low o p 16 8 h (moved-low o p 8 8 h a b) c) d
-
 -- the next a bytes, where the last n - k have moved up
 pub moved-up : {xs ys zs : List ℕ} (o p n k a : ℕ) → o ≤ p → a ≤ k → k ≤ n → Moved xs ys (o + k) (p + k) (n - k) → Moved ys zs (o + (k - a)) (p + (k - a)) a →
     Moved xs zs (o + (k - a)) (p + (k - a)) (n - (k - a))
@@ -103,6 +88,13 @@ moved-up {xs} {ys} o p n k a h l m s t =
     rw w (moved-high (o + d) (p + d) a (n - k) (omega arith) u t)
 
 -- ---- rows
+
+-- rows of 32 bytes
+pub up-by : {xs ys : List ℕ} (o s n : ℕ) → s ≡ 32 → Moved xs ys o (o + 32) n → Moved xs ys o (o + s) n
+up-by o s n e m = rw e m
+
+pub down-by : {xs ys : List ℕ} (p s n : ℕ) → s ≡ 32 → Moved xs ys (p + 32) p n → Moved xs ys (p + s) p n
+down-by p s n e m = rw e m
 
 -- the bytes of the rows from i up to n
 pub bytes : (base s : ℕ) {i n : ℕ} → i ≤ n → base + s * n - (base + s * i) ≡ s * (n - i)

@@ -3,8 +3,8 @@
 use mathlib.Core.Path.{_≡_, sym, ap, _∙_}
 use mathlib.Core.Logic.{⊎-elim}
 use mathlib.Core.List.{List}
-use Prim.Native.Nat.{ℕ, _+_, _*_, _-_, _≤_, _<_}
-use native.Mathlib.Nat.{eq-or-lt-of-le, mul-comm, mul-le-mul-left}
+use Prim.Native.Nat.{ℕ, _+_, _*_, _-_, _/_, _≤_, _<_}
+use native.Mathlib.Nat.{eq-or-lt-of-le, mul-comm, mul-le-mul-left, div-mul-le-self, le-div-iff-mul-le}
 use native.Mathlib.Omega.{arith}
 use lib.ListN.{length}
 use lib.Arith.{lt-of-le-ne}
@@ -31,6 +31,11 @@ first-rows {stride = stride} j s h =
       room = record { fits = omega (arith, s .room .fits, mono stride h); wide = s .room .wide; words = s .room .words };
       asc = λ a b l m. s .asc a b l (omega arith);
     }
+
+-- one part of many + 1
+pub part : (left many : ℕ) → many ≤ left → (0 < (left + 1) / (many + 1)) × ((left + 1) / (many + 1) * many + (left + 1) / (many + 1) ≤ left + 1)
+part left many h =
+    (le-div-iff-mul-le {k = many + 1} (omega arith) .1 (omega arith), omega (arith, div-mul-le-self (left + 1) (many + 1), next ((left + 1) / (many + 1)) many))
 
 module _ {ks : ℕ → ℕ} where
   pub counted-none : (k lo w : ℕ) → Counted ks k lo w 0 0

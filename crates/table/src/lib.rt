@@ -42,20 +42,28 @@ fn count(m: &[u8], base: usize, stride: usize, lo: usize, w: usize, many: usize,
     c
 }
 
-// The first row whose key is not below `key`. Of the rows in doubt, which are `left` from lo on, a quarter is left in a turn.
-pub fn lower_bound(m: &[u8], base: usize, stride: usize, n: usize, key: u64) -> usize
-    requires { ⌜ Sorted base stride n (now m) ⌝ }
+// The first row whose key is not below `key`. Of the rows in doubt, which are `left` from lo on, one part of many + 1 is left in a turn.
+pub fn bound_by(m: &[u8], base: usize, stride: usize, n: usize, key: u64, many: usize) -> usize
+    requires { ⌜ Sorted base stride n (now m) × (0 < many) × (many < 8) ⌝ }
     ensures { λ r. ⌜ Between (keyAt base stride (now (m .entry))) n key r r ⌝ }
 {
     let mut lo: usize = 0;
     let mut left: usize = n;
-    while 3 <= left {
-        let w = (left + 1) / 4;
-        let c = count(m, base, stride, lo, w, 3, key);
+    while many <= left {
+        let w = (left + 1) / (many + 1);
+        let c = count(m, base, stride, lo, w, many, key);
         lo += w * c;
-        left -= w * 3;
+        left -= w * many;
     }
     lo + count(m, base, stride, lo, 1, left, key)
+}
+
+// Seven keys a turn: few turns, and too long to be inlined.
+pub fn lower_bound(m: &[u8], base: usize, stride: usize, n: usize, key: u64) -> usize
+    requires { ⌜ Sorted base stride n (now m) ⌝ }
+    ensures { λ r. ⌜ Between (keyAt base stride (now (m .entry))) n key r r ⌝ }
+{
+    bound_by(m, base, stride, n, key, 7)
 }
 
 // A key above the last one is not searched for.
@@ -95,76 +103,61 @@ pub fn find_hinted(
     requires { ⌜ Sorted base stride n (now m) × (mark < stride) ⌝ }
     ensures { λ r. ⌜ Finds (keyAt base stride (now (m .entry))) (markAt base stride mark (now (m .entry))) n key r ⌝ }
 {
-    if n <= hint {
-        return find(m, base, stride, mark, n, key);
+    if hint < n {
+        if key_at(m, base, stride, hint) == key {
+            if mark_at(m, base, stride, mark, hint) == 0 {
+                return Found::Nothing;
+            }
+            return Found::At(hint);
+        }
     }
-    if key_at(m, base, stride, hint) != key {
-        return find(m, base, stride, mark, n, key);
-    }
-    if mark_at(m, base, stride, mark, hint) == 0 {
-        return Found::Nothing;
-    }
-    Found::At(hint)
+    find(m, base, stride, mark, n, key)
 }
 
-fn move_word(m: &mut [u8], from: usize, to: usize)
-    requires { ⌜ (from + 8 ≤ length (now m)) × (to + 8 ≤ length (now m)) ⌝ }
-    ensures { λ r. ⌜ Moved (now (m .entry)) (now (m .exit)) from to 8 ⌝ }
+fn move_byte(m: &mut [u8], from: usize, to: usize)
+    requires { ⌜ (from + 1 ≤ length (now m)) × (to + 1 ≤ length (now m)) ⌝ }
+    ensures { λ r. ⌜ Moved (now (m .entry)) (now (m .exit)) from to 1 ⌝ }
 {
-    let v = le::get_u64(m, from);
-    le::put_u64(m, to, v);
+    let v = le::get_u8(m, from);
+    le::put_u8(m, to, v);
 }
 
-// Words are moved from the last to the first, or from the first to the last, so that none is overwritten before it has moved.
-fn up_four(m: &mut [u8], from: usize, to: usize)
-    requires { ⌜ (from ≤ to) × (to + 32 ≤ length (now m)) ⌝ }
-    ensures { λ r. ⌜ Moved (now (m .entry)) (now (m .exit)) from to 32 ⌝ }
-{
-    move_word(m, from + 8 + 8 + 8, to + 8 + 8 + 8);
-    move_word(m, from + 8 + 8, to + 8 + 8);
-    move_word(m, from + 8, to + 8);
-    move_word(m, from, to);
-}
-
-fn down_four(m: &mut [u8], from: usize, to: usize)
-    requires { ⌜ (to ≤ from) × (from + 32 ≤ length (now m)) ⌝ }
-    ensures { λ r. ⌜ Moved (now (m .entry)) (now (m .exit)) from to 32 ⌝ }
-{
-    move_word(m, from, to);
-    move_word(m, from + 8, to + 8);
-    move_word(m, from + 16, to + 16);
-    move_word(m, from + 24, to + 24);
-}
-
-// Four words a turn, and then those that are left.
+// Bytes are moved from the last to the first, or from the first to the last, so that none is overwritten before it has moved.
 fn move_up(m: &mut [u8], from: usize, to: usize, len: usize)
-    requires { ⌜ (from ≤ to) × (to + len ≤ length (now m)) × (len % 8 ≡ 0) ⌝ }
+    requires { ⌜ (from ≤ to) × (to + len ≤ length (now m)) ⌝ }
     ensures { λ r. ⌜ Moved (now (m .entry)) (now (m .exit)) from to len ⌝ }
 {
     let mut k: usize = len;
-    while 32 <= k {
-        k -= 32;
-        up_four(m, from + k, to + k);
-    }
     while 0 < k {
-        k -= 8;
-        move_word(m, from + k, to + k);
+        k -= 1;
+        move_byte(m, from + k, to + k);
     }
 }
 
 fn move_down(m: &mut [u8], from: usize, to: usize, len: usize)
-    requires { ⌜ (to ≤ from) × (from + len ≤ length (now m)) × (len % 8 ≡ 0) ⌝ }
+    requires { ⌜ (to ≤ from) × (from + len ≤ length (now m)) ⌝ }
     ensures { λ r. ⌜ Moved (now (m .entry)) (now (m .exit)) from to len ⌝ }
 {
     let mut k: usize = 0;
-    while 32 <= len - k {
-        down_four(m, from + k, to + k);
-        k += 32;
-    }
     while k < len {
-        move_word(m, from + k, to + k);
-        k += 8;
+        move_byte(m, from + k, to + k);
+        k += 1;
     }
+}
+
+// Rows of 32 bytes have functions of their own: with the distance known there, the loop is compiled to a call of memmove.
+fn up_32(m: &mut [u8], from: usize, len: usize)
+    requires { ⌜ from + 32 + len ≤ length (now m) ⌝ }
+    ensures { λ r. ⌜ Moved (now (m .entry)) (now (m .exit)) from (from + 32) len ⌝ }
+{
+    move_up(m, from, from + 32, len);
+}
+
+fn down_32(m: &mut [u8], to: usize, len: usize)
+    requires { ⌜ to + 32 + len ≤ length (now m) ⌝ }
+    ensures { λ r. ⌜ Moved (now (m .entry)) (now (m .exit)) (to + 32) to len ⌝ }
+{
+    move_down(m, to + 32, to, len);
 }
 
 // Room for a row at i, which the caller writes: the rows from i on move one place up.
@@ -175,6 +168,10 @@ pub fn open_at(m: &mut [u8], base: usize, stride: usize, n: usize, i: usize)
     let from = base + stride * i;
     let to = from + stride;
     let end = base + stride * n;
+    if stride == 32 {
+        up_32(m, from, end - from);
+        return;
+    }
     move_up(m, from, to, end - from);
 }
 
@@ -186,6 +183,10 @@ pub fn close_at(m: &mut [u8], base: usize, stride: usize, n: usize, i: usize)
     let to = base + stride * i;
     let from = to + stride;
     let end = base + stride * n;
+    if stride == 32 {
+        down_32(m, to, end - from);
+        return;
+    }
     move_down(m, from, to, end - from);
 }
 

@@ -9,10 +9,19 @@ ghost use mathlib.Core.Option.{Option·getD};
 ghost use Rattle.words.specs.Words.{int, amount};
 ghost use Rattle.wallet.specs.Wallet as W;
 
+// 2^31: the product of two numbers below it fits.
+const SMALL: u64 = 2_147_483_648;
+
 // What qty lots at price cost, if it fits.
 fn cost(price: u64, qty: u64) -> Amount
     ensures { λ r. ⌜ amount r ≡ W.cost (int price) qty ⌝ }
 {
+    if price < SMALL {
+        if qty < SMALL {
+            let amount = price * qty;
+            return Amount::Fits(amount);
+        }
+    }
     words::narrow(words::signed_mul(price, qty))
 }
 

@@ -9,11 +9,11 @@ size-requires c κs = search needs
 base-of-requires : tie.Need-base-of-requires
 base-of-requires c κs = search needs
 
-lower-bound-requires : tie.Need-lower-bound-requires
-lower-bound-requires c κs = search laws
+bound-by-requires : tie.Need-bound-by-requires
+bound-by-requires c κs = search laws
 
 returns : tie.Need-returns
 returns c = search laws
 
 pub seek-spec : {M : Type 1} → statement M
-seek-spec = tie.close (tie.spec size-requires base-of-requires lower-bound-requires returns)
+seek-spec = tie.close (tie.spec size-requires base-of-requires bound-by-requires returns)

@@ -7,11 +7,11 @@ use Rattle.reporting.proofs.report.Tie as tie
 returns : tie.Need-returns
 returns c = search reports
 
-sub-send : tie.Need-sub-send
-sub-send c = search needs
+sub-send-report : tie.Need-sub-send-report
+sub-send-report c = search needs
 
-send-requires : tie.Need-send-requires
-send-requires c κs =
+send-report-requires : tie.Need-send-report-requires
+send-report-requires c κs =
     let i = c .before .before .before in
     let s = i .before .before .before .before in
     let p = s .pre in
@@ -29,4 +29,4 @@ returns-2 c = search reports
 
 pub report-spec : {M : Type 1} → statement M
 report-spec =
-    tie.close (tie.spec returns sub-send send-requires same-length same-length-2 returns-2)
+    tie.close (tie.spec returns sub-send-report send-report-requires same-length same-length-2 returns-2)
