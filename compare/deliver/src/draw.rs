@@ -32,6 +32,18 @@ pub struct Resting {
     pub leaves: u64,
 }
 
+/// 1,024 orders of 256 accounts, each on a level of its own.
+pub fn full() -> Vec<Resting> {
+    let order = |n: u64| Resting {
+        id: n,
+        account: n as usize % 256,
+        side: if n % 2 == 0 { Side::Buy } else { Side::Sell },
+        price: if n % 2 == 0 { MIDDLE - n as i64 } else { MIDDLE + n as i64 },
+        leaves: QTY,
+    };
+    (1..=1_024).map(order).collect()
+}
+
 /// The engine's book, as far as the events want it.
 pub struct Book {
     random: Random,

@@ -11,7 +11,7 @@ mod wrapped;
 use std::hint::black_box;
 use std::time::{Duration, Instant};
 
-use column::Column;
+use column::{Column, funds};
 use draw::{Book, EVENTS, Turn};
 use plain::Plain;
 use proved::Proved;
@@ -184,12 +184,21 @@ fn restarting() {
         run(&mut a, &[turn], &mut 0);
     }
     let list = proved::listing(&book.orders);
-    let bytes = a.checkpoint();
+    let bytes = a.checkpoint().len();
     let checkpoint = each(|| {
         black_box(a.checkpoint());
     });
     let finish = each(|| a.finish(&list));
-    println!("\nAt 1,024 live orders: checkpoint {checkpoint:.1} µs ({bytes} bytes), finish {finish:.1} µs; {} refused.\n", a.refused);
+    println!("\nAt 1,024 live orders: checkpoint {checkpoint:.1} µs ({bytes} bytes), finish {finish:.1} µs; {} refused.", a.refused);
+    // every table of a start full
+    let accounts = proved::accounts(256, |_| funds(0));
+    let list = proved::listing(&draw::full());
+    let set_up = each(|| a.set_up(1_024, &accounts, &list));
+    let bytes = a.checkpoint().to_vec();
+    let restore = each(|| a.restore(&accounts, &bytes));
+    let same = a.checkpoint() == bytes;
+    let len = bytes.len();
+    println!("On 512 levels a side, with 256 wallets: set-up {set_up:.1} µs, restore {restore:.1} µs ({len} bytes, alike after it: {same}); {} refused.\n", a.refused);
 }
 
 fn main() {

@@ -6,6 +6,11 @@ use orderbook::{Event, Side};
 use crate::column::{Column, TOKEN, funds};
 use crate::draw::{Message, Resting, SESSIONS};
 
+const LIMIT: u64 = 256;
+
+/// No heartbeat is due, and no session idle.
+const NEVER: u64 = u64::MAX;
+
 pub struct Proved {
     state: Vec<u8>,
     out: Vec<u8>,
@@ -65,15 +70,17 @@ fn event_row(event: Event) -> [u8; 128] {
     }
 }
 
-/// An account's row: 7 words.
-fn account_row(account: usize) -> Vec<u8> {
-    let (there, (cash, position)) = match funds(account) {
-        Some(funds) => (1, funds),
-        None => (0, (0, 0)),
+/// The rows of the accounts from 0 on: 7 words each.
+pub fn accounts(count: usize, funds: impl Fn(usize) -> Option<(i64, i64)>) -> Vec<u8> {
+    let words = |account: usize| {
+        let (there, (cash, position)) = match funds(account) {
+            Some(funds) => (1, funds),
+            None => (0, (0, 0)),
+        };
+        let rate = u64::from(u32::MAX);
+        [account as u64, TOKEN, 1_024, rate, there, cash as u64, position as u64]
     };
-    let rate = u64::from(u32::MAX);
-    let words = [account as u64, TOKEN, 1_024, rate, there, cash as u64, position as u64];
-    words.into_iter().flat_map(u64::to_le_bytes).collect()
+    (0..count).flat_map(words).flat_map(u64::to_le_bytes).collect()
 }
 
 impl Proved {
@@ -84,9 +91,7 @@ impl Proved {
             sent: 0,
             refused: 0,
         };
-        let accounts: Vec<u8> = (0..SESSIONS).flat_map(account_row).collect();
-        let code = edge::set_up(&mut column.state, 256, 0, u64::MAX, u64::MAX, &accounts, &[]);
-        column.refused += usize::from(code != 0);
+        column.set_up(0, &accounts(SESSIONS, funds), &[]);
         for session in 0..SESSIONS {
             edge::connect(&mut column.state, session, 0);
             column.receive_row(session, &row(&[0, 1, session as u64, TOKEN]), 0);
@@ -94,6 +99,16 @@ impl Proved {
         }
         column.sent = 0;
         column
+    }
+
+    pub fn set_up(&mut self, last: u64, accounts: &[u8], list: &[u8]) {
+        let code = edge::set_up(&mut self.state, LIMIT, last, NEVER, NEVER, accounts, list);
+        self.refused += usize::from(code != 0);
+    }
+
+    pub fn restore(&mut self, accounts: &[u8], bytes: &[u8]) {
+        let code = edge::restore(&mut self.state, LIMIT, NEVER, NEVER, accounts, bytes);
+        self.refused += usize::from(code != 0);
     }
 
     fn note(&mut self, reply: Reply) -> usize {
@@ -108,10 +123,10 @@ impl Proved {
     }
 
     /// The bytes of a checkpoint.
-    pub fn checkpoint(&mut self) -> usize {
+    pub fn checkpoint(&mut self) -> &[u8] {
         let reply = edge::checkpoint(&self.state, &mut self.out);
         self.refused += usize::from(reply.code != 0);
-        reply.count
+        &self.out[..reply.count]
     }
 
     pub fn finish(&mut self, list: &[u8]) {

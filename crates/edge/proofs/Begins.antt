@@ -23,9 +23,11 @@ module _ (limit : ℕ) (row : ℕ → Account) (r : Roster) where
   unfolding entered listed
   no-rows e = e
 
-  pub one-row-more : (j : ℕ) (s : Roster) (a : Account) → r ≡ entered limit nobody (listed row j) → a ≡ row j → s ≡ enter limit r a → s ≡ entered limit nobody (listed row (j + 1))
+  pub one-row-more : (j : ℕ) (s : Roster) (a : Account) → r ≡ entered limit nobody (listed row j) → a ≡ row j → s ≡ enter limit r a
+      → s ≡ entered limit nobody (listed row (j + 1))
   one-row-more j s a e f g =
-      g ∙ ap (enter limit r) f ∙ ap (λ (x : Roster). enter limit x (row j)) e ∙ entered-more limit nobody (listed row j) (row j) ∙ ap (entered limit nobody) (sym (listed-more row j))
+      g ∙ ap (enter limit r) f ∙ ap (λ (x : Roster). enter limit x (row j)) e
+      ∙ entered-more limit nobody (listed row j) (row j) ∙ ap (entered limit nobody) (sym (listed-more row j))
 
 -- ---- the start, and its refusal
 
@@ -37,7 +39,8 @@ module _ (xs : List ℕ) (b d ok : Bool) (f : d ≡ ok) (e : b ≡ whole d xs) w
   unfolding begins
   is c s t = ap (λ (z : Bool). cond z s (not-started malformed)) (ap (λ (z : Bool). whole z xs) (sym f) ∙ sym e ∙ t)
 
-  pub starts-at : (limit : ℕ) (l : List Account) (r : Roster) (s : List Account → Started) (code : ℕ) (ys : List ℕ) → b ≡ true → r ≡ entered limit nobody l → Begins limit r s code xs ys → Starts (begins ok xs (s l)) code xs ys
+  pub starts-at : (limit : ℕ) (l : List Account) (r : Roster) (s : List Account → Started) (code : ℕ) (ys : List ℕ) → b ≡ true → r ≡ entered limit nobody l
+      → Begins limit r s code xs ys → Starts (begins ok xs (s l)) code xs ys
   starts-at limit l r s code ys t g h = subst (λ (o : Started). Starts o code xs ys) (sym (is true (s l) t)) (h .starts l (gathered limit l r g))
 
   pub starts-no : (s : Started) → b ≡ false → Starts (begins ok xs s) 11 xs xs

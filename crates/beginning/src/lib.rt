@@ -1,0 +1,31 @@
+// Set-up and restore over the lent slice of account records (`Exchange::new` of exchange.rs): it is walked once (`roster::gather`), and what begins
+// takes the accounts by value.
+use accounts::Account;
+use accounts::Timing;
+ghost use Rattle.gateway.specs.Start.{set-up, restore};
+ghost use Rattle.store.specs.Layout.{Holds};
+ghost use Rattle.listing.specs.Rows.{listing};
+ghost use Rattle.opening.specs.Starts.{Starts};
+
+pub fn set_up(
+    m: &mut [u8],
+    limit: u64,
+    last: u64,
+    timing: Timing,
+    accounts: &[Account],
+    list: &[u8],
+) -> u64
+    requires { ⌜ Holds (now m) ⌝ }
+    ensures { λ r. ⌜ Starts (set-up limit last (now (accounts .entry)) (listing (now (list .entry))) timing) r (now (m .entry)) (now (m .exit)) ⌝ }
+{
+    let r = roster::gather(limit, accounts);
+    setup::set_up(m, limit, last, timing, r, list)
+}
+
+pub fn restore(m: &mut [u8], limit: u64, timing: Timing, accounts: &[Account], bytes: &[u8]) -> u64
+    requires { ⌜ Holds (now m) ⌝ }
+    ensures { λ r. ⌜ Starts (restore limit (now (accounts .entry)) timing (now (bytes .entry))) r (now (m .entry)) (now (m .exit)) ⌝ }
+{
+    let r = roster::gather(limit, accounts);
+    restore::restore(m, limit, timing, r, bytes)
+}
