@@ -11,7 +11,7 @@ mod wrapped;
 use std::hint::black_box;
 use std::time::{Duration, Instant};
 
-use column::Column;
+use column::{Column, funds};
 use draw::{Book, EVENTS, Turn};
 use plain::Plain;
 use proved::Proved;
