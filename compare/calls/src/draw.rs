@@ -352,7 +352,7 @@ impl Draw {
         let taken = |account: u32| model.session_of(account).is_some();
         let odd = if matches!(self.theme, Theme::Sessions) { 15 } else { 4 };
         let account = if taken(account) && !self.chance(2 * odd) { (account + 1) % 3 } else { account };
-        let token = model.members.get(&account).map_or(0, |member| member.account.token) + u64::from(self.chance(odd));
+        let token = model.members.get(&account).map_or(0, |member| member.account.token).wrapping_add(u64::from(self.chance(odd)));
         Inbound::Login { version: if self.chance(odd) { 2 } else { VERSION }, account, token }
     }
 

@@ -116,7 +116,7 @@ impl Entered {
             }
         };
         match code {
-            0 => Ok(Entered { before: state.clone(), copied: true, state, out: Vec::new() }),
+            0 => Ok(Entered { state, before: Vec::new(), copied: false, out: Vec::new() }),
             _ if state.iter().any(|&byte| byte != BLANK) => panic!("a refused start writes"),
             code => Err(code as u8),
         }
@@ -157,7 +157,7 @@ impl Entered {
         self.out.clear();
         self.out.resize(room * size + room % size, BLANK);
         if wanted.is_refusal() && !self.copied {
-            self.before.copy_from_slice(&self.state);
+            self.before.clone_from(&self.state);
         }
         self.copied = wanted.is_refusal();
         let said = self.make(call);
@@ -170,6 +170,6 @@ impl Entered {
 
     /// The state's bytes in another place.
     pub fn copy(&self) -> Entered {
-        Entered { state: self.state.clone(), before: self.state.clone(), copied: true, out: Vec::new() }
+        Entered { state: self.state.clone(), before: Vec::new(), copied: false, out: Vec::new() }
     }
 }

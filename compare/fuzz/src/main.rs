@@ -6,8 +6,6 @@ mod entry;
 
 use std::collections::BTreeMap;
 use std::process::ExitCode;
-use std::sync::atomic::{AtomicBool, AtomicU64, Ordering};
-use std::thread;
 use std::time::Instant;
 
 use calls::bytes::decode;
@@ -17,6 +15,8 @@ use calls::{Call, Draw, Gateway, Model, Seen, Start, rows};
 use edge::STATE;
 use edge::entered::{BLANK, bytes};
 use gateway::exchange::Timing;
+use scale::near::{self, Near};
+use scale::spread::spread;
 
 use entry::{ENTRIES, Given, place};
 
@@ -28,6 +28,7 @@ const MARGIN: usize = 64;
 
 #[derive(Default)]
 struct Tally {
+    lists: u64,
     calls: u64,
     /// By entry point and code, how often; 0 is an accepted call.
     codes: BTreeMap<(String, u64), u64>,
@@ -43,6 +44,7 @@ impl Tally {
     }
 
     fn add(&mut self, other: Tally) {
+        self.lists += other.lists;
         self.calls += other.calls;
         self.lengths += other.lengths;
         self.damaged += other.damaged;
@@ -153,11 +155,14 @@ impl Fuzz<'_> {
         Ok(wanted.ok().map(|model| Held { copy: all.clone(), all, copied: true, at, model }))
     }
 
-    /// A start that is accepted.
-    fn start(&mut self, theme: Theme) -> Result<Held, String> {
+    /// A start that is accepted, near a limit or not.
+    fn start(&mut self, theme: Theme, near: Option<Near>) -> Result<Held, String> {
         loop {
             self.draw.theme = theme;
-            let start = self.draw.start(&mut None);
+            let start = match near {
+                Some(near) => near::start(&mut self.draw, near),
+                None => self.draw.start(&mut None),
+            };
             if let Some(gateway) = self.begin(&Beginning::of(&start), STATE)? {
                 return Ok(gateway);
             }
@@ -175,10 +180,14 @@ impl Fuzz<'_> {
         self.begin(&beginning, len).map(drop)
     }
 
-    fn given(&mut self, model: &Model) -> Given {
+    fn given(&mut self, model: &Model, near: Option<Near>) -> Given {
         let draw = &mut self.draw;
-        let mut given = Given::of(&draw.call(model, model));
-        if draw.chance(35) {
+        // What leads to a limit stays whole.
+        let whole = near.is_some() && !draw.planned.is_empty();
+        let about = near.filter(|_| !whole && draw.chance(40)).and_then(|near| near::call(draw, near, model));
+        let call = about.unwrap_or_else(|| draw.call(model, model));
+        let mut given = Given::of(&call);
+        if whole || draw.chance(35) {
             return given;
         }
         self.tally.damaged += 1;
@@ -259,9 +268,11 @@ impl Fuzz<'_> {
     }
 
     fn list(&mut self, seed: u64) -> Result<(), String> {
-        let mut gateway = self.start(Theme::of(seed as usize, None))?;
+        // One list of eight is near a limit.
+        let near = (seed % 8 == 0).then(|| near::ALL[(seed / 8) as usize % near::ALL.len()]);
+        let mut gateway = self.start(Theme::of(seed as usize, None), near)?;
         for at in 0..CALLS {
-            let given = self.given(&gateway.model);
+            let given = self.given(&gateway.model, near);
             let seen = self.call(&mut gateway, &given).map_err(|what| format!("call {at}, {given:?}: {what}"))?;
             if let Some(call) = given.call().filter(|_| !seen.is_refusal()) {
                 self.draw.plan_after(&call, &gateway.model);
@@ -270,7 +281,7 @@ impl Fuzz<'_> {
                 self.other.theme = Theme::of(at / 20, None);
                 self.damaged_start()?;
             }
-            if at % 100 == 0 {
+            if at % 100 == 99 && self.draw.planned.is_empty() {
                 self.draw.plan_checkpoint(&gateway.model);
             }
             if let (Some(Call::Checkpoint), Seen::Sees(calls::Answer::Bytes(saved), _)) = (given.call(), &seen) {
@@ -281,45 +292,29 @@ impl Fuzz<'_> {
     }
 }
 
-fn run(calls: u64, seed: u64) -> Result<(u64, Tally), (u64, String)> {
-    let (next, made, stop) = (AtomicU64::new(seed), AtomicU64::new(0), AtomicBool::new(false));
-    let work = || {
-        let mut tally = Tally::default();
-        while made.load(Ordering::Relaxed) < calls && !stop.load(Ordering::Relaxed) {
-            let seed = next.fetch_add(1, Ordering::Relaxed);
-            let before = tally.calls;
-            let drawn = |salt: u64| {
-                let mut draw = Draw::new(seed.wrapping_mul(0xD134_2543_DE82_EF95) ^ salt);
-                (draw.many, draw.freely) = (true, true);
-                draw
-            };
-            if let Err(what) = (Fuzz { draw: drawn(0), other: drawn(1), tally: &mut tally }).list(seed) {
-                stop.store(true, Ordering::Relaxed);
-                return Err((seed, what));
-            }
-            made.fetch_add(tally.calls - before, Ordering::Relaxed);
-        }
-        Ok(tally)
+/// Makes the list of that number, and gives how many calls it made.
+fn make(seed: u64, tally: &mut Tally) -> Result<u64, String> {
+    let before = tally.calls;
+    let drawn = |salt: u64| {
+        let mut draw = Draw::new(seed.wrapping_mul(0xD134_2543_DE82_EF95) ^ salt);
+        (draw.many, draw.freely) = (true, true);
+        draw
     };
-    let threads = thread::available_parallelism().map_or(1, usize::from);
-    thread::scope(|scope| {
-        let workers: Vec<_> = (0..threads).map(|_| scope.spawn(work)).collect();
-        let mut all = Tally::default();
-        for worker in workers {
-            all.add(worker.join().expect("no panic")?);
-        }
-        Ok((next.load(Ordering::Relaxed) - seed, all))
-    })
+    Fuzz { draw: drawn(0), other: drawn(1), tally }.list(seed)?;
+    tally.lists += 1;
+    Ok(tally.calls - before)
 }
 
 fn main() -> ExitCode {
     let numbers: Vec<u64> = std::env::args().skip(1).map(|word| word.parse().expect("a number")).collect();
     let begun = Instant::now();
-    match run(numbers[0], numbers.get(1).copied().unwrap_or(0)) {
-        Ok((lists, tally)) => {
+    match spread(numbers[0], numbers.get(1).copied().unwrap_or(0), make) {
+        Ok(all) => {
+            let mut tally = Tally::default();
+            all.into_iter().for_each(|more| tally.add(more));
             let codes: Vec<String> = tally.codes.iter().map(|((name, code), times)| format!("{name} {code}: {times}")).collect();
             println!("{}", codes.join(", "));
-            let Tally { calls, lengths, damaged, .. } = tally;
+            let Tally { lists, calls, lengths, damaged, .. } = tally;
             println!("{damaged} damaged, {lengths} with a state of a wrong length");
             println!("fuzz: {lists} lists, {calls} calls, no difference, {:.1} s", begun.elapsed().as_secs_f64());
             ExitCode::SUCCESS

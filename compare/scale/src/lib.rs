@@ -8,5 +8,6 @@ pub mod play;
 pub mod shrink;
 pub mod sides;
 pub mod source;
+pub mod spread;
 
 pub use play::{Step, replay};

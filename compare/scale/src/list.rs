@@ -17,7 +17,7 @@ const THEMED: usize = 150;
 const LIMITED: usize = 400;
 
 /// Starts beside a list.
-const STARTS: usize = 4;
+const STARTS: usize = 2;
 
 /// What is counted over lists.
 #[derive(Default)]
@@ -179,8 +179,9 @@ fn kind(seed: u64) -> (Theme, Option<Near>) {
     }
 }
 
-/// Draws and makes the list of that number.
-pub fn make(seed: u64, tally: &mut Tally) -> Result<(), Box<Difference>> {
+/// Draws and makes the list of that number, and gives how many calls it made.
+pub fn make(seed: u64, tally: &mut Tally) -> Result<u64, Box<Difference>> {
+    let before = tally.first.calls;
     let mut draw = Draw::new(seed.wrapping_mul(0x9E37_79B9_7F4A_7C15));
     let (theme, near) = kind(seed);
     draw.theme = theme;
@@ -216,5 +217,5 @@ pub fn make(seed: u64, tally: &mut Tally) -> Result<(), Box<Difference>> {
     let done = catch_unwind(AssertUnwindSafe(run)).unwrap_or(Err("a panic".to_owned()));
     let steps = std::mem::take(&mut list.steps);
     tally.lists += 1;
-    done.map_err(|what| Box::new(Difference { start, steps, what }))
+    done.map(|()| tally.first.calls - before).map_err(|what| Box::new(Difference { start, steps, what }))
 }

@@ -3,42 +3,14 @@
 //! something of document 01 was not met.
 
 use std::process::ExitCode;
-use std::sync::atomic::{AtomicBool, AtomicU64, Ordering};
-use std::thread;
 use std::time::Instant;
 
-use scale::list::{Difference, Tally, make};
+use scale::list::{Tally, make};
 use scale::replay;
 use scale::shrink::shrink;
 use scale::sides::Counts;
 use scale::source::test;
-
-/// Calls between two looks at how many there were.
-fn run(calls: u64, seed: u64) -> Result<Tally, (u64, Box<Difference>)> {
-    let (next, made, stop) = (AtomicU64::new(seed), AtomicU64::new(0), AtomicBool::new(false));
-    let work = || {
-        let mut tally = Tally::default();
-        while made.load(Ordering::Relaxed) < calls && !stop.load(Ordering::Relaxed) {
-            let seed = next.fetch_add(1, Ordering::Relaxed);
-            let before = tally.first.calls;
-            if let Err(difference) = make(seed, &mut tally) {
-                stop.store(true, Ordering::Relaxed);
-                return Err((seed, difference));
-            }
-            made.fetch_add(tally.first.calls - before, Ordering::Relaxed);
-        }
-        Ok(tally)
-    };
-    let threads = thread::available_parallelism().map_or(1, usize::from);
-    thread::scope(|scope| {
-        let workers: Vec<_> = (0..threads).map(|_| scope.spawn(work)).collect();
-        let mut all = Tally::default();
-        for worker in workers {
-            all.add(worker.join().expect("no panic")?);
-        }
-        Ok(all)
-    })
-}
+use scale::spread::spread;
 
 fn counted(name: &str, counts: &Counts) {
     let Counts { calls, with_rust, refused, alone, panics, replays, untracked, checkpoints, drained } = counts;
@@ -57,14 +29,15 @@ fn main() -> ExitCode {
     let numbers: Vec<u64> = words.iter().map(|word| word.parse().expect("a number")).collect();
     std::panic::set_hook(Box::new(|_| {}));
     let begun = Instant::now();
+    let mut tally = Tally::default();
     let done = if one {
-        let mut tally = Tally::default();
-        make(numbers[0], &mut tally).map(|()| tally).map_err(|difference| (numbers[0], difference))
+        make(numbers[0], &mut tally).map(drop).map_err(|difference| (numbers[0], difference))
     } else {
-        run(numbers[0], numbers.get(1).copied().unwrap_or(0))
+        let all = spread(numbers[0], numbers.get(1).copied().unwrap_or(0), make);
+        all.map(|all| all.into_iter().for_each(|more| tally.add(more)))
     };
-    let tally = match done {
-        Ok(tally) => tally,
+    match done {
+        Ok(()) => {}
         Err((seed, difference)) => {
             println!("difference in list {seed}, step {}: {}", difference.steps.len(), difference.what);
             let (start, steps) = shrink(&difference.start, &difference.steps);
@@ -72,7 +45,7 @@ fn main() -> ExitCode {
             println!("{}", test(&start, &steps, &what));
             return ExitCode::FAILURE;
         }
-    };
+    }
     println!("{}", tally.coverage.text());
     counted("first gateways", &tally.first);
     counted("restarted gateways", &tally.second);
