@@ -151,7 +151,7 @@ impl Draw {
         self.below(if matches!(self.theme, Theme::Ends) { 4 } else { 60 })
     }
 
-    pub fn price(&mut self) -> i64 {
+    fn price(&mut self) -> i64 {
         match self.seldom() {
             0 => self.pick(&[0, -1, -60, -(1 << 62), i64::MIN]),
             1 => self.pick(&[1, 1 << 61, 1 << 62, 1 << 62, i64::MAX]),
@@ -159,7 +159,7 @@ impl Draw {
         }
     }
 
-    pub fn qty(&mut self) -> u64 {
+    fn qty(&mut self) -> u64 {
         match self.seldom() {
             0..2 => self.pick(&[0, 1 << 62, i64::MAX as u64, i64::MAX as u64, 1 << 63, u64::MAX]),
             _ => 1 + self.below(6),
@@ -231,7 +231,7 @@ impl Draw {
         Timing { heartbeat, idle_timeout }
     }
 
-    pub fn entry(&mut self, id: OrderId, live: Live) -> Listed {
+    fn entry(&mut self, id: OrderId, live: Live) -> Listed {
         let Live { account: owner, side, price, leaves, .. } = live;
         match price {
             Some(price) if self.chance(80) => {
@@ -325,7 +325,7 @@ impl Draw {
     }
 
     /// An order's number: mostly a live one's.
-    pub fn order(&mut self, model: &Model) -> OrderId {
+    fn order(&mut self, model: &Model) -> OrderId {
         let live: Vec<OrderId> = model.live.keys().copied().collect();
         if live.is_empty() || self.chance(6) {
             return self.below(model.last.saturating_add(2));

@@ -267,14 +267,6 @@ impl Model {
         Seen::Sees(answer, self.sends(call))
     }
 
-    /// The account whose command the call may number.
-    pub fn owner(&self, call: &Call) -> Option<u32> {
-        match call {
-            Call::Receive(session, ..) | Call::Disconnect(session) => self.account_of(*session),
-            _ => None,
-        }
-    }
-
     /// What the record has of an accepted call, as the call that feeds it to a second gateway; `before` is the last number before it.
     pub fn item(&self, call: &Call, before: u64) -> Option<Call> {
         match call {
