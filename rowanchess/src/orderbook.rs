@@ -158,14 +158,7 @@ impl Command {
     /// ```
     #[inline]
     pub const fn id(&self) -> Option<OrderId> {
-        match *self {
-            Command::Limit { id, .. }
-            | Command::Market { id, .. }
-            | Command::Stop { id, .. }
-            | Command::Cancel { id, .. }
-            | Command::Modify { id, .. } => Some(id),
-            Command::CancelAll { .. } | Command::SetPhase { .. } => None,
-        }
+        self.names().0
     }
 
     /// The participant who sent the command; `None` for a phase change, which comes from
@@ -179,14 +172,20 @@ impl Command {
     /// ```
     #[inline]
     pub const fn owner(&self) -> Option<OwnerId> {
+        self.names().1
+    }
+
+    /// The order and the participant.
+    #[inline]
+    const fn names(&self) -> (Option<OrderId>, Option<OwnerId>) {
         match *self {
-            Command::Limit { owner, .. }
-            | Command::Market { owner, .. }
-            | Command::Stop { owner, .. }
-            | Command::Cancel { owner, .. }
-            | Command::Modify { owner, .. }
-            | Command::CancelAll { owner } => Some(owner),
-            Command::SetPhase { .. } => None,
+            Command::Limit { id, owner, .. }
+            | Command::Market { id, owner, .. }
+            | Command::Stop { id, owner, .. }
+            | Command::Cancel { id, owner }
+            | Command::Modify { id, owner, .. } => (Some(id), Some(owner)),
+            Command::CancelAll { owner } => (None, Some(owner)),
+            Command::SetPhase { .. } => (None, None),
         }
     }
 }

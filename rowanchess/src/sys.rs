@@ -112,67 +112,36 @@ pub fn order_section(bytes: &[u8]) -> usize {
 /// The bytes of a gateway, as the last entry point left them.
 pub struct State(Box<[u8]>);
 
-/// Bytes that a start makes a state of: any will do.
-fn blank() -> Box<[u8]> {
-    vec![0; STATE].into_boxed_slice()
-}
-
-/// A refused start leaves the bytes as they were, so they are no state and go.
-fn begun(code: u64, m: Box<[u8]>) -> Result<State, u64> {
-    if code == 0 { Ok(State(m)) } else { Err(code) }
-}
-
 impl State {
+    /// Starts at the address and the length of new bytes: any will do. A refused start leaves them as they were, so they are no state and go.
+    fn begin(start: impl FnOnce(*mut u8, usize) -> u64) -> Result<State, u64> {
+        let mut m = vec![0; STATE].into_boxed_slice();
+        match start(m.as_mut_ptr(), m.len()) {
+            0 => Ok(State(m)),
+            code => Err(code),
+        }
+    }
+
     /// `accounts` and `list` are rows.
-    pub fn set_up(
-        limit: u64,
-        last: u64,
-        [heartbeat, idle_timeout]: [u64; 2],
-        accounts: &[u8],
-        list: &[u8],
-    ) -> Result<State, u64> {
-        let mut m = blank();
+    pub fn set_up(limit: u64, last: u64, timing: [u64; 2], accounts: &[u8], list: &[u8]) -> Result<State, u64> {
+        let [heartbeat, idle_timeout] = timing;
+        let (accounts, accounts_len) = (accounts.as_ptr(), accounts.len());
+        let (list, list_len) = (list.as_ptr(), list.len());
         // SAFETY: set-up has no premise about the bytes of `m`. Slices: `m` is written, `accounts` and `list` are read.
-        let code = unsafe {
-            rowanchess_set_up(
-                m.as_mut_ptr(),
-                m.len(),
-                limit,
-                last,
-                heartbeat,
-                idle_timeout,
-                accounts.as_ptr(),
-                accounts.len(),
-                list.as_ptr(),
-                list.len(),
-            )
-        };
-        begun(code, m)
+        State::begin(|m, len| unsafe {
+            rowanchess_set_up(m, len, limit, last, heartbeat, idle_timeout, accounts, accounts_len, list, list_len)
+        })
     }
 
     /// `accounts` are rows, `bytes` a checkpoint's.
-    pub fn restore(
-        limit: u64,
-        [heartbeat, idle_timeout]: [u64; 2],
-        accounts: &[u8],
-        bytes: &[u8],
-    ) -> Result<State, u64> {
-        let mut m = blank();
+    pub fn restore(limit: u64, timing: [u64; 2], accounts: &[u8], bytes: &[u8]) -> Result<State, u64> {
+        let [heartbeat, idle_timeout] = timing;
+        let (accounts, accounts_len) = (accounts.as_ptr(), accounts.len());
+        let (bytes, bytes_len) = (bytes.as_ptr(), bytes.len());
         // SAFETY: restore has no premise about the bytes of `m`. Slices: `m` is written, `accounts` and `bytes` are read.
-        let code = unsafe {
-            rowanchess_restore(
-                m.as_mut_ptr(),
-                m.len(),
-                limit,
-                heartbeat,
-                idle_timeout,
-                accounts.as_ptr(),
-                accounts.len(),
-                bytes.as_ptr(),
-                bytes.len(),
-            )
-        };
-        begun(code, m)
+        State::begin(|m, len| unsafe {
+            rowanchess_restore(m, len, limit, heartbeat, idle_timeout, accounts, accounts_len, bytes, bytes_len)
+        })
     }
 
     pub fn last_seq(&self) -> u64 {

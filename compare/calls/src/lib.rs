@@ -7,6 +7,7 @@ mod codes;
 pub mod depth;
 pub mod draw;
 mod model;
+pub mod names;
 mod published;
 pub mod rows;
 mod sends;

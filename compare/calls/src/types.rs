@@ -56,3 +56,15 @@ macro_rules! published_structs {
         }
     };
 }
+
+/// Numbers that a notation has as Rust prints them.
+#[macro_export]
+macro_rules! printed_numbers {
+    ($notation:ident $method:ident: $($number:ty)*) => {
+        $(impl $notation for $number {
+            fn $method(&self) -> String {
+                self.to_string()
+            }
+        })*
+    };
+}

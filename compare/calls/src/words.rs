@@ -64,13 +64,28 @@ pub fn row<const SIZE: usize>(first: &[u64], parts: &[&dyn Words]) -> [u64; SIZE
     row
 }
 
-// The codes of the enums without data, from a first one.
+/// An enum without data, as a code.
+pub trait Coded: Copy + 'static {
+    /// The first case's code; the others' follow.
+    const FIRST: u64;
+    const CASES: &'static [Self];
+
+    fn coded(code: u64) -> Option<Self> {
+        Self::CASES.get(usize::try_from(code.checked_sub(Self::FIRST)?).ok()?).copied()
+    }
+}
+
 macro_rules! codes {
     ($($type:ty, $first:literal: $($case:ident)*;)*) => {
-        $(impl Words for $type {
+        $(impl Coded for $type {
+            const FIRST: u64 = $first;
+            const CASES: &'static [$type] = &[$(Self::$case),*];
+        }
+
+        impl Words for $type {
             fn put(&self, into: &mut Vec<u64>) {
-                let cases = [$(matches!(self, Self::$case)),*];
-                into.push(cases.iter().position(|&is| is).expect("a case") as u64 + $first);
+                let at = Self::CASES.iter().position(|case| case == self).expect("a case");
+                into.push(Self::FIRST + at as u64);
             }
         })*
     };

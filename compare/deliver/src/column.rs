@@ -14,8 +14,7 @@ pub fn funds(account: usize) -> Option<(i64, i64)> {
 /// A gateway under test.
 pub trait Column {
     /// An event as the gateway's own type has it; made before the clock starts.
-    type Event: Copy;
-    fn event(event: Event) -> Self::Event;
+    type Event: Copy + From<Event>;
     fn receive(&mut self, session: usize, message: Message, now: u64);
     fn take_batch(&mut self) -> usize;
     fn deliver(&mut self, n: u64, event: Self::Event);

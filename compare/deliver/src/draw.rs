@@ -55,13 +55,7 @@ pub struct Book {
 
 impl Book {
     pub fn new(prices: u64) -> Book {
-        Book {
-            random: Random::new(),
-            prices,
-            last: 0,
-            trades: 0,
-            orders: Vec::new(),
-        }
+        Book { random: Random::new(), prices, last: 0, trades: 0, orders: Vec::new() }
     }
 
     fn order(&mut self) -> Resting {
@@ -86,13 +80,7 @@ impl Book {
     }
 
     fn rested(o: &Resting) -> (u64, Event) {
-        let event = Event::Rested {
-            id: o.id,
-            side: o.side,
-            price: o.price,
-            qty: o.leaves,
-            visible: o.leaves,
-        };
+        let event = Event::Rested { id: o.id, side: o.side, price: o.price, qty: o.leaves, visible: o.leaves };
         (o.id, event)
     }
 
@@ -121,11 +109,7 @@ impl Book {
             self.orders.push(taker);
             self.last += 1;
             messages.push((gone.account, Message::Cancel { id: gone.id }));
-            let event = Event::Cancelled {
-                id: gone.id,
-                qty: gone.leaves,
-                reason: CancelReason::Requested,
-            };
+            let event = Event::Cancelled { id: gone.id, qty: gone.leaves, reason: CancelReason::Requested };
             events.push((self.last, event));
         }
         Turn { messages, events }
@@ -142,16 +126,10 @@ impl Book {
         self.trades += 1;
         maker.leaves -= qty;
         taker.leaves -= qty;
-        let event = Event::Trade {
-            trade_id: self.trades,
-            taker: taker.id,
-            maker: maker.id,
-            taker_side: taker.side,
-            price: maker.price,
-            qty,
-            taker_leaves: taker.leaves,
-            maker_leaves: maker.leaves,
-        };
-        Some((taker.id, event))
+        let (trade_id, taker_side, price) = (self.trades, taker.side, maker.price);
+        let (taker_leaves, maker_leaves) = (taker.leaves, maker.leaves);
+        let (taker, maker) = (taker.id, maker.id);
+        let event = Event::Trade { trade_id, taker, maker, taker_side, price, qty, taker_leaves, maker_leaves };
+        Some((taker, event))
     }
 }

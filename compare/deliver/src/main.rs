@@ -32,7 +32,7 @@ struct Spent {
 
 /// The events of a turn, for a column.
 fn events<C: Column>(turn: &Turn) -> Vec<(u64, C::Event)> {
-    turn.events.iter().map(|&(n, event)| (n, C::event(event))).collect()
+    turn.events.iter().map(|&(n, event)| (n, event.into())).collect()
 }
 
 /// As a host does: a batch of messages, their commands taken, their events delivered, then a publishing.
@@ -112,10 +112,7 @@ fn measure(live: usize, prices: u64) -> Line {
     if refused != 0 || sent.windows(2).any(|pair| pair[0] != pair[1]) || !same {
         println!("the columns differ: {refused} refused, messages {sent:?}, wallets alike: {same}");
     }
-    Line {
-        deliver: deliver.map(median),
-        whole: whole.map(median),
-    }
+    Line { deliver: deliver.map(median), whole: whole.map(median) }
 }
 
 const KINDS: [&str; 4] = ["accepted", "trade", "rested", "cancelled"];
@@ -198,11 +195,16 @@ fn restarting() {
     let restore = each(|| a.restore(&accounts, &bytes));
     let same = a.checkpoint() == bytes;
     let len = bytes.len();
-    println!("On 512 levels a side, with 256 wallets: set-up {set_up:.1} µs, restore {restore:.1} µs ({len} bytes, alike after it: {same}); {} refused.\n", a.refused);
+    println!(
+        "On 512 levels a side, with 256 wallets: set-up {set_up:.1} µs, restore {restore:.1} µs ({len} bytes, alike after it: {same}); {} refused.\n",
+        a.refused
+    );
 }
 
 fn main() {
-    println!("| live orders | prices a side | part | proved, ns | published, ns | plain, ns | crate, ns | of the published | of the plain | crate / proved |");
+    println!(
+        "| live orders | prices a side | part | proved, ns | published, ns | plain, ns | crate, ns | of the published | of the plain | crate / proved |"
+    );
     println!("|---|---|---|---|---|---|---|---|---|---|");
     let (mut asked, mut plot) = (None, String::new());
     for (live, prices) in [(100, 120), (300, 120), (1_000, 120), (1_000, 2_000)] {

@@ -148,17 +148,8 @@ fn set_leaves(order: &mut Order, account: &mut Account, notices: &mut Vec<u32>, 
 
 impl Plain {
     pub fn new() -> Plain {
-        let wallet = |(cash, position)| Wallet {
-            cash,
-            position,
-            cash_held: 0,
-            position_held: 0,
-        };
-        let account = |a| Account {
-            session: Some(a),
-            open: 0,
-            wallet: funds(a).map(wallet),
-        };
+        let wallet = |(cash, position)| Wallet { cash, position, cash_held: 0, position_held: 0 };
+        let account = |a| Account { session: Some(a), open: 0, wallet: funds(a).map(wallet) };
         Plain {
             accounts: (0..SESSIONS).map(account).collect(),
             last_sent: vec![0; SESSIONS],
@@ -271,26 +262,13 @@ impl Plain {
 impl Column for Plain {
     type Event = Event;
 
-    fn event(event: Event) -> Event {
-        event
-    }
-
     fn receive(&mut self, session: usize, message: Message, now: u64) {
         self.now = now;
         self.last += 1;
         if let Message::New { side, price, qty } = message {
             let account = &mut self.accounts[session];
             account.open += 1;
-            let mut order = Order {
-                account: session as u32,
-                side,
-                rests: false,
-                client_ref: now,
-                price,
-                leaves: 0,
-                visible: 0,
-                held: 0,
-            };
+            let mut order = Order { account: session as u32, side, rests: false, client_ref: now, price, leaves: 0, visible: 0, held: 0 };
             set_leaves(&mut order, account, &mut self.notices, qty);
             self.orders.insert(self.last, order);
         }
@@ -318,26 +296,14 @@ impl Column for Plain {
             Event::Rested { id, side, price, qty, visible } => {
                 self.rested(n, id, side, price, qty, visible);
             }
-            Event::Trade {
-                trade_id,
-                taker,
-                maker,
-                taker_side,
-                price,
-                qty,
-                taker_leaves,
-                maker_leaves,
-            } => {
+            Event::Trade { trade_id, taker, maker, taker_side, price, qty, taker_leaves, maker_leaves } => {
                 let both = self.is_paper(self.orders.get(&taker)) && self.is_paper(self.orders.get(&maker));
                 if !both {
                     self.mark = Some(price);
                 }
                 let tick = Tick { seq: n, trade_id, side: taker_side, price, qty };
                 self.trades.push(tick);
-                for (id, side, leaves) in [
-                    (taker, taker_side, taker_leaves),
-                    (maker, opposite(taker_side), maker_leaves),
-                ] {
+                for (id, side, leaves) in [(taker, taker_side, taker_leaves), (maker, opposite(taker_side), maker_leaves)] {
                     let kind = Kind::Fill { trade_id, side, price, qty, leaves };
                     self.fill(n, id, kind, price, qty, leaves);
                 }
@@ -381,8 +347,6 @@ impl Column for Plain {
 
     fn wallets(&self) -> Vec<[i64; 4]> {
         let wallets = self.accounts.iter().filter_map(|a| a.wallet);
-        wallets
-            .map(|w| [w.cash, w.position, w.cash_held, w.position_held])
-            .collect()
+        wallets.map(|w| [w.cash, w.position, w.cash_held, w.position_held]).collect()
     }
 }

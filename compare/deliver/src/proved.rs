@@ -38,33 +38,10 @@ fn row(words: &[u64]) -> [u8; 128] {
 fn event_row(event: Event) -> [u8; 128] {
     match event {
         Event::Accepted { id } => row(&[0, id]),
-        Event::Trade {
-            trade_id,
-            taker,
-            maker,
-            taker_side,
-            price,
-            qty,
-            taker_leaves,
-            maker_leaves,
-        } => row(&[
-            2,
-            trade_id,
-            taker,
-            maker,
-            side_code(taker_side),
-            price as u64,
-            qty,
-            taker_leaves,
-            maker_leaves,
-        ]),
-        Event::Rested {
-            id,
-            side,
-            price,
-            qty,
-            visible,
-        } => row(&[3, id, side_code(side), price as u64, qty, visible]),
+        Event::Trade { trade_id, taker, maker, taker_side, price, qty, taker_leaves, maker_leaves } => {
+            row(&[2, trade_id, taker, maker, side_code(taker_side), price as u64, qty, taker_leaves, maker_leaves])
+        }
+        Event::Rested { id, side, price, qty, visible } => row(&[3, id, side_code(side), price as u64, qty, visible]),
         Event::Cancelled { id, qty, reason: _ } => row(&[5, id, qty, 1]),
         _ => unreachable!("not drawn"),
     }
@@ -85,12 +62,7 @@ pub fn accounts(count: usize, funds: impl Fn(usize) -> Option<(i64, i64)>) -> Ve
 
 impl Proved {
     pub fn new() -> Proved {
-        let mut column = Proved {
-            state: vec![0; STATE],
-            out: vec![0; 4_096 * MAIL],
-            sent: 0,
-            refused: 0,
-        };
+        let mut column = Proved { state: vec![0; STATE], out: vec![0; 4_096 * MAIL], sent: 0, refused: 0 };
         column.set_up(0, &accounts(SESSIONS, funds), &[]);
         for session in 0..SESSIONS {
             edge::connect(&mut column.state, session, 0);
@@ -148,10 +120,6 @@ pub fn listing(orders: &[Resting]) -> Vec<u8> {
 impl Column for Proved {
     type Event = Event;
 
-    fn event(event: Event) -> Event {
-        event
-    }
-
     fn receive(&mut self, session: usize, message: Message, now: u64) {
         let row = match message {
             Message::New { side, price, qty } => row(&[3, now, side_code(side), qty, 0, price as u64]),
@@ -179,8 +147,6 @@ impl Column for Proved {
     fn wallets(&self) -> Vec<[i64; 4]> {
         let wallet = |a| edge::wallet(&self.state, a);
         let wallets = (0..SESSIONS as u32).map(wallet).filter(|w| w.there == 1);
-        wallets
-            .map(|w| [w.cash, w.position, w.cash_held, w.position_held])
-            .collect()
+        wallets.map(|w| [w.cash, w.position, w.cash_held, w.position_held]).collect()
     }
 }

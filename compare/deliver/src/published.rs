@@ -35,27 +35,13 @@ impl Published {
                 funds: funds(id as usize).map(|(cash, position)| Funds { cash, position }),
             })
             .collect();
-        let book = OrderBook {
-            config: BookConfig { max_owners: 256 },
-            orders: Vec::new(),
-            stops: Vec::new(),
-        };
-        let timing = Timing {
-            heartbeat: u64::MAX,
-            idle_timeout: u64::MAX,
-        };
+        let book = OrderBook { config: BookConfig { max_owners: 256 }, orders: Vec::new(), stops: Vec::new() };
+        let timing = Timing { heartbeat: u64::MAX, idle_timeout: u64::MAX };
         let exchange = Exchange::new(&book, 0, &accounts, timing).expect("accounts in range");
-        let mut column = Published {
-            exchange,
-            mail: Mail::default(),
-        };
+        let mut column = Published { exchange, mail: Mail::default() };
         for session in 0..SESSIONS {
             column.exchange.connect(session, 0);
-            let login = Inbound::Login {
-                version: 1,
-                account: session as u32,
-                token: TOKEN,
-            };
+            let login = Inbound::Login { version: 1, account: session as u32, token: TOKEN };
             column.exchange.receive(session, login, 0, &mut column.mail);
             column.exchange.receive(session, Inbound::Subscribe, 0, &mut column.mail);
         }
@@ -67,22 +53,12 @@ impl Published {
 impl Column for Published {
     type Event = Event;
 
-    fn event(event: Event) -> Event {
-        event
-    }
-
     fn receive(&mut self, session: usize, message: Message, now: u64) {
         let message = match message {
-            Message::New { side, price, qty } => Inbound::NewOrder(NewOrder {
-                client_ref: now,
-                side,
-                qty,
-                kind: OrderKind::Limit {
-                    price,
-                    tif: TimeInForce::Gtc,
-                    display: None,
-                },
-            }),
+            Message::New { side, price, qty } => {
+                let kind = OrderKind::Limit { price, tif: TimeInForce::Gtc, display: None };
+                Inbound::NewOrder(NewOrder { client_ref: now, side, qty, kind })
+            }
             Message::Cancel { id } => Inbound::Cancel { order_id: id },
         };
         self.exchange.receive(session, message, now, &mut self.mail);
@@ -107,8 +83,6 @@ impl Column for Published {
 
     fn wallets(&self) -> Vec<[i64; 4]> {
         let wallets = (0..SESSIONS as u32).filter_map(|a| self.exchange.wallet(a));
-        wallets
-            .map(|w| [w.cash, w.position, w.cash_held, w.position_held])
-            .collect()
+        wallets.map(|w| [w.cash, w.position, w.cash_held, w.position_held]).collect()
     }
 }

@@ -4,8 +4,9 @@ use std::hint::black_box;
 
 use rowanchess::accounts::{Account, Funds};
 use rowanchess::exchange::{Exchange, Mailbox, SessionId, Timing};
-use rowanchess::orderbook::{BookConfig, CancelReason, Event, Side, TimeInForce};
+use rowanchess::orderbook::{BookConfig, Event, TimeInForce};
 use rowanchess::protocol::{Inbound, NewOrder, OrderKind, Outbound, VERSION};
+use scale::library::Turn;
 
 use crate::column::{Column, TOKEN, funds};
 use crate::draw::{Message, SESSIONS};
@@ -29,10 +30,13 @@ pub struct Wrapped {
     pub refused: usize,
 }
 
-fn side(side: orderbook::Side) -> Side {
-    match side {
-        orderbook::Side::Buy => Side::Buy,
-        orderbook::Side::Sell => Side::Sell,
+/// An event in the crate's own type.
+#[derive(Clone, Copy)]
+pub struct Made(Event);
+
+impl From<orderbook::Event> for Made {
+    fn from(event: orderbook::Event) -> Made {
+        Made(event.turn())
     }
 }
 
@@ -46,29 +50,14 @@ impl Wrapped {
             funds: funds(id as usize).map(|(cash, position)| Funds { cash, position }),
         };
         let accounts: Vec<Account> = (0..SESSIONS as u32).map(account).collect();
-        let timing = Timing {
-            heartbeat: u64::MAX,
-            idle_timeout: u64::MAX,
-        };
+        let timing = Timing { heartbeat: u64::MAX, idle_timeout: u64::MAX };
         let exchange = Exchange::new(&BookConfig { max_owners: 256 }, &[], 0, &accounts, timing);
-        let mut column = Wrapped {
-            exchange: exchange.expect("accounts in range"),
-            mail: Mail::default(),
-            refused: 0,
-        };
+        let mut column = Wrapped { exchange: exchange.expect("accounts in range"), mail: Mail::default(), refused: 0 };
         for session in 0..SESSIONS {
             column.exchange.connect(session, 0).expect("a session");
             let account = session as u32;
             let token = TOKEN;
-            column.message(
-                session,
-                Inbound::Login {
-                    version: VERSION,
-                    account,
-                    token,
-                },
-                0,
-            );
+            column.message(session, Inbound::Login { version: VERSION, account, token }, 0);
             column.message(session, Inbound::Subscribe, 0);
         }
         column.mail.0 = 0;
@@ -82,71 +71,17 @@ impl Wrapped {
 }
 
 impl Column for Wrapped {
-    type Event = Event;
-
-    fn event(event: orderbook::Event) -> Event {
-        match event {
-            orderbook::Event::Accepted { id } => Event::Accepted { id },
-            orderbook::Event::Trade {
-                trade_id,
-                taker,
-                maker,
-                taker_side,
-                price,
-                qty,
-                taker_leaves,
-                maker_leaves,
-            } => Event::Trade {
-                trade_id,
-                taker,
-                maker,
-                taker_side: side(taker_side),
-                price,
-                qty,
-                taker_leaves,
-                maker_leaves,
-            },
-            orderbook::Event::Rested {
-                id,
-                side: of,
-                price,
-                qty,
-                visible,
-            } => Event::Rested {
-                id,
-                side: side(of),
-                price,
-                qty,
-                visible,
-            },
-            orderbook::Event::Cancelled { id, qty, reason: _ } => Event::Cancelled {
-                id,
-                qty,
-                reason: CancelReason::Requested,
-            },
-            _ => unreachable!("not drawn"),
-        }
-    }
+    type Event = Made;
 
     fn receive(&mut self, session: usize, message: Message, now: u64) {
-        let message = match message {
-            Message::New {
-                side: of,
-                price,
-                qty,
-            } => Inbound::NewOrder(NewOrder {
-                client_ref: now,
-                side: side(of),
-                qty,
-                kind: OrderKind::Limit {
-                    price,
-                    tif: TimeInForce::Gtc,
-                    display: None,
-                },
-            }),
-            Message::Cancel { id } => Inbound::Cancel { order_id: id },
-        };
-        self.message(session, message, now);
+        match message {
+            Message::New { side, price, qty } => {
+                let kind = OrderKind::Limit { price, tif: TimeInForce::Gtc, display: None };
+                let order = NewOrder { client_ref: now, side: side.turn(), qty, kind };
+                self.message(session, Inbound::NewOrder(order), now);
+            }
+            Message::Cancel { id } => self.message(session, Inbound::Cancel { order_id: id }, now),
+        }
     }
 
     fn take_batch(&mut self) -> usize {
@@ -156,7 +91,7 @@ impl Column for Wrapped {
         batch.len()
     }
 
-    fn deliver(&mut self, n: u64, event: Event) {
+    fn deliver(&mut self, n: u64, Made(event): Made) {
         let done = self.exchange.deliver(n, event, &mut self.mail);
         self.refused += usize::from(done.is_err());
     }
@@ -169,8 +104,6 @@ impl Column for Wrapped {
 
     fn wallets(&self) -> Vec<[i64; 4]> {
         let wallets = (0..SESSIONS as u32).filter_map(|a| self.exchange.wallet(a));
-        wallets
-            .map(|w| [w.cash, w.position, w.cash_held, w.position_held])
-            .collect()
+        wallets.map(|w| [w.cash, w.position, w.cash_held, w.position_held]).collect()
     }
 }

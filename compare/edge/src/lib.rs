@@ -8,11 +8,9 @@ use rowanchess as _;
 
 /// Bytes of a state.
 pub const STATE: usize = 467_200;
-/// Bytes of a message or an event; of a command or a piece of mail; of an account; of a listed order; of a level.
+/// Bytes of a message or an event; of a command or a piece of mail; of a level.
 pub const MESSAGE: usize = 128;
 pub const MAIL: usize = 96;
-pub const ACCOUNT: usize = 56;
-pub const LISTED: usize = 64;
 pub const LEVEL: usize = 24;
 
 /// A code, and how many rows (of a checkpoint: bytes) were written.

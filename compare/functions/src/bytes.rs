@@ -2,7 +2,7 @@
 
 use std::ops::Range;
 
-use crate::function::{Arg, FILL, Function, Inputs, Rust, Words, call, unsigned};
+use crate::function::{FILL, Function, Inputs, Rust, Words, call};
 use crate::inputs::{Draw, LIMITS, Random, boxed, random};
 use crate::rattle;
 use crate::rule::{MALFORMED, OUTSIDE, SHORT};
@@ -37,9 +37,14 @@ fn value(r: &mut Random, width: u64) -> u64 {
     }
 }
 
-/// Words of one byte each.
-fn bytes(r: &mut Random, len: u64) -> Words {
-    (0..len).map(|_| r.below(256)).collect()
+/// Inputs of `first` and as many words of one byte each as it was told.
+fn on_bytes(first: impl Fn(&mut Random, u64) -> Words + 'static) -> Inputs {
+    boxed(random(200_000, move |r| {
+        let len = r.pick(&[0, 1, 2, 3, 4, 7, 8, 9, 16, 16, 16, 33]);
+        let mut args = first(r, len);
+        args.extend((0..len).map(|_| r.below(256)));
+        args
+    }))
 }
 
 fn byte_slice(words: &[u64]) -> Vec<u8> {
@@ -64,16 +69,10 @@ pub struct Load;
 
 impl Function for Load {
     const NAME: &'static str = "load";
-    const ARGS: &'static [Arg] = &[unsigned("width"), unsigned("at"), unsigned("byte")];
-    const REPEATS: bool = true;
+    const ARGS: &'static str = "width, at, byte...";
 
     fn inputs() -> Inputs {
-        boxed(random(200_000, |r| {
-            let len = r.pick(&[0, 1, 2, 3, 4, 7, 8, 9, 16, 16, 16, 33]);
-            let mut args = vec![width(r), place(r, len)];
-            args.extend(bytes(r, len));
-            args
-        }))
+        on_bytes(|r, len| vec![width(r), place(r, len)])
     }
 
     fn rust(args: &[u64]) -> Rust {
@@ -111,22 +110,13 @@ pub struct Store;
 
 impl Function for Store {
     const NAME: &'static str = "store";
-    const ARGS: &'static [Arg] = &[
-        unsigned("width"),
-        unsigned("at"),
-        unsigned("value"),
-        unsigned("byte"),
-    ];
-    const REPEATS: bool = true;
+    const ARGS: &'static str = "width, at, value, byte...";
 
     fn inputs() -> Inputs {
-        boxed(random(200_000, |r| {
-            let len = r.pick(&[0, 1, 2, 3, 4, 7, 8, 9, 16, 16, 16, 33]);
+        on_bytes(|r, len| {
             let width = width(r);
-            let mut args = vec![width, place(r, len), value(r, width)];
-            args.extend(bytes(r, len));
-            args
-        }))
+            vec![width, place(r, len), value(r, width)]
+        })
     }
 
     fn rust(args: &[u64]) -> Rust {

@@ -14,22 +14,23 @@ pub type Inputs = Box<dyn Iterator<Item = Words>>;
 /// What an output has before the call.
 pub const FILL: u64 = 0xA5A5_A5A5_A5A5_A5A5;
 
+/// The arguments that are read with a sign.
+const SIGNED: [&str; 9] = [
+    "price",
+    "mark",
+    "amount",
+    "old",
+    "new",
+    "cash",
+    "position",
+    "cash_held",
+    "position_held",
+];
+
 /// An argument's name, and how its word is read.
-#[derive(Clone, Copy)]
 pub struct Arg {
     pub name: &'static str,
     pub signed: bool,
-}
-
-pub const fn signed(name: &'static str) -> Arg {
-    Arg { name, signed: true }
-}
-
-pub const fn unsigned(name: &'static str) -> Arg {
-    Arg {
-        name,
-        signed: false,
-    }
 }
 
 /// What the Rust says.
@@ -43,9 +44,8 @@ pub enum Rust {
 
 pub trait Function {
     const NAME: &'static str;
-    const ARGS: &'static [Arg];
-    /// Whether the last argument comes any number of times.
-    const REPEATS: bool = false;
+    /// The arguments' names; a last one with dots comes any number of times.
+    const ARGS: &'static str;
     /// How many leading words of the rule's answer tell one kind of overflow from another.
     const KIND: usize = 1;
 
@@ -57,6 +57,20 @@ pub trait Function {
     /// How often an input calls the library.
     fn calls(_args: &[u64]) -> u64 {
         1
+    }
+
+    /// The argument at a place.
+    fn arg(at: usize) -> Arg {
+        let name = Self::ARGS.split(", ").take(at + 1).last();
+        let name = name.expect("a name").trim_end_matches('.');
+        let signed = SIGNED.contains(&name);
+        Arg { name, signed }
+    }
+
+    /// How many arguments come once each, where the last comes any number of times.
+    fn fixed() -> Option<usize> {
+        let names = Self::ARGS.strip_suffix("...")?;
+        Some(names.split(", ").count() - 1)
     }
 }
 

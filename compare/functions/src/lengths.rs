@@ -1,6 +1,6 @@
 //! Lent slices of every length, right and wrong, which the Rust's types do not have.
 
-use crate::function::{Arg, Function, Inputs, Rust, Words, unsigned};
+use crate::function::{Function, Inputs, Rust, Words};
 use crate::inputs::boxed;
 use crate::rattle;
 use crate::rule::{MALFORMED, SHORT};
@@ -26,7 +26,7 @@ pub struct Lengths;
 
 impl Function for Lengths {
     const NAME: &'static str = "lent lengths";
-    const ARGS: &'static [Arg] = &[unsigned("call"), unsigned("input"), unsigned("output")];
+    const ARGS: &'static str = "call, input, output";
 
     fn inputs() -> Inputs {
         let lengths = |most: u64| 0..if most > 0 { LONGEST } else { 1 };

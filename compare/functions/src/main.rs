@@ -15,10 +15,10 @@ mod sample;
 mod shrink;
 
 use std::collections::BTreeMap;
-use std::process::ExitCode;
+use std::process::exit;
 
 use function::{Function, Rust, Words, overflow};
-use shrink::{arg, shrink};
+use shrink::shrink;
 
 /// Calls compared, by who decided them.
 #[derive(Clone, Copy, Default)]
@@ -48,7 +48,7 @@ impl Count {
 
 fn show<F: Function>(args: &[u64]) -> String {
     let show = |(at, &word): (usize, &u64)| {
-        let arg = arg::<F>(at);
+        let arg = F::arg(at);
         match arg.signed {
             true => format!("{} {}", arg.name, word as i64),
             false => format!("{} {word}", arg.name),
@@ -183,7 +183,7 @@ fn tell_other_panics() {
     }));
 }
 
-fn main() -> ExitCode {
+fn main() {
     tell_other_panics();
     let args: Vec<String> = std::env::args().skip(1).collect();
     let result = match &args.iter().map(String::as_str).collect::<Vec<_>>()[..] {
@@ -192,11 +192,8 @@ fn main() -> ExitCode {
         ["--sample", file] => sample::write(file),
         _ => Err("usage: wallet [--overflows | --sample FILE]".to_owned()),
     };
-    match result {
-        Ok(()) => ExitCode::SUCCESS,
-        Err(text) => {
-            eprintln!("{text}");
-            ExitCode::FAILURE
-        }
+    if let Err(text) = result {
+        eprintln!("{text}");
+        exit(1);
     }
 }

@@ -3,10 +3,7 @@
 use gateway::wallet::Wallet;
 
 use crate::exchange;
-use crate::function::{
-    Arg, FILL, Function, Inputs, Rust, Words, call, side, signed, to_bytes, unless_overflow,
-    unsigned,
-};
+use crate::function::{FILL, Function, Inputs, Rust, Words, call, side, to_bytes, unless_overflow};
 use crate::inputs::{Draw, LIMITS, NO_SIDES, Random, SIDES, all, boxed, listed, random};
 use crate::rattle;
 use crate::rule::{self, MALFORMED, OUTSIDE};
@@ -36,14 +33,25 @@ fn fits(amount: Option<i64>) -> Words {
     vec![0, amount.is_some().into(), amount.unwrap_or(0) as u64]
 }
 
-/// A wallet whose `side` owns and holds these; the rest is random.
-fn wallet_with(side: u64, owned: u64, held: u64, random: &mut Random) -> [u64; 4] {
+/// `args` and a wallet whose side owns and holds these; the rest is random.
+fn with_wallet(mut args: Words, owned: u64, held: u64, random: &mut Random) -> Words {
     let (a, b) = (random.word(), random.word());
-    if side == 0 {
-        [owned, a, held, b]
+    if args[0] == 0 {
+        args.extend([owned, a, held, b]);
     } else {
-        [a, owned, b, held]
+        args.extend([a, owned, b, held]);
     }
+    args
+}
+
+/// A side and three limits: all of them, and some with no side's code.
+fn limits() -> impl Iterator<Item = Words> {
+    all([&SIDES, &LIMITS, &LIMITS, &LIMITS]).chain(all([
+        &NO_SIDES,
+        &LIMITS,
+        &LIMITS[..3],
+        &LIMITS[..3],
+    ]))
 }
 
 /// A price and a quantity whose product is near a limit.
@@ -62,7 +70,7 @@ pub struct HoldOf;
 
 impl Function for HoldOf {
     const NAME: &'static str = "hold_of";
-    const ARGS: &'static [Arg] = &[unsigned("side"), signed("price"), unsigned("leaves")];
+    const ARGS: &'static str = "side, price, leaves";
 
     fn inputs() -> Inputs {
         boxed(
@@ -102,31 +110,16 @@ pub struct Covers;
 
 impl Function for Covers {
     const NAME: &'static str = "covers";
-    const ARGS: &'static [Arg] = &[
-        unsigned("side"),
-        signed("amount"),
-        signed("cash"),
-        signed("position"),
-        signed("cash_held"),
-        signed("position_held"),
-    ];
+    const ARGS: &'static str = "side, amount, cash, position, cash_held, position_held";
     const KIND: usize = 2;
 
     fn inputs() -> Inputs {
         let mut r = Random::new();
-        let mut input = move |side, amount, owned, held| {
-            let mut args = vec![side, amount];
-            args.extend(wallet_with(side, owned, held, &mut r));
-            args
-        };
-        let limits = all([&SIDES, &LIMITS, &LIMITS, &LIMITS])
-            .chain(all([&NO_SIDES, &LIMITS, &LIMITS[..3], &LIMITS[..3]]))
-            .map(move |a| input(a[0], a[1], a[2], a[3]));
+        let limits = limits().map(move |a| with_wallet(a[..2].to_vec(), a[2], a[3], &mut r));
         let border = |r: &mut Random| {
             let (side, owned, held) = (r.below(2), r.word(), r.word());
-            let mut args = vec![side, r.beside(owned.wrapping_sub(held))];
-            args.extend(wallet_with(side, owned, held, r));
-            args
+            let amount = r.beside(owned.wrapping_sub(held));
+            with_wallet(vec![side, amount], owned, held, r)
         };
         boxed(
             listed([[0, 999, 1000, 0, 1, 0], [0, 1000, 1000, 0, 1, 0]])
@@ -165,38 +158,23 @@ impl Function for Covers {
 
 pub struct Hold;
 
-const HOLD: &[Arg] = &[
-    unsigned("side"),
-    signed("old"),
-    signed("new"),
-    signed("cash"),
-    signed("position"),
-    signed("cash_held"),
-    signed("position_held"),
-];
+const HOLD: &str = "side, old, new, cash, position, cash_held, position_held";
 
 impl Function for Hold {
     const NAME: &'static str = "hold";
-    const ARGS: &'static [Arg] = HOLD;
+    const ARGS: &'static str = HOLD;
 
     fn inputs() -> Inputs {
         let mut r = Random::new();
-        let mut input = move |side, old, new, total| {
-            let mut args = vec![side, old, new];
+        let limits = limits().map(move |a| {
             let owned = r.word();
-            args.extend(wallet_with(side, owned, total, &mut r));
-            args
-        };
-        let limits = all([&SIDES, &LIMITS, &LIMITS, &LIMITS])
-            .chain(all([&NO_SIDES, &LIMITS, &LIMITS[..3], &LIMITS[..3]]))
-            .map(move |a| input(a[0], a[1], a[2], a[3]));
+            with_wallet(a[..3].to_vec(), owned, a[3], &mut r)
+        });
         let border = |r: &mut Random| {
             let (side, old, total, owned) = (r.below(2), r.word(), r.word(), r.word());
             let limit = r.beside(1 << 63);
             let new = limit.wrapping_sub(total).wrapping_add(old);
-            let mut args = vec![side, old, new];
-            args.extend(wallet_with(side, owned, total, r));
-            args
+            with_wallet(vec![side, old, new], owned, total, r)
         };
         boxed(
             listed([[0, 1000, 500, 520, 2, 1000, 0]])
@@ -241,7 +219,7 @@ pub struct HoldInExchange;
 
 impl Function for HoldInExchange {
     const NAME: &'static str = "hold, by Exchange";
-    const ARGS: &'static [Arg] = HOLD;
+    const ARGS: &'static str = HOLD;
 
     fn inputs() -> Inputs {
         let limits = all([&SIDES, &LIMITS, &LIMITS, &LIMITS, &LIMITS[..2]])
@@ -273,15 +251,7 @@ pub struct Settle;
 
 impl Function for Settle {
     const NAME: &'static str = "settle";
-    const ARGS: &'static [Arg] = &[
-        unsigned("side"),
-        signed("price"),
-        unsigned("qty"),
-        signed("cash"),
-        signed("position"),
-        signed("cash_held"),
-        signed("position_held"),
-    ];
+    const ARGS: &'static str = "side, price, qty, cash, position, cash_held, position_held";
 
     fn inputs() -> Inputs {
         let mut r = Random::new();

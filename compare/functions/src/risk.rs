@@ -1,9 +1,7 @@
 //! The collar and the throttle, with the Rust's `Exchange`.
 
 use crate::exchange::{self, Session};
-use crate::function::{
-    Arg, FILL, Function, Inputs, Rust, Words, call, signed, to_bytes, to_words, unsigned,
-};
+use crate::function::{FILL, Function, Inputs, Rust, Words, call, to_bytes, to_words};
 use crate::inputs::{Draw, LIMITS, Random, all, boxed, listed, random};
 use crate::rattle;
 use crate::rule::{self, Bucket, TOKEN};
@@ -28,7 +26,7 @@ const PERCENTS: [u64; 13] = [
 
 impl Function for Near {
     const NAME: &'static str = "near";
-    const ARGS: &'static [Arg] = &[signed("price"), signed("mark"), unsigned("percent")];
+    const ARGS: &'static str = "price, mark, percent";
 
     fn inputs() -> Inputs {
         let percent = |r: &mut Random| match r.below(3) {
@@ -145,8 +143,7 @@ fn steps(args: &[u64], mut passes: impl FnMut(u64, bool) -> bool) -> Words {
 
 impl Function for TakeToken {
     const NAME: &'static str = "take_token";
-    const ARGS: &'static [Arg] = &[unsigned("rate"), unsigned("time")];
-    const REPEATS: bool = true;
+    const ARGS: &'static str = "rate, time...";
 
     fn inputs() -> Inputs {
         boxed(
@@ -194,12 +191,7 @@ pub struct TakeTokenOf;
 
 impl Function for TakeTokenOf {
     const NAME: &'static str = "take_token, any bucket";
-    const ARGS: &'static [Arg] = &[
-        unsigned("rate"),
-        unsigned("time"),
-        unsigned("tokens"),
-        unsigned("refilled"),
-    ];
+    const ARGS: &'static str = "rate, time, tokens, refilled";
 
     fn inputs() -> Inputs {
         boxed(random(100_000, |r| {

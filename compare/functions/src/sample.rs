@@ -75,7 +75,7 @@ fn pack(fixed: usize, words: &[u64]) -> Words {
 
 /// Rows of `F`, whose answer has `results` numbers before any bytes.
 fn byte_rows<F: Function>(function: u64, results: usize, count: usize) -> Vec<Row> {
-    let fixed = F::ARGS.len() - 1;
+    let fixed = F::fixed().expect("any number of bytes");
     F::inputs()
         .filter(|args| args.len() == fixed + 16)
         .filter_map(|args| {

@@ -1,6 +1,6 @@
 //! A smaller input of the same kind.
 
-use crate::function::{Arg, Function, Words};
+use crate::function::{Function, Words};
 
 /// `word` nearer to zero by `step`, unless that goes past it.
 fn nearer(word: u64, signed: bool, step: u64) -> Option<u64> {
@@ -20,8 +20,8 @@ fn places(count: usize) -> impl Iterator<Item = (usize, usize)> {
 /// `args` with those at two places nearer to zero by `step`; they may be the same place.
 fn moved<F: Function>(args: &[u64], (a, b): (usize, usize), step: u64) -> Option<Words> {
     let mut input = args.to_vec();
-    input[a] = nearer(args[a], arg::<F>(a).signed, step)?;
-    input[b] = nearer(args[b], arg::<F>(b).signed, step)?;
+    input[a] = nearer(args[a], F::arg(a).signed, step)?;
+    input[b] = nearer(args[b], F::arg(b).signed, step)?;
     Some(input)
 }
 
@@ -29,7 +29,7 @@ fn moved<F: Function>(args: &[u64], (a, b): (usize, usize), step: u64) -> Option
 /// the same step, in two; large steps first.
 fn smaller<F: Function>(args: &[u64]) -> impl Iterator<Item = Words> {
     let count = args.len();
-    let fixed = if F::REPEATS { F::ARGS.len() - 1 } else { count };
+    let fixed = F::fixed().unwrap_or(count);
     let shorter = (fixed..count).map(|at| [&args[..at], &args[at + 1..]].concat());
     let zeros = (0..count).filter_map(|at| moved::<F>(args, (at, at), size::<F>(args, at)));
     let zeros = zeros.filter(move |input| input != args);
@@ -41,14 +41,10 @@ fn smaller<F: Function>(args: &[u64]) -> impl Iterator<Item = Words> {
 
 /// How far an argument is from zero.
 pub fn size<F: Function>(args: &[u64], at: usize) -> u64 {
-    match arg::<F>(at).signed {
+    match F::arg(at).signed {
         true => (args[at] as i64).unsigned_abs(),
         false => args[at],
     }
-}
-
-pub fn arg<F: Function>(at: usize) -> Arg {
-    F::ARGS[at.min(F::ARGS.len() - 1)]
 }
 
 /// The smallest input found, going down from `args`, on which `same` still holds.

@@ -1,6 +1,6 @@
 //! The entry points with whatever is lent to them, and what has to come of it.
 
-use calls::words::{self, Words};
+use calls::words::{self, Coded, Words};
 use calls::{Call, Gateway, Model, Seen, rows};
 use edge::entered::{Said, bytes, message};
 use edge::{LEVEL, MAIL, STATE};
@@ -102,7 +102,7 @@ impl Given {
         Some(match self.entry {
             Entry::LastSeq => Call::LastSeq,
             Entry::Wallet => Call::Wallet(first as u32),
-            Entry::Levels => Call::Levels(rows::side(first)?),
+            Entry::Levels => Call::Levels(Coded::coded(first)?),
             Entry::Collar => match first {
                 0 => Call::Collar(None),
                 1 => Call::Collar(Some(second as u32)),
@@ -112,7 +112,7 @@ impl Given {
             Entry::Receive => Call::Receive(session, rows::message(&self.row)?, second),
             Entry::Tick => Call::Tick(first),
             Entry::Publish => Call::Publish,
-            Entry::End => Call::End(session, rows::logout_reason(second as u8)?),
+            Entry::End => Call::End(session, Coded::coded(u64::from(second as u8))?),
             Entry::ShutDown => Call::ShutDown,
             Entry::Disconnect => Call::Disconnect(session),
             Entry::Detach => Call::Detach(session),

@@ -33,17 +33,7 @@ fn list(items: &[impl Antt]) -> String {
     format!("({items}[])")
 }
 
-macro_rules! numbers {
-    ($($number:ty)*) => {
-        $(impl Antt for $number {
-            fn antt(&self) -> String {
-                self.to_string()
-            }
-        })*
-    };
-}
-
-numbers!(u8 u16 u32 u64 usize);
+calls::printed_numbers!(Antt antt: u8 u16 u32 u64 usize);
 
 impl Antt for i64 {
     fn antt(&self) -> String {

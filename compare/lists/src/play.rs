@@ -2,9 +2,9 @@
 
 use std::collections::BTreeMap;
 
+use calls::names;
 use calls::words::{self, LEVEL, ROW, Words, arguments, row};
 use calls::{Answer, Call, Mail, Seen, Start};
-use protocol::{Inbound, Outbound};
 
 /// The words of a start, an account or a call.
 const CALL: usize = 16;
@@ -134,31 +134,20 @@ impl File {
 
     fn count(&mut self, call: &Call, name: &str, code: u64, seen: &Seen) {
         self.meets(format!("call {name} code {code}"));
-        let case = |text: String| text.split(['(', ' ', '{']).next().unwrap_or_default().to_owned();
-        match call {
-            Call::Receive(_, Inbound::NewOrder(order), _) => self.meets(format!("receive NewOrder {}", case(format!("{:?}", order.kind)))),
-            Call::Receive(_, message, _) => self.meets(format!("receive {}", case(format!("{message:?}")))),
-            Call::Deliver(_, event) => self.meets(format!("event {}", case(format!("{event:?}")))),
-            Call::ReplayEvent(_, event) => self.meets(format!("replayed {}", case(format!("{event:?}")))),
-            Call::ReplayCommand(_, command) => self.meets(format!("replayed {}", case(format!("{command:?}")))),
-            _ => {}
+        if let Some(given) = names::given(call) {
+            self.meets(given);
         }
         let Seen::Sees(answer, mails) = seen else { return };
         for mail in mails {
-            let what = match mail {
+            self.meets(match mail {
                 Mail::Close(_) => "close".to_owned(),
-                Mail::Send(_, Outbound::Report(report)) => format!("report {}", case(format!("{:?}", report.kind))),
-                Mail::Send(_, Outbound::Reject { reason, .. }) => format!("reject {reason:?}"),
-                Mail::Send(_, Outbound::LoginRejected { reason }) => format!("login rejected {reason:?}"),
-                Mail::Send(_, Outbound::Logout { reason }) => format!("logout {reason:?}"),
-                Mail::Send(_, message) => format!("mail {}", case(format!("{message:?}"))),
-            };
-            self.meets(what);
+                Mail::Send(_, message) => names::sent(message),
+            });
         }
         match answer {
             Answer::Commands(commands) => {
                 for command in commands {
-                    self.meets(format!("command {}", case(format!("{command:?}"))));
+                    self.meets(format!("command {}", names::case(command)));
                 }
             }
             Answer::Wallet(wallet) => self.meets(format!("wallet {}", if wallet.is_some() { "there" } else { "none" })),

@@ -3,18 +3,14 @@
 use std::collections::BTreeMap;
 
 use calls::depth::{CHANGED, LEVELS, ORDERS};
+use calls::names;
 use calls::state::{BATCH, FLIGHTS, LIVE, NOTICES, OWNERS, SESSIONS, TRADES};
 use calls::{Answer, Call, Mail, Model, Seen, Start};
 use orderbook::Side;
-use protocol::{Inbound, Outbound, RejectCode};
+use protocol::RejectCode;
 
 #[derive(Default)]
 pub struct Coverage(BTreeMap<String, u64>);
-
-/// The case of an enum's value.
-fn case(text: String) -> String {
-    text.split(['(', ' ', '{']).next().unwrap_or_default().to_owned()
-}
 
 /// Calls, and the codes that document 01 has for them; 0 is an accepted one.
 const CODES: [(&str, &[u8]); 21] = [
@@ -61,7 +57,7 @@ const KINDS: [(&str, &[&str]); 13] = [
     ("login rejected", &["UnsupportedVersion", "BadCredentials", "AlreadyLoggedIn", "AlreadyInSession"]),
     ("logout", &["Requested", "Idle", "ProtocolError", "SlowConsumer", "Shutdown"]),
     ("reject", &["TooManyOrders", "Throttled", "Unavailable", "InsufficientFunds", "NotAllowed", "OffMarket"]),
-    ("report", &EVENTS_AS_REPORTS),
+    ("report", &REPORTS),
     ("event", &EVENTS),
     ("replayed", &EVENTS),
     ("replayed", &["Limit", "Market", "Cancel", "Modify", "Stop", "CancelAll", "SetPhase"]),
@@ -115,19 +111,12 @@ const EVENTS: [&str; 11] = [
     "PhaseChanged",
 ];
 
-const EVENTS_AS_REPORTS: [&str; 11] = [
-    "Accepted",
-    "Rejected",
-    "Fill",
-    "Rested",
-    "Replenished",
-    "Cancelled",
-    "Modified",
-    "StopPlaced",
-    "Triggered",
-    "MassCancelled",
-    "PhaseChanged",
-];
+/// A trade is reported as a fill.
+const REPORTS: [&str; 11] = {
+    let mut kinds = EVENTS;
+    kinds[2] = "Fill";
+    kinds
+};
 
 impl Coverage {
     pub fn meets(&mut self, what: impl AsRef<str>) {
@@ -151,13 +140,8 @@ impl Coverage {
     pub fn call(&mut self, call: &Call, seen: &Seen, before: &Reasons) {
         let code = if let Seen::Code(code) = seen { *code } else { 0 };
         self.meets(format!("{} code {code}", call.name()));
-        match call {
-            Call::Receive(_, Inbound::NewOrder(order), _) => self.meets(format!("receive NewOrder {}", case(format!("{:?}", order.kind)))),
-            Call::Receive(_, message, _) => self.meets(format!("receive {}", case(format!("{message:?}")))),
-            Call::Deliver(_, event) => self.meets(format!("event {}", case(format!("{event:?}")))),
-            Call::ReplayEvent(_, event) => self.meets(format!("replayed {}", case(format!("{event:?}")))),
-            Call::ReplayCommand(_, command) => self.meets(format!("replayed {}", case(format!("{command:?}")))),
-            _ => {}
+        if let Some(given) = names::given(call) {
+            self.meets(given);
         }
         if let Some(table) = before.0.filter(|_| code == 5 || seen.rejects(RejectCode::Unavailable)) {
             let name = match call {
@@ -169,21 +153,13 @@ impl Coverage {
         }
         let Seen::Sees(answer, mails) = seen else { return };
         for mail in mails {
-            if let Mail::Send(_, Outbound::LevelUpdate(_)) = mail {
-                self.meets("mail LevelUpdate");
-                continue;
-            }
             self.meets(match mail {
                 Mail::Close(_) => "mail close".to_owned(),
-                Mail::Send(_, Outbound::Report(report)) => format!("report {}", case(format!("{:?}", report.kind))),
-                Mail::Send(_, Outbound::Reject { reason, .. }) => format!("reject {reason:?}"),
-                Mail::Send(_, Outbound::LoginRejected { reason }) => format!("login rejected {reason:?}"),
-                Mail::Send(_, Outbound::Logout { reason }) => format!("logout {reason:?}"),
-                Mail::Send(_, message) => format!("mail {}", case(format!("{message:?}"))),
+                Mail::Send(_, message) => names::sent(message),
             });
         }
         if let Answer::Commands(commands) = answer {
-            commands.iter().for_each(|command| self.meets(format!("command {}", case(format!("{command:?}")))));
+            commands.iter().for_each(|command| self.meets(format!("command {}", names::case(command))));
         }
     }
 

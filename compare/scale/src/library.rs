@@ -13,7 +13,7 @@ use protocol::{
 use rowanchess::{Exchange, Refusal};
 
 /// The same value in the library's type, or back.
-trait Turn<T> {
+pub trait Turn<T> {
     fn turn(self) -> T;
 }
 

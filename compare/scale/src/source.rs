@@ -16,17 +16,7 @@ pub trait Source {
     fn source(&self) -> String;
 }
 
-macro_rules! numbers {
-    ($($number:ty)*) => {
-        $(impl Source for $number {
-            fn source(&self) -> String {
-                self.to_string()
-            }
-        })*
-    };
-}
-
-numbers!(bool u8 u16 u32 u64 usize i64);
+calls::printed_numbers!(Source source: bool u8 u16 u32 u64 usize i64);
 
 impl<T: Source> Source for Option<T> {
     fn source(&self) -> String {

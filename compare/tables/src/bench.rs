@@ -9,12 +9,12 @@ const ROUNDS: usize = 301;
 pub fn bench() {
     let mut table = Table::default();
     let mut bench = orders::Bench::new();
-    (0..ROUNDS).for_each(|round| bench.round(round, &mut table));
+    (0..ROUNDS).for_each(|_| bench.round(&mut table));
     println!("Live orders, {} of them:\n", orders::LIVE);
     table.print("HashMap");
     let mut table = Table::default();
     let mut bench = levels::Bench::new();
-    (0..ROUNDS).for_each(|round| bench.round(round, &mut table));
+    (0..ROUNDS).for_each(|_| bench.round(&mut table));
     println!("\nLevels of a side, {} of them:\n", levels::LEVELS);
     table.print("BTreeMap");
 }

@@ -2,7 +2,8 @@
 
 use crate::proved::{State, key};
 use crate::random::{Draw, Random};
-use crate::standard::{Levels, Live, Orders, Side};
+use crate::standard::{Levels, Orders};
+use crate::table::{LevelTable, Live, OrderTable, Side};
 
 const STEPS: usize = 100_000;
 

@@ -1,9 +1,12 @@
 //! The levels of a side: about 120 of them, at prices drawn from a range of 2,000.
 
+use std::time::Duration;
+
 use crate::proved::State;
 use crate::random::Random;
-use crate::standard::{Levels, Side};
-use crate::timing::{Table, in_turns, time_each, time_parts};
+use crate::standard::Levels;
+use crate::table::{LevelTable, Side};
+use crate::timing::{self, Table, time_each, time_parts};
 
 pub const LEVELS: usize = 120;
 
@@ -29,9 +32,39 @@ struct Turn {
     close: i64,
 }
 
-struct Batch {
-    firsts: Vec<i64>,
-    seconds: Vec<i64>,
+/// Orders come, and as many go.
+type Batch = timing::Batch<i64, i64>;
+
+fn time_finds(levels: &impl LevelTable, prices: &[i64]) -> [Duration; 1] {
+    time_each(prices, |&price| levels.level(SIDE, price))
+}
+
+fn time_shows(levels: &mut impl LevelTable, prices: &[i64]) -> [Duration; 1] {
+    time_each(prices, |&price| {
+        levels.show(SIDE, price, SHOWN, SHOWN);
+        0
+    })
+}
+
+fn time_batches(levels: &mut impl LevelTable, batches: &[Batch]) -> [Duration; 2] {
+    time_parts(
+        levels,
+        batches,
+        |levels, &price| levels.join(SIDE, price, SHOWN),
+        |levels, &price| levels.leave(SIDE, price, SHOWN),
+    )
+}
+
+fn time_turns(levels: &mut impl LevelTable, turns: &[Turn]) -> [Duration; 1] {
+    time_each(turns, |turn| {
+        levels.join(SIDE, turn.open, SHOWN);
+        let found = levels.level(SIDE, turn.hit) + levels.level(SIDE, turn.miss);
+        levels.join(SIDE, turn.join, SHOWN);
+        levels.show(SIDE, turn.show, SHOWN, SHOWN);
+        levels.leave(SIDE, turn.join, SHOWN);
+        levels.leave(SIDE, turn.close, SHOWN);
+        found
+    })
 }
 
 pub struct Bench {
@@ -80,6 +113,14 @@ impl Bench {
         self.random.pick(&self.prices)
     }
 
+    /// Levels that open, and as many that close.
+    fn draw_batch(&mut self) -> Batch {
+        Batch {
+            firsts: (0..BATCH).map(|_| self.draw_open()).collect(),
+            seconds: (0..BATCH).map(|_| self.draw_close()).collect(),
+        }
+    }
+
     fn open(&mut self) {
         let price = self.draw_open();
         self.state.join(SIDE, price, SHOWN);
@@ -92,86 +133,27 @@ impl Bench {
         self.levels.leave(SIDE, price, SHOWN);
     }
 
-    fn finds(&mut self, name: &'static str, round: usize, table: &mut Table, prices: &[i64]) {
-        let (state, levels) = (&self.state, &self.levels);
-        let proved = || time_each(prices, |&price| state.level(SIDE, price));
-        let standard = || time_each(prices, |&price| levels.level(SIDE, price));
-        let (proved, standard) = in_turns(round, proved, standard);
-        table.note(name, prices.len(), proved, standard);
+    fn finds(&mut self, name: &'static str, table: &mut Table, prices: &[i64]) {
+        let proved = || time_finds(&self.state, prices);
+        let standard = || time_finds(&self.levels, prices);
+        table.time([name], prices.len(), proved, standard);
     }
 
-    fn shows(&mut self, round: usize, table: &mut Table) {
+    fn shows(&mut self, table: &mut Table) {
         let prices: Vec<i64> = (0..CALLS).map(|_| self.draw_present()).collect();
-        let (state, levels) = (&mut self.state, &mut self.levels);
-        let proved = || {
-            time_each(&prices, |&price| {
-                state.show(SIDE, price, SHOWN, SHOWN);
-                0
-            })
-        };
-        let standard = || {
-            time_each(&prices, |&price| {
-                levels.show(SIDE, price, SHOWN, SHOWN);
-                0
-            })
-        };
-        let (proved, standard) = in_turns(round, proved, standard);
-        table.note("show", prices.len(), proved, standard);
+        let proved = || time_shows(&mut self.state, &prices);
+        let standard = || time_shows(&mut self.levels, &prices);
+        table.time(["show"], prices.len(), proved, standard);
     }
 
-    /// Orders come in the first part of a batch, and as many go in the second.
-    fn batches(
-        &mut self,
-        names: [&'static str; 2],
-        round: usize,
-        table: &mut Table,
-        batches: &[Batch],
-    ) {
-        let (state, levels) = (&mut self.state, &mut self.levels);
-        let proved = || {
-            time_parts(
-                state,
-                batches,
-                |state, batch| {
-                    batch
-                        .firsts
-                        .iter()
-                        .for_each(|&price| state.join(SIDE, price, SHOWN))
-                },
-                |state, batch| {
-                    batch
-                        .seconds
-                        .iter()
-                        .for_each(|&price| state.leave(SIDE, price, SHOWN))
-                },
-            )
-        };
-        let standard = || {
-            time_parts(
-                levels,
-                batches,
-                |levels, batch| {
-                    batch
-                        .firsts
-                        .iter()
-                        .for_each(|&price| levels.join(SIDE, price, SHOWN))
-                },
-                |levels, batch| {
-                    batch
-                        .seconds
-                        .iter()
-                        .for_each(|&price| levels.leave(SIDE, price, SHOWN))
-                },
-            )
-        };
-        let (proved, standard) = in_turns(round, proved, standard);
-        let count = batches.len() * BATCH;
-        table.note(names[0], count, proved.0, standard.0);
-        table.note(names[1], count, proved.1, standard.1);
+    fn batches(&mut self, names: [&'static str; 2], table: &mut Table, batches: &[Batch]) {
+        let proved = || time_batches(&mut self.state, batches);
+        let standard = || time_batches(&mut self.levels, batches);
+        table.time(names, batches.len() * BATCH, proved, standard);
     }
 
     /// The same levels get an order and lose one.
-    fn joins(&mut self, round: usize, table: &mut Table) {
+    fn joins(&mut self, table: &mut Table) {
         let batch = |_| {
             let firsts: Vec<i64> = (0..BATCH).map(|_| self.draw_present()).collect();
             Batch {
@@ -182,23 +164,17 @@ impl Bench {
         let batches: Vec<Batch> = (0..CALLS / BATCH).map(batch).collect();
         self.batches(
             ["add, at a level", "remove, not the last order"],
-            round,
             table,
             &batches,
         );
     }
 
     /// Batches with half a batch fewer levels before it and half a batch more behind it.
-    fn opens(&mut self, round: usize, table: &mut Table) {
+    fn opens(&mut self, table: &mut Table) {
         (0..BATCH / 2).for_each(|_| self.close());
-        let batch = |_| Batch {
-            firsts: (0..BATCH).map(|_| self.draw_open()).collect(),
-            seconds: (0..BATCH).map(|_| self.draw_close()).collect(),
-        };
-        let batches: Vec<Batch> = (0..CALLS / BATCH).map(batch).collect();
+        let batches: Vec<Batch> = (0..CALLS / BATCH).map(|_| self.draw_batch()).collect();
         self.batches(
             ["add, a new level", "remove, a level's last order"],
-            round,
             table,
             &batches,
         );
@@ -219,43 +195,21 @@ impl Bench {
         }
     }
 
-    fn mix(&mut self, round: usize, table: &mut Table) {
+    fn mix(&mut self, table: &mut Table) {
         let turns: Vec<Turn> = (0..CALLS).map(|_| self.draw_turn()).collect();
-        let (state, levels) = (&mut self.state, &mut self.levels);
-        let proved = || {
-            time_each(&turns, |turn| {
-                state.join(SIDE, turn.open, SHOWN);
-                let found = state.level(SIDE, turn.hit) + state.level(SIDE, turn.miss);
-                state.join(SIDE, turn.join, SHOWN);
-                state.show(SIDE, turn.show, SHOWN, SHOWN);
-                state.leave(SIDE, turn.join, SHOWN);
-                state.leave(SIDE, turn.close, SHOWN);
-                found
-            })
-        };
-        let standard = || {
-            time_each(&turns, |turn| {
-                levels.join(SIDE, turn.open, SHOWN);
-                let found = levels.level(SIDE, turn.hit) + levels.level(SIDE, turn.miss);
-                levels.join(SIDE, turn.join, SHOWN);
-                levels.show(SIDE, turn.show, SHOWN, SHOWN);
-                levels.leave(SIDE, turn.join, SHOWN);
-                levels.leave(SIDE, turn.close, SHOWN);
-                found
-            })
-        };
-        let (proved, standard) = in_turns(round, proved, standard);
-        table.note("the mix: one of each", 7 * CALLS, proved, standard);
+        let proved = || time_turns(&mut self.state, &turns);
+        let standard = || time_turns(&mut self.levels, &turns);
+        table.time(["the mix: one of each"], 7 * CALLS, proved, standard);
     }
 
-    pub fn round(&mut self, round: usize, table: &mut Table) {
+    pub fn round(&mut self, table: &mut Table) {
         let hits: Vec<i64> = (0..CALLS).map(|_| self.draw_present()).collect();
-        self.finds("find, a level", round, table, &hits);
+        self.finds("find, a level", table, &hits);
         let misses: Vec<i64> = (0..CALLS).map(|_| self.draw_absent()).collect();
-        self.finds("find, no level", round, table, &misses);
-        self.joins(round, table);
-        self.opens(round, table);
-        self.shows(round, table);
-        self.mix(round, table);
+        self.finds("find, no level", table, &misses);
+        self.joins(table);
+        self.opens(table);
+        self.shows(table);
+        self.mix(table);
     }
 }

@@ -8,11 +8,12 @@ mod orders;
 mod proved;
 mod random;
 mod standard;
+mod table;
 mod timing;
 
-use std::process::ExitCode;
+use std::process::exit;
 
-fn main() -> ExitCode {
+fn main() {
     let args: Vec<String> = std::env::args().skip(1).collect();
     let result = match &args.iter().map(String::as_str).collect::<Vec<_>>()[..] {
         ["--check"] => check::check(),
@@ -22,11 +23,8 @@ fn main() -> ExitCode {
         }
         _ => Err("usage: tables --check | --bench".to_owned()),
     };
-    match result {
-        Ok(()) => ExitCode::SUCCESS,
-        Err(text) => {
-            eprintln!("{text}");
-            ExitCode::FAILURE
-        }
+    if let Err(text) = result {
+        eprintln!("{text}");
+        exit(1);
     }
 }

@@ -2,11 +2,13 @@
 //! orders gather and are squeezed out.
 
 use std::collections::HashSet;
+use std::time::Duration;
 
 use crate::proved::State;
 use crate::random::{Draw, Random};
-use crate::standard::{Live, Orders};
-use crate::timing::{Table, in_turns, time_each, time_parts};
+use crate::standard::Orders;
+use crate::table::{Live, OrderTable};
+use crate::timing::{self, Table, time_each, time_parts};
 
 pub const LIVE: usize = 950;
 
@@ -27,9 +29,35 @@ struct Turn {
     remove: u64,
 }
 
-struct Batch {
-    adds: Vec<(u64, Live)>,
-    removes: Vec<u64>,
+/// Orders are added, and as many removed.
+type Batch = timing::Batch<(u64, Live), u64>;
+
+fn time_finds(orders: &impl OrderTable, numbers: &[u64]) -> [Duration; 1] {
+    time_each(numbers, |&number| orders.find(number))
+}
+
+fn time_changes(orders: &mut impl OrderTable, numbers: &[u64]) -> [Duration; 1] {
+    time_each(numbers, |&number| orders.change(number, number, 7).into())
+}
+
+fn time_batches(orders: &mut impl OrderTable, batches: &[Batch]) -> [Duration; 2] {
+    time_parts(
+        orders,
+        batches,
+        |orders, &(number, live)| orders.add(number, live),
+        |orders, &number| _ = orders.remove(number),
+    )
+}
+
+fn time_turns(orders: &mut impl OrderTable, turns: &[Turn]) -> [Duration; 1] {
+    time_each(turns, |turn| {
+        orders.add(turn.number, turn.live);
+        let found = orders.find(turn.hit).wrapping_add(orders.find(turn.miss));
+        let changed = orders.change(turn.change, turn.number, 7);
+        found
+            .wrapping_add(changed.into())
+            .wrapping_add(orders.remove(turn.remove).into())
+    })
 }
 
 pub struct Bench {
@@ -49,11 +77,7 @@ impl Bench {
             live: Vec::new(),
             next: 1,
         };
-        for _ in 0..LIVE {
-            let (number, live) = bench.draw_add();
-            bench.state.add(number, live);
-            bench.map.add(number, live);
-        }
+        (0..LIVE).for_each(|_| bench.add());
         bench.churn(20_000);
         bench
     }
@@ -70,14 +94,29 @@ impl Bench {
         self.live.swap_remove(at)
     }
 
+    fn draw_batch(&mut self) -> Batch {
+        Batch {
+            firsts: (0..BATCH).map(|_| self.draw_add()).collect(),
+            seconds: (0..BATCH).map(|_| self.draw_remove()).collect(),
+        }
+    }
+
+    fn add(&mut self) {
+        let (number, live) = self.draw_add();
+        self.state.add(number, live);
+        self.map.add(number, live);
+    }
+
+    fn remove(&mut self) {
+        let number = self.draw_remove();
+        self.state.remove(number);
+        self.map.remove(number);
+    }
+
     fn churn(&mut self, turns: usize) {
         for _ in 0..turns {
-            let (number, live) = self.draw_add();
-            let gone = self.draw_remove();
-            self.state.add(number, live);
-            self.map.add(number, live);
-            self.state.remove(gone);
-            self.map.remove(gone);
+            self.add();
+            self.remove();
         }
     }
 
@@ -85,18 +124,16 @@ impl Bench {
         (0..CALLS).map(|_| self.random.pick(from)).collect()
     }
 
-    fn finds(&mut self, name: &'static str, round: usize, table: &mut Table, numbers: &[u64]) {
-        let (state, map) = (&self.state, &self.map);
-        let proved = || time_each(numbers, |&number| state.find(number));
-        let standard = || time_each(numbers, |&number| map.find(number));
-        let (proved, standard) = in_turns(round, proved, standard);
-        table.note(name, numbers.len(), proved, standard);
+    fn finds(&mut self, name: &'static str, table: &mut Table, numbers: &[u64]) {
+        let proved = || time_finds(&self.state, numbers);
+        let standard = || time_finds(&self.map, numbers);
+        table.time([name], numbers.len(), proved, standard);
     }
 
-    fn all_finds(&mut self, round: usize, table: &mut Table) {
+    fn all_finds(&mut self, table: &mut Table) {
         let live = self.live.clone();
         let hits = self.draw(&live);
-        self.finds("find, live", round, table, &hits);
+        self.finds("find, live", table, &hits);
         let rows = 0..self.state.cell(0, 0, 12) as usize;
         let rows: HashSet<u64> = rows.map(|row| self.state.cell(5, row, 0)).collect();
         let live: HashSet<u64> = live.into_iter().collect();
@@ -105,80 +142,29 @@ impl Bench {
             .filter(|number| !live.contains(number))
             .partition(|number| rows.contains(number));
         let there = self.draw(&there);
-        self.finds("find, ended, its row still there", round, table, &there);
+        self.finds("find, ended, its row still there", table, &there);
         let gone = self.draw(&gone);
-        self.finds("find, ended, its row squeezed out", round, table, &gone);
+        self.finds("find, ended, its row squeezed out", table, &gone);
         let above: Vec<u64> = (self.next..self.next + LATELY).collect();
         let above = self.draw(&above);
-        self.finds("find, a number not given yet", round, table, &above);
+        self.finds("find, a number not given yet", table, &above);
     }
 
-    fn changes(&mut self, round: usize, table: &mut Table) {
+    fn changes(&mut self, table: &mut Table) {
         let numbers = self.draw(&self.live.clone());
-        let (state, map) = (&mut self.state, &mut self.map);
-        let proved = || time_each(&numbers, |&number| state.change(number, number, 7).into());
-        let standard = || time_each(&numbers, |&number| map.change(number, number, 7).into());
-        let (proved, standard) = in_turns(round, proved, standard);
-        table.note("change, live", numbers.len(), proved, standard);
+        let proved = || time_changes(&mut self.state, &numbers);
+        let standard = || time_changes(&mut self.map, &numbers);
+        table.time(["change, live"], numbers.len(), proved, standard);
     }
 
     /// Batches with half a batch fewer live orders before it and half a batch more behind it.
-    fn adds_and_removes(&mut self, round: usize, table: &mut Table) {
-        for _ in 0..BATCH / 2 {
-            let gone = self.draw_remove();
-            self.state.remove(gone);
-            self.map.remove(gone);
-        }
-        let batch = |_| Batch {
-            adds: (0..BATCH).map(|_| self.draw_add()).collect(),
-            removes: (0..BATCH).map(|_| self.draw_remove()).collect(),
-        };
-        let batches: Vec<Batch> = (0..CALLS / BATCH).map(batch).collect();
-        let (state, map) = (&mut self.state, &mut self.map);
-        let proved = || {
-            time_parts(
-                state,
-                &batches,
-                |state, batch| {
-                    batch
-                        .adds
-                        .iter()
-                        .for_each(|&(number, live)| state.add(number, live))
-                },
-                |state, batch| {
-                    batch
-                        .removes
-                        .iter()
-                        .for_each(|&number| _ = state.remove(number))
-                },
-            )
-        };
-        let standard = || {
-            time_parts(
-                map,
-                &batches,
-                |map, batch| {
-                    batch
-                        .adds
-                        .iter()
-                        .for_each(|&(number, live)| map.add(number, live))
-                },
-                |map, batch| {
-                    batch
-                        .removes
-                        .iter()
-                        .for_each(|&number| _ = map.remove(number))
-                },
-            )
-        };
-        let (proved, standard) = in_turns(round, proved, standard);
-        table.note("add", CALLS, proved.0, standard.0);
-        table.note("remove", CALLS, proved.1, standard.1);
-        for _ in 0..BATCH / 2 {
-            let (number, live) = self.draw_add();
-            self.state.add(number, live);
-            self.map.add(number, live);
-        }
+    fn adds_and_removes(&mut self, table: &mut Table) {
+        (0..BATCH / 2).for_each(|_| self.remove());
+        let batches: Vec<Batch> = (0..CALLS / BATCH).map(|_| self.draw_batch()).collect();
+        let proved = || time_batches(&mut self.state, &batches);
+        let standard = || time_batches(&mut self.map, &batches);
+        table.time(["add", "remove"], CALLS, proved, standard);
+        (0..BATCH / 2).for_each(|_| self.add());
     }
 
     /// A number that is not live: one of the last few thousand, or one not given yet.
@@ -208,46 +194,26 @@ impl Bench {
         }
     }
 
-    fn mix(&mut self, round: usize, table: &mut Table) {
+    fn mix(&mut self, table: &mut Table) {
         let mut live: HashSet<u64> = self.live.iter().copied().collect();
         let turns: Vec<Turn> = (0..CALLS).map(|_| self.draw_turn(&mut live)).collect();
-        let (state, map) = (&mut self.state, &mut self.map);
-        let proved = || {
-            time_each(&turns, |turn| {
-                state.add(turn.number, turn.live);
-                let found = state.find(turn.hit).wrapping_add(state.find(turn.miss));
-                let changed = state.change(turn.change, turn.number, 7);
-                found
-                    .wrapping_add(changed.into())
-                    .wrapping_add(state.remove(turn.remove).into())
-            })
-        };
-        let standard = || {
-            time_each(&turns, |turn| {
-                map.add(turn.number, turn.live);
-                let found = map.find(turn.hit).wrapping_add(map.find(turn.miss));
-                let changed = map.change(turn.change, turn.number, 7);
-                found
-                    .wrapping_add(changed.into())
-                    .wrapping_add(map.remove(turn.remove).into())
-            })
-        };
-        let (proved, standard) = in_turns(round, proved, standard);
-        table.note(
-            "the mix: add, find, find none, change, remove",
+        let proved = || time_turns(&mut self.state, &turns);
+        let standard = || time_turns(&mut self.map, &turns);
+        table.time(
+            ["the mix: add, find, find none, change, remove"],
             5 * CALLS,
             proved,
             standard,
         );
     }
 
-    pub fn round(&mut self, round: usize, table: &mut Table) {
+    pub fn round(&mut self, table: &mut Table) {
         // The table has been squeezed at another time in each round.
         let turns = 2_000 + self.random.place(2_000);
         self.churn(turns);
-        self.all_finds(round, table);
-        self.adds_and_removes(round, table);
-        self.changes(round, table);
-        self.mix(round, table);
+        self.all_finds(table);
+        self.adds_and_removes(table);
+        self.changes(table);
+        self.mix(table);
     }
 }

@@ -1,6 +1,6 @@
 //! The proved tables, in a state of lent bytes. docs/STATE.md has its blocks and cells.
 
-use crate::standard::{Live, Side};
+use crate::table::{LevelTable, Live, OrderTable, Side};
 
 unsafe extern "C" {
     fn tables_clear(state: *mut u8, len: usize);
@@ -49,14 +49,14 @@ impl State {
     pub fn cell(&self, block: usize, row: usize, cell: usize) -> u64 {
         unsafe { tables_cell(self.0.as_ptr(), self.0.len(), block, row, cell) }
     }
+}
 
-    /// The leaves of a live order, or 0.
-    pub fn find(&self, number: u64) -> u64 {
+impl OrderTable for State {
+    fn find(&self, number: u64) -> u64 {
         unsafe { tables_orders_find(self.0.as_ptr(), self.0.len(), number) }
     }
 
-    /// The number is above all before it, and fewer than 2,048 orders are live.
-    pub fn add(&mut self, number: u64, live: Live) {
+    fn add(&mut self, number: u64, live: Live) {
         unsafe {
             tables_orders_add(
                 self.0.as_mut_ptr(),
@@ -72,36 +72,32 @@ impl State {
         }
     }
 
-    /// Whether the order is live.
-    pub fn change(&mut self, number: u64, leaves: u64, held: i64) -> bool {
+    fn change(&mut self, number: u64, leaves: u64, held: i64) -> bool {
         let (state, len) = (self.0.as_mut_ptr(), self.0.len());
         unsafe { tables_orders_change(state, len, number, leaves, held as u64) != 0 }
     }
 
-    /// Whether the order was live.
-    pub fn remove(&mut self, number: u64) -> bool {
+    fn remove(&mut self, number: u64) -> bool {
         unsafe { tables_orders_remove(self.0.as_mut_ptr(), self.0.len(), number) != 0 }
     }
+}
 
-    /// What a level shows, or 0.
-    pub fn level(&self, side: Side, price: i64) -> u64 {
+impl LevelTable for State {
+    fn level(&self, side: Side, price: i64) -> u64 {
         unsafe { tables_levels_find(self.0.as_ptr(), self.0.len(), side as u32, key(price)) }
     }
 
-    /// The sum fits, and there are fewer than 512 levels or this is one of them.
-    pub fn join(&mut self, side: Side, price: i64, visible: u64) {
+    fn join(&mut self, side: Side, price: i64, visible: u64) {
         let (state, len) = (self.0.as_mut_ptr(), self.0.len());
         unsafe { tables_levels_add(state, len, side as u32, key(price), visible) }
     }
 
-    /// An order there shows `before`.
-    pub fn show(&mut self, side: Side, price: i64, before: u64, after: u64) {
+    fn show(&mut self, side: Side, price: i64, before: u64, after: u64) {
         let (state, len) = (self.0.as_mut_ptr(), self.0.len());
         unsafe { tables_levels_show(state, len, side as u32, key(price), before, after) }
     }
 
-    /// An order there shows `visible`.
-    pub fn leave(&mut self, side: Side, price: i64, visible: u64) {
+    fn leave(&mut self, side: Side, price: i64, visible: u64) {
         let (state, len) = (self.0.as_mut_ptr(), self.0.len());
         unsafe { tables_levels_remove(state, len, side as u32, key(price), visible) }
     }

@@ -2,7 +2,7 @@
 
 pub use xorshift::Random;
 
-use crate::standard::{Live, Side};
+use crate::table::{Live, Side};
 
 pub trait Draw {
     fn side(&mut self) -> Side;

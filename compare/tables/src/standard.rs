@@ -3,21 +3,7 @@
 
 use std::collections::{BTreeMap, HashMap};
 
-#[derive(Clone, Copy, Debug, PartialEq, Eq)]
-pub enum Side {
-    Buy,
-    Sell,
-}
-
-#[derive(Clone, Copy, Debug, PartialEq, Eq)]
-pub struct Live {
-    pub account: u32,
-    pub client_ref: u64,
-    pub side: Side,
-    pub price: i64,
-    pub leaves: u64,
-    pub held: i64,
-}
+use crate::table::{LevelTable, Live, OrderTable, Side};
 
 #[derive(Clone, Copy, Debug, Default, PartialEq, Eq)]
 pub struct Level {
@@ -28,19 +14,19 @@ pub struct Level {
 #[derive(Default)]
 pub struct Orders(pub HashMap<u64, Live>);
 
-impl Orders {
+impl OrderTable for Orders {
     #[inline(never)]
-    pub fn find(&self, number: u64) -> u64 {
+    fn find(&self, number: u64) -> u64 {
         self.0.get(&number).map_or(0, |live| live.leaves)
     }
 
     #[inline(never)]
-    pub fn add(&mut self, number: u64, live: Live) {
+    fn add(&mut self, number: u64, live: Live) {
         self.0.insert(number, live);
     }
 
     #[inline(never)]
-    pub fn change(&mut self, number: u64, leaves: u64, held: i64) -> bool {
+    fn change(&mut self, number: u64, leaves: u64, held: i64) -> bool {
         let Some(live) = self.0.get_mut(&number) else {
             return false;
         };
@@ -50,7 +36,7 @@ impl Orders {
     }
 
     #[inline(never)]
-    pub fn remove(&mut self, number: u64) -> bool {
+    fn remove(&mut self, number: u64) -> bool {
         self.0.remove(&number).is_some()
     }
 }
@@ -75,27 +61,29 @@ impl Levels {
             Side::Sell => &mut self.asks,
         }
     }
+}
 
+impl LevelTable for Levels {
     #[inline(never)]
-    pub fn level(&self, side: Side, price: i64) -> u64 {
+    fn level(&self, side: Side, price: i64) -> u64 {
         self.half(side).get(&price).map_or(0, |level| level.qty)
     }
 
     #[inline(never)]
-    pub fn join(&mut self, side: Side, price: i64, visible: u64) {
+    fn join(&mut self, side: Side, price: i64, visible: u64) {
         let level = self.half_mut(side).entry(price).or_default();
         level.qty += visible;
         level.orders += 1;
     }
 
     #[inline(never)]
-    pub fn show(&mut self, side: Side, price: i64, before: u64, after: u64) {
+    fn show(&mut self, side: Side, price: i64, before: u64, after: u64) {
         let level = self.half_mut(side).get_mut(&price).expect("a level");
         level.qty = level.qty - before + after;
     }
 
     #[inline(never)]
-    pub fn leave(&mut self, side: Side, price: i64, visible: u64) {
+    fn leave(&mut self, side: Side, price: i64, visible: u64) {
         let half = self.half_mut(side);
         let level = half.get_mut(&price).expect("a level");
         level.qty -= visible;

@@ -20,8 +20,7 @@ fn quantile(mut numbers: Vec<f64>, part: f64) -> f64 {
 }
 
 impl Table {
-    /// What `count` operations took on both sides.
-    pub fn note(&mut self, name: &'static str, count: usize, proved: Duration, standard: Duration) {
+    fn line(&mut self, name: &'static str) -> &mut Line {
         let at = self.0.iter().position(|line| line.name == name);
         let at = at.unwrap_or_else(|| {
             let (proved, standard) = (Vec::new(), Vec::new());
@@ -32,12 +31,26 @@ impl Table {
             });
             self.0.len() - 1
         });
-        self.0[at]
-            .proved
-            .push(proved.as_nanos() as f64 / count as f64);
-        self.0[at]
-            .standard
-            .push(standard.as_nanos() as f64 / count as f64);
+        &mut self.0[at]
+    }
+
+    /// Times both sides, which do `count` operations of each name: one is first in the even
+    /// rounds, the other in the odd ones.
+    pub fn time<const N: usize>(
+        &mut self,
+        names: [&'static str; N],
+        count: usize,
+        proved: impl FnOnce() -> [Duration; N],
+        standard: impl FnOnce() -> [Duration; N],
+    ) {
+        let round = self.line(names[0]).proved.len();
+        let (proved, standard) = in_turns(round, proved, standard);
+        let each = |time: Duration| time.as_nanos() as f64 / count as f64;
+        for (at, name) in names.into_iter().enumerate() {
+            let line = self.line(name);
+            line.proved.push(each(proved[at]));
+            line.standard.push(each(standard[at]));
+        }
     }
 
     pub fn print(&self, standard: &str) {
@@ -60,11 +73,7 @@ impl Table {
 }
 
 /// Runs one side, then the other; which is first goes by the round.
-pub fn in_turns<T>(
-    round: usize,
-    proved: impl FnOnce() -> T,
-    standard: impl FnOnce() -> T,
-) -> (T, T) {
+fn in_turns<T>(round: usize, proved: impl FnOnce() -> T, standard: impl FnOnce() -> T) -> (T, T) {
     match round % 2 {
         0 => {
             let proved = proved();
@@ -84,26 +93,31 @@ fn time(run: impl FnOnce()) -> Duration {
 }
 
 /// The time of a call for each input. The answers are summed, so that none is left out.
-pub fn time_each<T>(inputs: &[T], mut call: impl FnMut(&T) -> u64) -> Duration {
-    time(|| {
+pub fn time_each<T>(inputs: &[T], mut call: impl FnMut(&T) -> u64) -> [Duration; 1] {
+    [time(|| {
         let sum = inputs
             .iter()
             .fold(0u64, |sum, input| sum.wrapping_add(call(input)));
         black_box(sum);
-    })
+    })]
 }
 
-/// The time of the first parts of all batches, and of the second parts.
-pub fn time_parts<S, B>(
+/// Calls of one kind, then of another.
+pub struct Batch<A, B> {
+    pub firsts: Vec<A>,
+    pub seconds: Vec<B>,
+}
+
+/// The time of the first calls of all batches, and of the second ones.
+pub fn time_parts<S, A, B>(
     side: &mut S,
-    batches: &[B],
-    first: impl Fn(&mut S, &B),
+    batches: &[Batch<A, B>],
+    first: impl Fn(&mut S, &A),
     second: impl Fn(&mut S, &B),
-) -> (Duration, Duration) {
-    batches
-        .iter()
-        .fold((Duration::ZERO, Duration::ZERO), |sum, batch| {
-            let firsts = time(|| first(side, batch));
-            (sum.0 + firsts, sum.1 + time(|| second(side, batch)))
-        })
+) -> [Duration; 2] {
+    batches.iter().fold([Duration::ZERO; 2], |sum, batch| {
+        let firsts = time(|| batch.firsts.iter().for_each(|input| first(side, input)));
+        let seconds = time(|| batch.seconds.iter().for_each(|input| second(side, input)));
+        [sum[0] + firsts, sum[1] + seconds]
+    })
 }
