@@ -636,7 +636,8 @@ impl Exchange {
         self.post(mail, |state, out| state.deliver(seq, &row, out))
     }
 
-    /// What the last call sent, once more: nothing after a refused call and after one that sends nothing.
+    /// What the last call that takes `&mut self` sent, once more: nothing after a refused call and after one that sends nothing. A call that only
+    /// reads leaves it as it is.
     ///
     /// ```
     #[doc = include_str!("doc/opening.txt")]
