@@ -2,8 +2,8 @@ use Prim.Native.Nat.{_-_}
 use mathlib.Core.Path.{_≡_}
 use lib.ListN.{length}
 use borrow.Author.Needs.{needs}
-use Rattle.playing.proofs.tail.Statement.{statement}
-use Rattle.playing.proofs.tail.Tie as tie
+use Rattle.stored.proofs.tail.Statement.{statement}
+use Rattle.stored.proofs.tail.Tie as tie
 
 abbrev Inv-loop : tie.InvT-loop
 Inv-loop row from to₀ i₀ to i = length to ≡ 128

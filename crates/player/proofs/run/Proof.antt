@@ -1,6 +1,6 @@
 use borrow.Author.Needs.{needs}
-use Rattle.stored.proofs.run.Statement.{statement}
-use Rattle.stored.proofs.run.Tie as tie
+use Rattle.player.proofs.run.Statement.{statement}
+use Rattle.player.proofs.run.Tie as tie
 
 begin-requires : tie.Need-begin-requires
 begin-requires c κs = search needs
