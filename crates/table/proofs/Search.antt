@@ -1,16 +1,16 @@
 -- The search for a key among ascending ones.
 -- Assumes nothing.
-use mathlib.Core.Path.{_≡_, sym, ap, _∙_}
-use mathlib.Core.Logic.{⊎-elim}
+use mathlib.Core.Path.{_≡_, refl, sym, ap, subst, _∙_}
+use mathlib.Core.Logic.{inl, inr, ⊎-elim}
 use mathlib.Core.List.{List}
-use Prim.Native.Nat.{ℕ, _+_, _*_, _-_, _/_, _≤_, _<_}
+use Prim.Native.Nat.{ℕ, zero, suc, _+_, _*_, _-_, _/_, _≤_, _<_}
 use native.Mathlib.Nat.{eq-or-lt-of-le, mul-comm, mul-le-mul-left, div-mul-le-self, le-div-iff-mul-le}
 use native.Mathlib.Omega.{arith}
 use lib.ListN.{length}
 use lib.Arith.{lt-of-le-ne}
 use Rattle.le.proofs.Laws.{lt-or-le}
 use Rattle.table.specs.Live.{live, look, Ascends}
-use Rattle.table.specs.Table.{Room, Sorted, Between, Counted, Finds, found}
+use Rattle.table.specs.Table.{Room, Sorted, Between, Least, Counted, Finds, found}
 use Rattle.table.specs.declared.Found.{Found}
 use Rattle.table.specs.declared.Found.the-variants.{At, Nothing}
 use Rattle.table.proofs.Moves.{next, mono, step}
@@ -32,6 +32,12 @@ first-rows {stride = stride} j s h =
       asc = λ a b l m. s .asc a b l (omega arith);
     }
 
+pub least-near : {d n : ℕ} → d < n → Least d n d
+least-near h = record { small = omega arith; near = omega arith; is = inl refl }
+
+pub least-far : {d n : ℕ} → n ≤ d → Least d n n
+least-far h = record { small = omega arith; near = omega arith; is = inr refl }
+
 -- one part of many + 1
 pub part : (left many : ℕ) → many ≤ left → (0 < (left + 1) / (many + 1)) × ((left + 1) / (many + 1) * many + (left + 1) / (many + 1) ≤ left + 1)
 part left many h =
@@ -51,11 +57,42 @@ module _ {ks : ℕ → ℕ} where
       }
 
 module _ {ks : ℕ → ℕ} {n : ℕ} where
-  pub between-all : (k : ℕ) → Between ks n k 0 (0 + n)
-  between-all k = record { inside = omega arith; top = omega arith; below = λ j h. absurd (omega arith); above = λ j a b. absurd (omega arith) }
+  -- distinct keys are as far apart as their rows, or farther
+  apart : Ascends (λ k. k) ks n → (d i : ℕ) → i + d < n → ks i + d ≤ ks (i + d)
+  apart s zero i h = rw (let e : i + 0 ≡ i = omega arith in e) (omega arith)
+  apart s (suc d) i h = omega (arith, apart s d i (omega arith), s (i + d) (i + suc d) (omega arith) (omega arith))
+
+  ascends-far : Ascends (λ k. k) ks n → (i j : ℕ) → i ≤ j → j < n → ks i + (j - i) ≤ ks j
+  ascends-far s i j h l = let e : i + (j - i) ≡ j = omega arith in subst (λ m. ks i + (j - i) ≤ ks m) e (apart s (j - i) i (omega arith))
 
   ascends-le : Ascends (λ k. k) ks n → (i j : ℕ) → i ≤ j → j < n → ks i ≤ ks j
   ascends-le s i j h l = ⊎-elim (λ e. rw e (omega arith)) (λ q. omega (arith, s i j q l)) (eq-or-lt-of-le h)
+
+  -- where the search is over at once
+  pub at-first : Ascends (λ k. k) ks n → (k : ℕ) → k ≤ ks 0 → Between ks n k 0 0
+  at-first s k h = record { inside = omega arith; top = omega arith; below = λ j l. absurd (omega arith); above = λ j a b. omega (arith, ascends-le s 0 j a b) }
+
+  pub past-last : Ascends (λ k. k) ks n → (k : ℕ) → 0 < n → ks (n - 1) < k → Between ks n k n n
+  past-last s k h l = record { inside = omega arith; top = omega arith; below = λ j a. omega (arith, ascends-le s j (n - 1) (omega arith) (omega arith)); above = λ j a b. absurd (omega arith) }
+
+  -- the rows that can be the first one not below k, which lies between the first key and the last: a is the lesser of its distance from the last
+  -- and n - 1, b the lesser of that from the first and n - 1
+  pub in-doubt : Ascends (λ k. k) ks n → (k a b : ℕ) → 0 < n → ks 0 ≤ k → k ≤ ks (n - 1) → Least (ks (n - 1) - k) (n - 1) a → Least (k - ks 0) (n - 1) b →
+      (n - 1 - a ≤ b) × Between ks n k (n - 1 - a) (n - 1 - a + (b - (n - 1 - a)))
+  in-doubt s k a b h f l p q = (ordered, record { inside = omega arith; top = omega (arith, ordered, q .small); below = below; above = above })
+    where
+      whole : ks 0 + (n - 1) ≤ ks (n - 1)
+      whole = omega (arith, ascends-far s 0 (n - 1) (omega arith) (omega arith))
+
+      ordered : n - 1 - a ≤ b
+      ordered = ⊎-elim (λ e. ⊎-elim (λ g. omega (arith, whole, e, g)) (λ g. omega (arith, g)) (q .is)) (λ e. omega (arith, e)) (p .is)
+
+      below : (j : ℕ) → j < n - 1 - a → ks j < k
+      below j m = ⊎-elim (λ u. omega (arith, u, ascends-far s j (n - 1) (omega arith) (omega arith))) (λ u. absurd (omega (arith, u))) (p .is)
+
+      above : (j : ℕ) → n - 1 - a + (b - (n - 1 - a)) ≤ j → j < n → k ≤ ks j
+      above j m u =
+          ⊎-elim (λ e. omega (arith, ordered, e, ascends-far s 0 j (omega arith) u)) (λ e. omega (arith, ordered, e, ascends-le s (n - 1) j (omega (arith, ordered, e)) u)) (q .is)
 
   -- one row more, below k: so are all before it
   pub counted-more : (k lo w i c : ℕ) → Ascends (λ k. k) ks n → 0 < w → lo + w * (i + 1) ≤ n → Counted ks k lo w i c → ks (lo + w * i + (w - 1)) < k → Counted ks k lo w (i + 1) (c + 1)

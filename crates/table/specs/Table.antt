@@ -1,6 +1,7 @@
 -- A table in a list of bytes: n rows of `stride` bytes from `base` on. A row's key is its first 8 bytes; its mark is one byte of it.
 -- Assumes nothing.
 use mathlib.Core.Path.{_≡_}
+use mathlib.Core.Logic.{_⊎_}
 use mathlib.Core.List.{List}
 use mathlib.Core.Option.{Option, none, some}
 use Prim.Native.Nat.{ℕ, _+_, _*_, _-_, _%_, _≤_, _<_}
@@ -37,6 +38,12 @@ pub record Between (ks : ℕ → ℕ) (n k lo hi : ℕ) : Type 0 where
   pub top : hi ≤ n
   pub below : (j : ℕ) → j < lo → ks j < k
   pub above : (j : ℕ) → hi ≤ j → j < n → k ≤ ks j
+
+-- r is the lesser of d and n
+pub record Least (d n r : ℕ) : Type 0 where
+  pub small : r ≤ n
+  pub near : r ≤ d
+  pub is : (r ≡ d) ⊎ (r ≡ n)
 
 -- of `many` rows, the last of w from lo on, of the next w, and so on, the first c have keys below k, and the others have not
 pub record Counted (ks : ℕ → ℕ) (k lo w many c : ℕ) : Type 0 where

@@ -4,7 +4,7 @@ ghost use mathlib.Core.Path.{_≡_};
 ghost use Prim.Native.Nat.{_+_, _*_, _%_, _≤_, _<_};
 ghost use lib.ListN.{length};
 ghost use Rattle.le.specs.Le.{put};
-ghost use Rattle.table.specs.Table.{keyAt, markAt, Room, Sorted, Between, Counted, Finds, Moved, Opened, Closed, Compacted};
+ghost use Rattle.table.specs.Table.{keyAt, markAt, Room, Sorted, Between, Least, Counted, Finds, Moved, Opened, Closed, Compacted};
 
 pub enum Found {
     At(usize),
@@ -43,12 +43,21 @@ fn count(m: &[u8], base: usize, stride: usize, lo: usize, w: usize, many: usize,
 }
 
 // The first row whose key is not below `key`. Of the rows in doubt, which are `left` from lo on, one part of many + 1 is left in a turn.
-pub fn bound_by(m: &[u8], base: usize, stride: usize, n: usize, key: u64, many: usize) -> usize
-    requires { ⌜ Sorted base stride n (now m) × (0 < many) × (many < 8) ⌝ }
+fn bound_in(
+    m: &[u8],
+    base: usize,
+    stride: usize,
+    n: usize,
+    from: usize,
+    rows: usize,
+    key: u64,
+    many: usize,
+) -> usize
+    requires { ⌜ Sorted base stride n (now m) × Between (keyAt base stride (now m)) n key from (from + rows) × (0 < many) × (many < 8) ⌝ }
     ensures { λ r. ⌜ Between (keyAt base stride (now (m .entry))) n key r r ⌝ }
 {
-    let mut lo: usize = 0;
-    let mut left: usize = n;
+    let mut lo: usize = from;
+    let mut left: usize = rows;
     while many <= left {
         let w = (left + 1) / (many + 1);
         let c = count(m, base, stride, lo, w, many, key);
@@ -56,6 +65,34 @@ pub fn bound_by(m: &[u8], base: usize, stride: usize, n: usize, key: u64, many: 
         left -= w * many;
     }
     lo + count(m, base, stride, lo, 1, left, key)
+}
+
+fn lesser(d: u64, n: usize) -> usize
+    ensures { λ r. ⌜ Least d n r ⌝ }
+{
+    if d < n as u64 { d as usize } else { n }
+}
+
+// Keys are distinct, so that a key's row is at most as far from the first row, and from the last, as the keys are: where few numbers lie
+// between the keys, few rows are in doubt.
+pub fn bound_by(m: &[u8], base: usize, stride: usize, n: usize, key: u64, many: usize) -> usize
+    requires { ⌜ Sorted base stride n (now m) × (0 < many) × (many < 8) ⌝ }
+    ensures { λ r. ⌜ Between (keyAt base stride (now (m .entry))) n key r r ⌝ }
+{
+    if n == 0 {
+        return 0;
+    }
+    let first = key_at(m, base, stride, 0);
+    if key <= first {
+        return 0;
+    }
+    let last = key_at(m, base, stride, n - 1);
+    if last < key {
+        return n;
+    }
+    let from = n - 1 - lesser(last - key, n - 1);
+    let to = lesser(key - first, n - 1);
+    bound_in(m, base, stride, n, from, to - from, key, many)
 }
 
 // Seven keys a turn: few turns, and too long to be inlined.

@@ -1,112 +1,93 @@
-use Rattle.table.proofs.bound_by.Statement.{statement}
-use Rattle.table.proofs.Moves.{mono}
-use Rattle.table.proofs.Search.{rows-few, part, first-rows, between-all, between-counted, between-end}
-use Rattle.table.specs.Table.{keyAt, Between}
+use Prim.Native.Nat.{_-_}
 use native.Mathlib.Omega.{arith}
-use mathlib.Core.Path.{_≡_}
-use Prim.Native.Nat.{_+_, _*_, _-_, _/_, _≤_}
+use borrow.Author.Needs.{needs}
+use Rattle.table.proofs.Search.{row-in, at-first, past-last, in-doubt}
+use Rattle.table.proofs.bound_by.Statement.{statement}
 use Rattle.table.proofs.bound_by.Tie as tie
 
-abbrev Inv-loop : tie.InvT-loop
-Inv-loop m base stride n key many lo₀ left₀ lo left = Between (keyAt base stride m) n key lo (lo + left)
+returns : tie.Need-returns
+returns c = search needs
 
-abbrev μ-loop : tie.MeasureT-loop
-μ-loop m base stride n key many lo₀ left₀ lo left = left
+key-at-requires : tie.Need-key-at-requires
+key-at-requires c κs = let a = c .before .before in omega (arith, row-in (a .pre .0 .room) 0 (omega arith), a .pre .0 .room .wide)
 
-loop-holds : tie.Need-loop-holds Inv-loop μ-loop
-loop-holds c = between-all _
+returns-2 : tie.Need-returns-2
+returns-2 c =
+    let f = c .before in
+    let a = f .before .before .before in
+    at-first (a .pre .0 .asc) (a .args .key) (omega (arith, f .key-at .ensures, c .if2 .taken))
 
-add-w : tie.Need-add-w Inv-loop μ-loop
-add-w c = omega (arith, rows-few (c .before .before .before .pre .0 .room))
+sub-key-at : tie.Need-sub-key-at
+sub-key-at c = search needs
 
-add-w-2 : tie.Need-add-w-2 Inv-loop μ-loop
-add-w-2 c = omega arith
+key-at-requires-2 : tie.Need-key-at-requires-2
+key-at-requires-2 c κs = let a = c .before .before .before .before in omega (arith, row-in (a .pre .0 .room) (a .args .n - 1) (omega arith), a .pre .0 .room .wide)
 
-div-w : tie.Need-div-w Inv-loop μ-loop
-div-w c = omega arith
-
-count-requires : tie.Need-count-requires Inv-loop μ-loop
-count-requires c κs =
+returns-3 : tie.Need-returns-3
+returns-3 c =
     let l = c .before in
-    let s = l .before .before in
-    let p = part (l .loop .left) (s .args .many) (omega arith) in
-    (first-rows _ (s .pre .0) (omega (arith, p .1)), p .0)
+    let a = l .before .before .before .before .before in
+    past-last (a .pre .0 .asc) (a .args .key) (omega arith) (omega (arith, l .key-at2 .ensures, c .if3 .taken))
 
-mul-lo : tie.Need-mul-lo Inv-loop μ-loop
-mul-lo c =
-    let l = c .before .before in
-    let s = l .before .before in
-    let p = part (l .loop .left) (s .args .many) (omega arith) in
-    omega (arith, mono ((l .loop .left + 1) / (s .args .many + 1)) (c .count .ensures .few), p .1, rows-few (s .pre .0 .room))
+sub-from : tie.Need-sub-from
+sub-from c = search needs
 
-add-lo : tie.Need-add-lo Inv-loop μ-loop
-add-lo c =
-    let l = c .before .before in
-    let s = l .before .before in
-    let p = part (l .loop .left) (s .args .many) (omega arith) in
-    omega (arith, mono ((l .loop .left + 1) / (s .args .many + 1)) (c .count .ensures .few), p .1, rows-few (s .pre .0 .room))
+sub-lesser : tie.Need-sub-lesser
+sub-lesser c = search needs
 
-mul-left : tie.Need-mul-left Inv-loop μ-loop
-mul-left c =
-    let l = c .before .before in
-    let s = l .before .before in
-    let p = part (l .loop .left) (s .args .many) (omega arith) in
-    omega (arith, p .1)
+lesser-requires : tie.Need-lesser-requires
+lesser-requires c κs = search needs
 
-sub-left : tie.Need-sub-left Inv-loop μ-loop
-sub-left c =
-    let l = c .before .before in
-    let s = l .before .before in
-    let p = part (l .loop .left) (s .args .many) (omega arith) in
-    omega (arith, p .1, p .0)
+sub-from-2 : tie.Need-sub-from-2
+sub-from-2 c = search needs
 
-loop-less : tie.Need-loop-less Inv-loop μ-loop
-loop-less c =
-    let l = c .before .before in
-    let s = l .before .before in
-    let p = part (l .loop .left) (s .args .many) (omega arith) in
-    let one : 1 ≤ s .args .many = omega arith in
-    omega (arith, p .0, p .1, mono ((l .loop .left + 1) / (s .args .many + 1)) one)
+sub-lesser-2 : tie.Need-sub-lesser-2
+sub-lesser-2 c = search needs
 
-loop-again : tie.Need-loop-again Inv-loop μ-loop
-loop-again c =
-    let l = c .before .before in
-    let s = l .before .before in
-    let p = part (l .loop .left) (s .args .many) (omega arith) in
-    between-counted (s .args .key) (l .loop .lo) (l .loop .left) ((l .loop .left + 1) / (s .args .many + 1)) (s .args .many) (c .count .result) (s .pre .0 .asc) (l .loop .inv) (p .0) (omega (arith, p .0, p .1)) (p .1) (c .count .ensures)
+sub-lesser-3 : tie.Need-sub-lesser-3
+sub-lesser-3 c = search needs
 
-count-requires-2 : tie.Need-count-requires-2 Inv-loop μ-loop
-count-requires-2 c κs = (first-rows _ (c .before .before .before .pre .0) (omega arith), omega arith)
+lesser-requires-2 : tie.Need-lesser-requires-2
+lesser-requires-2 c κs = search needs
 
-add-result : tie.Need-add-result Inv-loop μ-loop
-add-result c = omega (arith, c .count2 .ensures .few)
+sub-bound-in : tie.Need-sub-bound-in
+sub-bound-in c =
+    let b = c .before in
+    let t = b .before in
+    let l = t .before in
+    let f = l .before .before in
+    let a = f .before .before .before in
+    in-doubt (a .pre .0 .asc) (a .args .key) _ _ (omega arith) (omega (arith, f .key-at .ensures)) (omega (arith, l .key-at2 .ensures)) (rw (l .key-at2 .ensures) at (b .lesser .ensures)) (rw (f .key-at .ensures) at (c .lesser2 .ensures)) .0
 
-returns : tie.Need-returns Inv-loop μ-loop
-returns c =
-    let l = c .before .before in
-    let s = l .before .before in
-    let r = c .count2 .result in
-    let e : 1 * r ≡ r = omega arith in
-    between-end (omega arith)
-    (rw e at (between-counted (s .args .key) (l .loop .lo) (l .loop .left) 1 (l .loop .left) r (s .pre .0 .asc) (l .loop .inv) (omega arith) (omega arith) (omega arith) (c .count2 .ensures)))
+bound-in-requires : tie.Need-bound-in-requires
+bound-in-requires c κs =
+    let b = c .before in
+    let t = b .before in
+    let l = t .before in
+    let f = l .before .before in
+    let a = f .before .before .before in
+    (a .pre .0, in-doubt (a .pre .0 .asc) (a .args .key) _ _ (omega arith) (omega (arith, f .key-at .ensures)) (omega (arith, l .key-at2 .ensures)) (rw (l .key-at2 .ensures) at (b .lesser .ensures)) (rw (f .key-at .ensures) at (c .lesser2 .ensures)) .1, omega arith, omega arith)
+
+returns-4 : tie.Need-returns-4
+returns-4 c = search needs
 
 pub bound-by-spec : {M : Type 1} → statement M
 bound-by-spec =
     tie.close
     (tie.spec
-    Inv-loop
-    μ-loop
-    loop-holds
-    add-w
-    add-w-2
-    div-w
-    count-requires
-    mul-lo
-    add-lo
-    mul-left
-    sub-left
-    loop-less
-    loop-again
-    count-requires-2
-    add-result
-    returns)
+    returns
+    key-at-requires
+    returns-2
+    sub-key-at
+    key-at-requires-2
+    returns-3
+    sub-from
+    sub-lesser
+    lesser-requires
+    sub-from-2
+    sub-lesser-2
+    sub-lesser-3
+    lesser-requires-2
+    sub-bound-in
+    bound-in-requires
+    returns-4)
