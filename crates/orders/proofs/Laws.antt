@@ -27,7 +27,7 @@ use Rattle.store.proofs.Rows.{then-set, then-fill, is-itself, same-write, same-
 use Rattle.orders.specs.declared.Live.{Live}
 use Rattle.orders.specs.declared.Resting.{Resting}
 use Rattle.orders.proofs.Shown.{look-map}
-use Rattle.orders.specs.Orders.{hint-slots, either, Sorted, Marks, FindsRow, Sees, strike, rest, append, places, packed, compact, hint, hint-rows, squeeze, make-room, opened, open-row, number-at}
+use Rattle.orders.specs.Orders.{hint-slots, first-try, either, Sorted, Marks, FindsRow, Sees, strike, rest, append, places, packed, compact, hint, hint-rows, squeeze, make-room, opened, open-row, number-at}
 
 -- where the rows start
 abbrev base : ℕ
@@ -129,6 +129,9 @@ find-is xs k n number r m e h =
     (finds-ext n number (λ j l. key-cell xs j) (λ j l. mark-cell xs k j (omega (arith, m .small j (rw e at l)))) r h)
 
 -- ---- hints
+
+pub first-hint : (xs : List ℕ) (n v : ℕ) (at : Found) → at ≡ Nothing → v ≡ cell xs C.hints (n % hint-slots) C.hint-row → v ≡ first-try n at (cell xs)
+first-hint xs n v at e h = rw e h
 
 same-hint : (i : ℕ) (s t : Store) → i < order-room → Same s t → Same (hint i s) (hint i t)
 unfolding hint
@@ -374,4 +377,4 @@ module _ (s : Store) (t : Sorted s) (n : ℕ) (q : Found) (h : FindsRow C.order-
     pub no-resting : (r : Found) → r ≡ Nothing → Sees C.order-resting resting resting-number s n r
     no-resting r z = rw z (sees-resting s n Nothing t (λ j l w. none-kept j l w .1))
 
-pub ruleset laws = (sees-live, sees-resting, half-there, half-gone, row-inside, its-live, its-resting, no-live, no-resting, kept-marks, set-two-is, set-four-is, strike-is, rest-is, put-row-is, append-is, sorted-bytes, room-bytes, hint-is, squeeze-is, room-there, room-made, place-is, open-row-is, find-is, live-marks, resting-marks, header-cell, order-cell, hint-cell, arith)
+pub ruleset laws = (sees-live, sees-resting, half-there, half-gone, row-inside, its-live, its-resting, no-live, no-resting, kept-marks, first-hint, set-two-is, set-four-is, strike-is, rest-is, put-row-is, append-is, sorted-bytes, room-bytes, hint-is, squeeze-is, room-there, room-made, place-is, open-row-is, find-is, live-marks, resting-marks, header-cell, order-cell, hint-cell, arith)

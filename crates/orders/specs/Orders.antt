@@ -8,6 +8,7 @@ use lib.ListN.{length, getD}
 use Rattle.table.specs.Live.{look, kept, Ascends}
 use Rattle.table.specs.Table.{Finds, found}
 use Rattle.table.specs.declared.Found.{Found}
+use Rattle.table.specs.declared.Found.the-variants.{At, Nothing}
 use Rattle.words.specs.Words.{int}
 use Rattle.gateway.specs.Depth as D
 use Rattle.gateway.specs.Ledger.{Order}
@@ -96,11 +97,16 @@ pub record Sees {A : Type 0} (k : ℕ) (f : Row → A) (number : A → ℕ) (s :
   pub row : FindsRow k s n r
   pub order : look number n (marked s k f) ≡ found (λ j. f (s C.orders j)) r
 
--- ---- what is written
-
 -- a row's hint has the slot of its number modulo this
 abbrev pub hint-slots : ℕ
 hint-slots = 4096
+
+-- the row that is tried first for the number n: where the order was, or what its hint says
+abbrev pub first-try : ℕ → Found → Store → ℕ
+first-try n (At i) s = i
+first-try n Nothing s = s C.hints (n % hint-slots) C.hint-row
+
+-- ---- what is written
 
 abbrev pub set-leaves : ℕ → ℕ → ℕ → Store → Store
 set-leaves i leaves hold = fill C.orders i C.order-leaves (leaves ∷ hold ∷ [])

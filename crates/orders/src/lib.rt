@@ -28,7 +28,7 @@ ghost use Rattle.gateway.specs.Ledger.{number-of};
 ghost use Rattle.store.specs.Cells as C;
 ghost use Rattle.store.specs.Layout.{cell, Cell, Holds};
 ghost use Rattle.store.specs.View.{word, fill, order, resting, order-room, Is, Ready};
-ghost use Rattle.orders.specs.Orders.{Sorted, Marks, FindsRow, Sees, live-row, resting-row, set-leaves, revise, show, strike, retire, take-off, rest, append, hint, hint-rows, squeeze, make-room, open-row, number-at};
+ghost use Rattle.orders.specs.Orders.{Sorted, Marks, FindsRow, Sees, first-try, live-row, resting-row, set-leaves, revise, show, strike, retire, take-off, rest, append, hint, hint-rows, squeeze, make-room, open-row, number-at};
 
 // The live half of a row.
 pub struct Live {
@@ -57,13 +57,29 @@ const ROOM: u64 = 2_048;
 
 const HINT_SLOTS: u64 = 4_096;
 
-// The row of a number whose flag stands in the cell k.
-fn find(m: &[u8], k: usize, number: u64) -> Found
+// The row that is tried first: the one where the order was, or the hint of its number.
+fn try_first(m: &[u8], number: u64, at: Found) -> usize
+    requires { ⌜ Ready (now m) ⌝ }
+    ensures { λ r. ⌜ r ≡ first-try number at (cell (now (m .entry))) ⌝ }
+{
+    match at {
+        Found::At(i) => i,
+        Found::Nothing => store::get(
+            m,
+            store::HINTS,
+            (number % HINT_SLOTS) as usize,
+            HINT_ROW,
+        ) as usize,
+    }
+}
+
+// The row of a number whose flag stands in the cell k. It need not be where the order was.
+fn find(m: &[u8], k: usize, number: u64, at: Found) -> Found
     requires { ⌜ Ready (now m) × Sorted (cell (now m)) × Marks k (cell (now m)) ⌝ }
     ensures { λ r. ⌜ FindsRow k (cell (now (m .entry))) number r ⌝ }
 {
     let n = store::get(m, store::HEADER, 0, ORDER_ROWS);
-    let hint = store::get(m, store::HINTS, (number % HINT_SLOTS) as usize, HINT_ROW);
+    let first = try_first(m, number, at);
     table::find_hinted(
         m,
         store::ORDERS_AT,
@@ -71,7 +87,7 @@ fn find(m: &[u8], k: usize, number: u64) -> Found
         8 * k,
         n as usize,
         number,
-        hint as usize,
+        first,
     )
 }
 
@@ -79,14 +95,29 @@ pub fn find_live(m: &[u8], number: u64) -> Found
     requires { ⌜ Ready (now m) × Sorted (cell (now m)) ⌝ }
     ensures { λ r. ⌜ Sees C.order-live order number-of (cell (now (m .entry))) number r ⌝ }
 {
-    find(m, ORDER_LIVE, number)
+    find(m, ORDER_LIVE, number, Found::Nothing)
 }
 
 pub fn find_resting(m: &[u8], number: u64) -> Found
     requires { ⌜ Ready (now m) × Sorted (cell (now m)) ⌝ }
     ensures { λ r. ⌜ Sees C.order-resting resting resting-number (cell (now (m .entry))) number r ⌝ }
 {
-    find(m, ORDER_RESTING, number)
+    find(m, ORDER_RESTING, number, Found::Nothing)
+}
+
+// As those two, of an order that was at `at`.
+pub fn live_again(m: &[u8], number: u64, at: Found) -> Found
+    requires { ⌜ Ready (now m) × Sorted (cell (now m)) ⌝ }
+    ensures { λ r. ⌜ Sees C.order-live order number-of (cell (now (m .entry))) number r ⌝ }
+{
+    find(m, ORDER_LIVE, number, at)
+}
+
+pub fn resting_again(m: &[u8], number: u64, at: Found) -> Found
+    requires { ⌜ Ready (now m) × Sorted (cell (now m)) ⌝ }
+    ensures { λ r. ⌜ Sees C.order-resting resting resting-number (cell (now (m .entry))) number r ⌝ }
+{
+    find(m, ORDER_RESTING, number, at)
 }
 
 // Where the two halves of an order stand.
@@ -111,7 +142,7 @@ pub fn look(m: &[u8], number: u64) -> Places
     requires { ⌜ Ready (now m) × Sorted (cell (now m)) ⌝ }
     ensures { λ r. ⌜ Sees C.order-live order number-of (cell (now (m .entry))) number (r .live) × Sees C.order-resting resting resting-number (cell (now (m .entry))) number (r .resting) ⌝ }
 {
-    if let Found::At(i) = find(m, ORDER_KEPT, number) {
+    if let Found::At(i) = find(m, ORDER_KEPT, number, Found::Nothing) {
         let live = half(m, i, ORDER_LIVE);
         let resting = half(m, i, ORDER_RESTING);
         return Places { live, resting };
