@@ -1,12 +1,13 @@
 -- What each operation makes of a side's levels, from the laws of `table` and of the layout. Assumes nothing.
 use mathlib.Core.Path.{_≡_, refl, sym, ap, subst, _∙_}
 use mathlib.Core.Logic.{⊎-elim}
-use mathlib.Core.Bool.{true}
+use mathlib.Core.Bool.{Bool, true, false}
 use mathlib.Core.List.{List, [], _∷_}
 use mathlib.Core.Option.{Option, none, some}
 use Prim.Native.Nat.{ℕ, suc, _+_, _*_, _-_, _≤_, _<_}
 use native.Mathlib.Omega.{arith}
-use borrow.Author.Tests.{eq-eqb, ne-eqb}
+use borrow.Author.Tests.{eq-eqb, ne-eqb, lt-ltb, le-ltb}
+use lib.Dec.{ltb}
 use lib.ListN.{length, getD}
 use Rattle.orderbook.specs.declared.Side.{Side}
 use Rattle.orderbook.specs.declared.Side.the-variants.{Buy, Sell}
@@ -26,7 +27,7 @@ use Rattle.store.specs.View.{word}
 use Rattle.store.proofs.Places.{header-cell, bid-cell, ask-cell, cell-block, cell-same, cell-other}
 use Rattle.levels.specs.declared.Row.{Row}
 use Rattle.levels.specs.Rows.{widths, values, made, read}
-use Rattle.levels.specs.Levels.{block, count, base, key, row, size, entries, opened, one-more, changed, one-less, added, shown, removed, Joins, CanAdd, CanShow, CanRemove, Table, Did, Sought, IsAt, Place}
+use Rattle.levels.specs.Levels.{block, count, base, key, row, size, entries, opened, one-more, changed, one-less, added, shown, removed, Joins, CanAdd, CanShow, CanRemove, Table, Did, Sought, IsFirst, IsAt, Place}
 use Rattle.words.specs.Words.{modulus}
 
 -- ---- the block in bytes
@@ -232,6 +233,31 @@ module _ (s : Side) {xs : List ℕ} (t : Table s xs) where
   pub not-here-is : (k i : ℕ) (r : Row) → Sought s xs k i → r ≡ row s (cell xs) i → (r .key ≡ k → ⊥) → look key k (entries s (cell xs)) ≡ none
   not-here-is k i r b q w = at-none s t b (λ l e. w (ap key q ∙ e))
 
+  -- whether a row is the first one whose key is not below k
+  pub low-is : (k i n : ℕ) (r : Row) → n ≡ size s (cell xs) → i < n → r ≡ row s (cell xs) i → r .key < k → IsFirst s xs k i false
+  low-is k i n r e h q w b = omega (arith, b .above i (omega arith) (omega arith), ap key q)
+
+  module _ (k i : ℕ) (h : i ≤ size s (cell xs)) (a : i < size s (cell xs) → k ≤ row s (cell xs) i .key) where
+    above-is : (j : ℕ) → i ≤ j → j < size s (cell xs) → k ≤ row s (cell xs) j .key
+    above-is j g l =
+        ⊎-elim (λ (q : i < j). omega (arith, a (omega arith), t .asc i j q l))
+        (λ q. let e : i ≡ j = omega arith in rw e at (a (omega arith))) (lt-or-le i j)
+
+    pub first-is : i ≡ 0 → Sought s xs k i
+    first-is z = record { inside = omega arith; top = h; below = λ j l. absurd (omega arith); above = above-is }
+
+    pub after-is : (r : Row) → (i ≡ 0 → ⊥) → r ≡ row s (cell xs) (i - 1) → IsFirst s xs k i (ltb (r .key) k)
+    after-is r z q =
+        ⊎-elim
+        (λ (w : r .key < k). rw (lt-ltb (r .key) k w) (record { inside = omega arith; top = h; below = below-is w; above = above-is }))
+        (λ w. rw (le-ltb (r .key) k w) (λ b. omega (arith, b .below (i - 1) (omega arith), w, ap key q)))
+        (lt-or-le (r .key) k)
+      where
+        below-is : r .key < k → (j : ℕ) → j < i → row s (cell xs) j .key < k
+        below-is w j l =
+            ⊎-elim (λ (g : j < i - 1). omega (arith, t .asc j (i - 1) g (omega arith), w, ap key q))
+            (λ g. let e : j ≡ i - 1 = omega arith in rw e (omega (arith, w, ap key q))) (lt-or-le j (i - 1))
+
   pub join-is : {ys : List ℕ} (i v : ℕ) (r : Row) → i < size s (cell xs) → Joins v (row s (cell xs) i) → r ≡ row s (cell xs) i → r .key < modulus →
       ys ≡ puts widths xs (base s + 32 * i) (r .key ∷ (r .qty + v) ∷ (r .orders + 1) ∷ []) → Did s xs ys (replace key (one-more v (row s (cell xs) i)) (entries s (cell xs)))
   join-is {ys} i v r h j e f w =
@@ -297,4 +323,4 @@ module _ (s : Side) {xs : List ℕ} (t : Table s xs) where
   pub place-is : (k i v : ℕ) → CanAdd (size s (cell xs)) v (look key k (entries s (cell xs))) → Sought s xs k i → look key k (entries s (cell xs)) ≡ none → Place s xs k i
   place-is k i v p b a = record { table = t; room = rw a at p; sought = b; absent = a }
 
-pub ruleset laws = (read-is, write-is, size-is, set-size-is, sorted-at, sought-is, past-is, here-is, not-here-is, join-is, show-is, remove-last-is, remove-one-is, add-join-is, add-new-is, without-did, insert-did, arith)
+pub ruleset laws = (read-is, write-is, size-is, set-size-is, sorted-at, sought-is, past-is, here-is, not-here-is, low-is, join-is, show-is, remove-last-is, remove-one-is, add-join-is, add-new-is, without-did, insert-did, arith)

@@ -89,6 +89,11 @@ pub record Did (s : Side) (xs ys : List ℕ) (l : List Row) : Type 0 where
 abbrev pub Sought : Side → List ℕ → ℕ → ℕ → Type 0
 Sought s xs k i = Between (λ j. row s (cell xs) j .key) (size s (cell xs)) k i i
 
+-- whether it is, by the answer
+abbrev pub IsFirst : Side → List ℕ → ℕ → ℕ → Bool → Type 0
+IsFirst s xs k i true = Sought s xs k i
+IsFirst s xs k i false = (Sought s xs k i → ⊥)
+
 -- what is found of the level k at i, by the answer
 abbrev pub IsAt : Side → List ℕ → ℕ → ℕ → Bool → Type 0
 IsAt s xs i k true = (i < size s (cell xs)) × (look key k (entries s (cell xs)) ≡ some (row s (cell xs) i))

@@ -80,8 +80,39 @@ fn write_row(m: &mut [u8], side: Side, i: usize, r: Row)
     le::put_u64(m, o2, r.orders);
 }
 
+// Whether the row i is the first one whose key is not below `key`.
+fn is_first(m: &[u8], side: Side, i: usize, key: u64) -> bool
+    requires { ⌜ L.Table side (now m) ⌝ }
+    ensures { λ r. ⌜ L.IsFirst side (now (m .entry)) key i r ⌝ }
+{
+    let n = size(m, side);
+    if n < i {
+        return false;
+    }
+    if i < n {
+        if read_row(m, side, i).key < key {
+            return false;
+        }
+    }
+    if i == 0 {
+        return true;
+    }
+    read_row(m, side, i - 1).key < key
+}
+
+// As `seek`, where the row `hint` is tried first.
+fn seek_near(m: &[u8], side: Side, key: u64, hint: usize) -> usize
+    requires { ⌜ L.Table side (now m) ⌝ }
+    ensures { λ r. ⌜ L.Sought side (now (m .entry)) key r ⌝ }
+{
+    if is_first(m, side, hint, key) {
+        return hint;
+    }
+    seek(m, side, key)
+}
+
 // The first level whose key is not below `key`.
-fn seek(m: &[u8], side: Side, key: u64) -> usize
+pub fn seek(m: &[u8], side: Side, key: u64) -> usize
     requires { ⌜ L.Table side (now m) ⌝ }
     ensures { λ r. ⌜ L.Sought side (now (m .entry)) key r ⌝ }
 {
@@ -90,7 +121,7 @@ fn seek(m: &[u8], side: Side, key: u64) -> usize
 }
 
 // Whether the row i is that level.
-fn is_at(m: &[u8], side: Side, i: usize, key: u64) -> bool
+pub fn is_at(m: &[u8], side: Side, i: usize, key: u64) -> bool
     requires { ⌜ L.Table side (now m) × L.Sought side (now m) key i ⌝ }
     ensures { λ r. ⌜ L.IsAt side (now (m .entry)) i key r ⌝ }
 {
@@ -153,12 +184,12 @@ fn put_in(m: &mut [u8], side: Side, i: usize, key: u64, visible: u64)
     set_size(m, side, n + 1);
 }
 
-// An order that shows `visible` comes.
-pub fn add(m: &mut [u8], side: Side, key: u64, visible: u64)
+// An order that shows `visible` comes. Its level's place is tried at `hint` first.
+pub fn add(m: &mut [u8], side: Side, key: u64, visible: u64, hint: usize)
     requires { ⌜ L.Table side (now m) × L.CanAdd (L.size side (cell (now m))) visible (look L.key key (L.entries side (cell (now m)))) ⌝ }
     ensures { λ r. ⌜ L.Did side (now (m .entry)) (now (m .exit)) (L.added key visible (L.entries side (cell (now (m .entry))))) ⌝ }
 {
-    let i = seek(m, side, key);
+    let i = seek_near(m, side, key, hint);
     if is_at(m, side, i, key) {
         join(m, side, i, visible);
         return;

@@ -3,8 +3,8 @@ use Rattle.levels.proofs.Laws.{join-in, place-is, add-join-is, add-new-
 use Rattle.levels.proofs.add.Statement.{statement}
 use Rattle.levels.proofs.add.Tie as tie
 
-seek-requires : tie.Need-seek-requires
-seek-requires c κs = search needs
+seek-near-requires : tie.Need-seek-near-requires
+seek-near-requires c κs = search needs
 
 is-at-requires : tie.Need-is-at-requires
 is-at-requires c κs = search needs
@@ -32,7 +32,7 @@ put-in-requires c κs =
     let a = c .before .before in
     let k = a .before .before in
     let s = k .before .before .before in
-    place-is _ (s .pre .0) _ _ _ (s .pre .1) (k .seek .ensures) (rw (c .before .if1 .left) at (a .is-at .ensures))
+    place-is _ (s .pre .0) _ _ _ (s .pre .1) (k .seek-near .ensures) (rw (c .before .if1 .left) at (a .is-at .ensures))
 
 same-length-2 : tie.Need-same-length-2
 same-length-2 c = search needs
@@ -48,7 +48,7 @@ pub add-spec : {M : Type 1} → statement M
 add-spec =
     tie.close
     (tie.spec
-    seek-requires
+    seek-near-requires
     is-at-requires
     join-requires
     same-length
