@@ -21,6 +21,7 @@ use Rattle.store.specs.View as View
 use Rattle.orders.specs.declared.Resting.{Resting}
 use Rattle.orders.specs.Orders.{resting-row}
 use Rattle.levels.specs.declared.Row.{Row}
+use Rattle.levels.specs.Levels as L
 use Rattle.sound.specs.Sound.{Becomes}
 use Rattle.words.specs.Words.{modulus}
 
@@ -39,6 +40,10 @@ pub record Free (i n : ℕ) (s : Store) : Type 0 where
 -- the order of the row i
 abbrev pub resting-at : ℕ → Store → D.Resting
 resting-at i s = resting (s C.orders i)
+
+-- i is the place of the level at a price
+abbrev pub Placed : Side → ℤ → List ℕ → ℕ → Type 0
+Placed z p xs i = (k : ℕ) → L.price k ≡ p → L.Sought z xs k i
 
 -- r has the quantity and the number of orders of the level at a price
 pub record IsLevel (z : Side) (p : ℤ) (d : Depth) (r : Row) : Type 0 where

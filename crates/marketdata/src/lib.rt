@@ -17,14 +17,22 @@ ghost use Rattle.pending.specs.Pending as Pending;
 ghost use Rattle.sound.specs.Sound.{State, Becomes};
 ghost use Rattle.marketdata.specs.Marketdata as P;
 
-// The level of a side, a code, and a price, a word: no quantity and no orders where there is none.
-pub fn level_of(m: &[u8], side: u64, price: u64) -> Row
+// The place of the level of a side, a code, and a price, a word.
+pub fn place_of(m: &[u8], side: u64, price: u64) -> usize
     requires { ⌜ State (now m) ⌝ }
+    ensures { λ r. ⌜ P.Placed (View.side side) (int price) (now (m .entry)) r ⌝ }
+{
+    levels::seek(m, store::side_of(side), words::raised(price))
+}
+
+// The level whose place is i: no quantity and no orders where there is none.
+pub fn level_at(m: &[u8], side: u64, price: u64, i: usize) -> Row
+    requires { ⌜ State (now m) × P.Placed (View.side side) (int price) (now m) i ⌝ }
     ensures { λ r. ⌜ P.IsLevel (View.side side) (int price) (depth (cell (now (m .entry)))) r ⌝ }
 {
     let z = store::side_of(side);
     let k = words::raised(price);
-    if let Found::At(i) = levels::find(m, z, k) {
+    if levels::is_at(m, z, i, k) {
         return levels::read_row(m, z, i);
     }
     Row {
@@ -32,6 +40,14 @@ pub fn level_of(m: &[u8], side: u64, price: u64) -> Row
         qty: 0,
         orders: 0,
     }
+}
+
+pub fn level_of(m: &[u8], side: u64, price: u64) -> Row
+    requires { ⌜ State (now m) ⌝ }
+    ensures { λ r. ⌜ P.IsLevel (View.side side) (int price) (depth (cell (now (m .entry)))) r ⌝ }
+{
+    let i = place_of(m, side, price);
+    level_at(m, side, price, i)
 }
 
 // The level of that side, a code, and that price, a word, has changed.
@@ -121,41 +137,47 @@ fn dead_row(m: &mut [u8], number: u64) -> usize
     new_row(m, number)
 }
 
-// A row in which that order can rest.
-fn row_for(m: &mut [u8], number: u64) -> usize
+// A row in which that order can rest, which was at `at`.
+fn row_for(m: &mut [u8], number: u64, at: Found) -> usize
     requires { ⌜ State (now m) × P.CanOpen number (cell (now m)) ⌝ }
     ensures { λ r. ⌜ P.Opens (now (m .entry)) (now (m .exit)) number r ⌝ }
 {
-    if let Found::At(i) = orders::find_live(m, number) {
+    if let Found::At(i) = orders::live_again(m, number, at) {
         return i;
     }
     dead_row(m, number)
 }
 
 // The order joins its level, and rests in its row.
-fn join(m: &mut [u8], i: usize, o: Resting)
+fn join(m: &mut [u8], i: usize, o: Resting, place: usize)
     requires { ⌜ State (now m) × P.Free i (number-at i (cell (now m))) (cell (now m)) × P.Judged (D.add (resting-of (number-at i (cell (now m))) o) (depth (cell (now m)))) ⌝ }
     ensures { λ r. ⌜ Becomes (now (m .exit)) (P.with-depth (P.with-resting (insert D.resting-number (resting-of (number-at i (cell (now (m .entry)))) o))) (gateway (cell (now (m .entry))))) ⌝ }
 {
-    levels::add(m, store::side_of(o.side), words::raised(o.price), o.visible);
+    levels::add(
+        m,
+        store::side_of(o.side),
+        words::raised(o.price),
+        o.visible,
+        place,
+    );
     orders::rest(m, i, o);
 }
 
 // The order of that number rests; its level is not remembered.
-pub fn rest(m: &mut [u8], number: u64, o: Resting)
+pub fn rest(m: &mut [u8], number: u64, o: Resting, at: Found, place: usize)
     requires { ⌜ State (now m) × P.CanAdd (resting-of number o) (cell (now m)) ⌝ }
     ensures { λ r. ⌜ Becomes (now (m .exit)) (P.with-depth (P.with-resting (insert D.resting-number (resting-of number o))) (gateway (cell (now (m .entry))))) ⌝ }
 {
-    let i = row_for(m, number);
-    join(m, i, o);
+    let i = row_for(m, number, at);
+    join(m, i, o, place);
 }
 
 // The order of that number rests, and its level has changed.
-pub fn add(m: &mut [u8], number: u64, o: Resting)
+pub fn add(m: &mut [u8], number: u64, o: Resting, at: Found, place: usize)
     requires { ⌜ State (now m) × P.CanAdd (resting-of number o) (cell (now m)) ⌝ }
     ensures { λ r. ⌜ Becomes (now (m .exit)) (P.with-depth (D.add (resting-of number o)) (gateway (cell (now (m .entry))))) ⌝ }
 {
-    rest(m, number, o);
+    rest(m, number, o, at, place);
     remember(m, o.side, o.price);
 }
 
@@ -211,44 +233,44 @@ pub fn modified(m: &mut [u8], i: usize, o: Resting, price: u64, leaves: u64)
 }
 
 // The order has left the book, where it rests.
-pub fn on_cancelled(m: &mut [u8], number: u64)
+pub fn on_cancelled(m: &mut [u8], number: u64, at: Found)
     requires { ⌜ State (now m) × P.Roomy (D.where-resting number D.take-off (depth (cell (now m)))) ⌝ }
     ensures { λ r. ⌜ Becomes (now (m .exit)) (P.with-depth (D.where-resting number D.take-off) (gateway (cell (now (m .entry))))) ⌝ }
 {
-    if let Found::At(i) = orders::find_resting(m, number) {
+    if let Found::At(i) = orders::resting_again(m, number, at) {
         let o = orders::resting_at(m, i);
         remove(m, i, o);
     }
 }
 
 // The order shows its next part, where it rests.
-pub fn on_replenished(m: &mut [u8], number: u64, visible: u64)
+pub fn on_replenished(m: &mut [u8], number: u64, at: Found, visible: u64)
     requires { ⌜ State (now m) × P.Judged (D.where-resting number (P.replenished visible) (depth (cell (now m)))) ⌝ }
     ensures { λ r. ⌜ Becomes (now (m .exit)) (P.with-depth (D.where-resting number (P.replenished visible)) (gateway (cell (now (m .entry))))) ⌝ }
 {
-    if let Found::At(i) = orders::find_resting(m, number) {
+    if let Found::At(i) = orders::resting_again(m, number, at) {
         let o = orders::resting_at(m, i);
         replenished(m, i, o, visible);
     }
 }
 
 // A modify left the order that price and that much open, where it rests.
-pub fn on_modified(m: &mut [u8], number: u64, price: u64, leaves: u64)
+pub fn on_modified(m: &mut [u8], number: u64, at: Found, price: u64, leaves: u64)
     requires { ⌜ State (now m) × P.Roomy (D.where-resting number (D.modified (int price) leaves) (depth (cell (now m)))) ⌝ }
     ensures { λ r. ⌜ Becomes (now (m .exit)) (P.with-depth (D.where-resting number (D.modified (int price) leaves)) (gateway (cell (now (m .entry))))) ⌝ }
 {
-    if let Found::At(i) = orders::find_resting(m, number) {
+    if let Found::At(i) = orders::resting_again(m, number, at) {
         let o = orders::resting_at(m, i);
         modified(m, i, o, price, leaves);
     }
 }
 
 // A trade took `qty` of what the order shows, where it rests.
-fn on_filled(m: &mut [u8], number: u64, qty: u64, leaves: u64)
+fn on_filled(m: &mut [u8], number: u64, at: Found, qty: u64, leaves: u64)
     requires { ⌜ State (now m) × P.CanFill number qty leaves (depth (cell (now m))) ⌝ }
     ensures { λ r. ⌜ Becomes (now (m .exit)) (P.with-depth (D.where-resting number (D.filled qty leaves)) (gateway (cell (now (m .entry))))) ⌝ }
 {
-    if let Found::At(i) = orders::find_resting(m, number) {
+    if let Found::At(i) = orders::resting_again(m, number, at) {
         let o = orders::resting_at(m, i);
         filled(m, i, o, qty, leaves);
     }
@@ -258,7 +280,9 @@ fn on_filled(m: &mut [u8], number: u64, qty: u64, leaves: u64)
 pub fn on_trade(
     m: &mut [u8],
     taker: u64,
+    taker_at: Found,
     maker: u64,
+    maker_at: Found,
     qty: u64,
     taker_leaves: u64,
     maker_leaves: u64,
@@ -266,6 +290,6 @@ pub fn on_trade(
     requires { ⌜ State (now m) × P.CanTrade taker maker qty «taker_leaves» «maker_leaves» (depth (cell (now m))) ⌝ }
     ensures { λ r. ⌜ Becomes (now (m .exit)) (P.with-depth (P.traded taker maker qty «taker_leaves» «maker_leaves») (gateway (cell (now (m .entry))))) ⌝ }
 {
-    on_filled(m, maker, qty, maker_leaves);
-    on_filled(m, taker, qty, taker_leaves);
+    on_filled(m, maker, maker_at, qty, maker_leaves);
+    on_filled(m, taker, taker_at, qty, taker_leaves);
 }

@@ -5,8 +5,8 @@ use Rattle.marketdata.proofs.Events.{read-asks, found-at, found-room, f
 use Rattle.marketdata.proofs.on_modified.Statement.{statement}
 use Rattle.marketdata.proofs.on_modified.Tie as tie
 
-find-resting-requires : tie.Need-find-resting-requires
-find-resting-requires c κs = search needs
+resting-again-requires : tie.Need-resting-again-requires
+resting-again-requires c κs = search needs
 
 enum-known-i : tie.Need-enum-known-i
 enum-known-i c = search needs
@@ -16,7 +16,7 @@ resting-at-requires c κs =
     let g = c .before .before in
     let f = g .before .before in
     let a = f .before .before .before in
-    read-asks _ _ _ (a .pre .0) _ (f .find-resting .ensures) (g .i .given .1)
+    read-asks _ _ _ (a .pre .0) _ (f .resting-again .ensures) (g .i .given .1)
 
 modified-requires : tie.Need-modified-requires
 modified-requires c κs =
@@ -24,7 +24,7 @@ modified-requires c κs =
     let g = o .before .before .before in
     let f = g .before .before in
     let a = f .before .before .before in
-    (a .pre .0, found-at _ _ _ (a .pre .0) _ (f .find-resting .ensures) (g .i .given .1) _ (o .resting-at .ensures), found-room _ _ _ (a .pre .0) _ (f .find-resting .ensures) (g .i .given .1) (D.modified (int (a .args .price)) (a .args .leaves)) (a .pre .1))
+    (a .pre .0, found-at _ _ _ (a .pre .0) _ (f .resting-again .ensures) (g .i .given .1) _ (o .resting-at .ensures), found-room _ _ _ (a .pre .0) _ (f .resting-again .ensures) (g .i .given .1) (D.modified (int (a .args .price)) (a .args .leaves)) (a .pre .1))
 
 enum-told : tie.Need-enum-told
 enum-told c = search needs
@@ -38,7 +38,7 @@ returns c =
     let g = e .before .before .before .before .before in
     let f = g .before .before in
     let a = f .before .before .before in
-    found-becomes _ _ _ (a .pre .0) _ (f .find-resting .ensures) (g .i .given .1) (D.modified (int (a .args .price)) (a .args .leaves)) (e .modified .ensures)
+    found-becomes _ _ _ (a .pre .0) _ (f .resting-again .ensures) (g .i .given .1) (D.modified (int (a .args .price)) (a .args .leaves)) (e .modified .ensures)
 
 same-length-2 : tie.Need-same-length-2
 same-length-2 c = search needs
@@ -47,13 +47,13 @@ returns-2 : tie.Need-returns-2
 returns-2 c =
     let f = c .before .before in
     let a = f .before .before .before in
-    nothing-becomes _ _ (a .pre .0) _ (f .find-resting .ensures) (c .enum-told .given .1) (D.modified (int (a .args .price)) (a .args .leaves))
+    nothing-becomes _ _ (a .pre .0) _ (f .resting-again .ensures) (c .enum-told .given .1) (D.modified (int (a .args .price)) (a .args .leaves))
 
 pub on-modified-spec : {M : Type 1} → statement M
 on-modified-spec =
     tie.close
     (tie.spec
-    find-resting-requires
+    resting-again-requires
     enum-known-i
     resting-at-requires
     modified-requires

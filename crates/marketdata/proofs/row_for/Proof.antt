@@ -3,8 +3,8 @@ use borrow.Author.Needs.{needs}
 use Rattle.marketdata.proofs.row_for.Statement.{statement}
 use Rattle.marketdata.proofs.row_for.Tie as tie
 
-find-live-requires : tie.Need-find-live-requires
-find-live-requires c κs = search needs
+live-again-requires : tie.Need-live-again-requires
+live-again-requires c κs = search needs
 
 enum-known-i : tie.Need-enum-known-i
 enum-known-i c = search needs
@@ -17,7 +17,7 @@ returns c =
     let g = c .before in
     let f = g .before .before in
     let a = f .before .before .before in
-    live-opens _ _ _ (a .pre .0) (a .pre .1) _ (f .find-live .ensures) (g .i .given .1)
+    live-opens _ _ _ (a .pre .0) (a .pre .1) _ (f .live-again .ensures) (g .i .given .1)
 
 enum-told : tie.Need-enum-told
 enum-told c = search needs
@@ -35,7 +35,7 @@ pub row-for-spec : {M : Type 1} → statement M
 row-for-spec =
     tie.close
     (tie.spec
-    find-live-requires
+    live-again-requires
     enum-known-i
     same-length
     returns
