@@ -1,19 +1,20 @@
 -- What is stored of a level, and the tests that it decides. Assumes nothing.
 use mathlib.Core.Path.{_≡_, refl, sym, ap, ap₂, _∙_}
-use mathlib.Core.Bool.{Bool, true, false, _&&_}
+use mathlib.Core.Bool.{Bool, true, false, not, _&&_}
 use mathlib.Core.Logic.{⊎-elim}
 use mathlib.Core.Option.{some}
 use mathlib.Core.List.{List}
 use Prim.Native.Nat.{ℕ, suc, _+_, _-_, _^_, _≤_, _<_}
 use native.Mathlib.Omega.{arith}
-use borrow.Author.Tests.{le-leb, lt-leb, lt-ltb, le-ltb}
+use borrow.Author.Tests.{eq-eqb, ne-eqb, le-leb, lt-leb, lt-ltb, le-ltb}
 use lib.ListN.{length}
-use lib.Dec.{ltb, leb}
+use lib.Dec.{eqb, ltb, leb}
 use lib.IntN.{ℤ}
 use Rattle.le.proofs.Laws.{lt-or-le}
 use Rattle.orderbook.specs.declared.Side.{Side}
 use Rattle.words.specs.Words.{int, half, _⊖_, modulus}
 use Rattle.table.specs.Live.{look}
+use Rattle.table.proofs.Live.{same?}
 use Rattle.table.specs.declared.Found.{Found}
 use Rattle.table.specs.declared.Found.the-variants.{At, Nothing}
 use Rattle.gateway.specs.Basics.{option}
@@ -93,23 +94,35 @@ module _ {xs : List ℕ} (b : Between xs) (n : ℕ) (o : Resting) where
   few : Few d
   few = few-counts d (b .ok .rest-is .feed .few)
 
-  module _ (l : Row) (l-is : IsLevel (side (o .side)) (int (o .price)) d l) where
-    pub join-fits : o .visible < 2 ^ 64 → leb (l .qty) (18446744073709551615 - o .visible) ≡ D.levels-fit (D.add (resting-of n o) d .resting)
-    join-fits h = below (l .qty) (o .visible) h ∙ ap (λ q. ltb (q + o .visible) modulus) (l-is .qty-is) ∙ sym (add-fits (resting-of n o) d (b .ok .rest-is .feed .fit))
+  pub join-fits : (l : Row) → IsLevel (side (o .side)) (int (o .price)) d l → o .visible < 2 ^ 64 →
+      leb (l .qty) (18446744073709551615 - o .visible) ≡ D.levels-fit (D.add (resting-of n o) d .resting)
+  join-fits l l-is h =
+      below (l .qty) (o .visible) h ∙ ap (λ q. ltb (q + o .visible) modulus) (l-is .qty-is) ∙ sym (add-fits (resting-of n o) d (b .ok .rest-is .feed .fit))
 
-    pub side-there : (l .orders ≡ 0 → ⊥) → true ≡ leb (length (D.joined (side (o .side)) (int (o .price)) (o .visible) (D.levels (side (o .side)) (d .resting)))) most-levels
-    side-there h =
-        sym
-        (le-leb (length more) most-levels
-        (omega (arith, joined-there z (int (o .price)) (o .visible) (D.levels z (d .resting)) (levels-best z (d .resting)) (omega (arith, l-is .orders-is)), few .sides z)))
+  there-is : 0 < D.level-in (int (o .price)) (D.levels z (d .resting)) .orders → length more ≡ length (D.levels z (d .resting))
+  there-is h = joined-there z (int (o .price)) (o .visible) (D.levels z (d .resting)) (levels-best z (d .resting)) h
 
-    pub side-new : l .orders ≡ 0 → (w : Side) → w ≡ side (o .side) → (k : ℕ) → k ≡ L.size w (cell xs) →
-        ltb k most-levels ≡ leb (length (D.joined (side (o .side)) (int (o .price)) (o .visible) (D.levels (side (o .side)) (d .resting)))) most-levels
-    side-new h w w-is k k-is =
-        let count : k ≡ length (D.levels z (d .resting)) = k-is ∙ ap (λ (y : Side). L.size y (cell xs)) w-is ∙ size-levels (b .state .sound) z in
-        let one = joined-length z (int (o .price)) (o .visible) (D.levels z (d .resting)) (levels-peopled z (d .resting)) (sym (l-is .orders-is) ∙ h) in
-        ⊎-elim (λ (q : k < most-levels). lt-ltb k most-levels q ∙ sym (le-leb (length more) most-levels (omega (arith, one, count))))
-        (λ q. le-ltb k most-levels q ∙ sym (lt-leb (length more) most-levels (omega (arith, one, count)))) (lt-or-le k most-levels)
+  new-is : D.level-in (int (o .price)) (D.levels z (d .resting)) .orders ≡ 0 → length more ≡ suc (length (D.levels z (d .resting)))
+  new-is h = joined-length z (int (o .price)) (o .visible) (D.levels z (d .resting)) (levels-peopled z (d .resting)) h
+
+  -- the levels of its side are counted
+  module _ (w : Side) (w-is : w ≡ side (o .side)) (k : ℕ) (k-is : k ≡ L.size w (cell xs)) where
+    levels-are : k ≡ length (D.levels z (d .resting))
+    levels-are = k-is ∙ ap (λ (y : Side). L.size y (cell xs)) w-is ∙ size-levels (b .state .sound) z
+
+    pub side-roomy : k < most-levels → true ≡ leb (length (D.joined (side (o .side)) (int (o .price)) (o .visible) (D.levels (side (o .side)) (d .resting)))) most-levels
+    side-roomy h =
+        ⊎-elim (λ q. sym (le-leb (length more) most-levels (omega (arith, there-is q, levels-are))))
+        (λ q. sym (le-leb (length more) most-levels (omega (arith, new-is (omega (arith, q)), levels-are))))
+        (lt-or-le 0 (D.level-in (int (o .price)) (D.levels z (d .resting)) .orders))
+
+    pub side-full : most-levels ≤ k → (l : Row) → IsLevel (side (o .side)) (int (o .price)) d l →
+        not (eqb (l .orders) 0) ≡ leb (length (D.joined (side (o .side)) (int (o .price)) (o .visible) (D.levels (side (o .side)) (d .resting)))) most-levels
+    side-full h l l-is =
+        ⊎-elim
+        (λ (q : l .orders ≡ 0). ap not (eq-eqb (l .orders) 0 q) ∙ sym (lt-leb (length more) most-levels (omega (arith, new-is (sym (l-is .orders-is) ∙ q), levels-are))))
+        (λ q. ap not (ne-eqb (l .orders) 0 q) ∙ sym (le-leb (length more) most-levels (omega (arith, there-is (omega (arith, q, l-is .orders-is)), few .sides z))))
+        (same? (l .orders) 0)
 
   module _ (k : ℕ) (k-is : k ≡ word (cell xs) C.resting-orders) where
     count-is : length (d .resting) ≡ k
@@ -135,4 +148,4 @@ module _ {xs : List ℕ} (b : Between xs) (n : ℕ) (o : Resting) where
       pub changed-room : t ≡ true → (u : Bool) → u ≡ leb (length (D.remember (Pending.key (o .side) (o .price)) (d .changed))) most-changed → Room u
       changed-room e u u-is = parts true true u fine (sym t-is ∙ e) (sym u-is)
 
-pub ruleset stored = (level-over, reshow-found, reshow-none, join-fits, side-there, side-new, no-order-room, no-side-room, changed-room, arith)
+pub ruleset stored = (level-over, reshow-found, reshow-none, join-fits, side-roomy, side-full, no-order-room, no-side-room, changed-room, arith)

@@ -19,7 +19,7 @@ ghost use Rattle.store.specs.View as View;
 ghost use Rattle.orders.specs.Orders.{Sees, resting-of};
 ghost use Rattle.pending.specs.Pending as Pending;
 ghost use Rattle.sound.specs.Sound.{State};
-ghost use Rattle.marketdata.specs.Marketdata.{replenished};
+ghost use Rattle.marketdata.specs.Marketdata.{Placed, replenished};
 ghost use Rattle.outcome.specs.Between.{Between};
 ghost use Rattle.shows.specs.Shows as P;
 
@@ -157,12 +157,12 @@ pub fn reshow_fits(m: &[u8], id: u64, at: Found, visible: u64) -> bool
     true
 }
 
-// The level of an order that comes to rest stays in range.
-pub fn join_fits(m: &[u8], id: u64, o: Resting) -> bool
-    requires { ⌜ Between (now m) ⌝ }
+// The level of an order that comes to rest, whose place is `place`, stays in range.
+pub fn join_fits(m: &[u8], id: u64, o: Resting, place: usize) -> bool
+    requires { ⌜ Between (now m) × Placed (View.side (o .side)) (int (o .price)) (now m) place ⌝ }
     ensures { λ r. ⌜ r ≡ D.levels-fit (D.add (resting-of id o) (depth (cell (now (m .entry)))) .resting) ⌝ }
 {
-    let l = marketdata::level_of(m, o.side, o.price);
+    let l = marketdata::level_at(m, o.side, o.price, place);
     l.qty <= limits::GREATEST - o.visible
 }
 
@@ -173,11 +173,11 @@ fn side_room(m: &[u8], o: Resting) -> bool
     requires { ⌜ Between (now m) ⌝ }
     ensures { λ r. ⌜ r ≡ leb (length (D.joined (View.side (o .side)) (int (o .price)) (o .visible) (D.levels (View.side (o .side)) (depth (cell (now (m .entry))) .resting)))) most-levels ⌝ }
 {
-    let l = marketdata::level_of(m, o.side, o.price);
-    if l.orders != 0 {
+    if levels::size(m, store::side_of(o.side)) < limits::MOST_LEVELS {
         return true;
     }
-    levels::size(m, store::side_of(o.side)) < limits::MOST_LEVELS
+    let l = marketdata::level_of(m, o.side, o.price);
+    l.orders != 0
 }
 
 // The resting orders, the levels of its side and the changed levels.
