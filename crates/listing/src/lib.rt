@@ -2,6 +2,7 @@
 // orders as they come to stand in the depth (`Depth::of` of marketdata/src/lib.rs).
 use orders::Resting;
 use store::limits;
+use table::Found;
 ghost use mathlib.Core.Path.{_≡_};
 ghost use mathlib.Core.Bool.{true};
 ghost use Prim.Native.Nat.{_+_, _<_, _≤_};
@@ -226,7 +227,7 @@ fn rest_row(m: &mut [u8], list: &[u8], j: usize)
             visible: e.visible,
             leaves: e.leaves,
         };
-        marketdata::rest(m, e.number, o);
+        marketdata::rest(m, e.number, o, Found::Nothing, 0);
     }
 }
 
