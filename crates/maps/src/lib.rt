@@ -141,7 +141,7 @@ pub extern "C" fn tables_levels_add(m: &mut [u8], code: u32, key: u64, visible: 
     requires { ⌜ L.Table (side code) (now m) × L.CanAdd (L.size (side code) (cell (now m))) visible (look L.key key (L.entries (side code) (cell (now m)))) ⌝ }
     ensures { λ r. ⌜ L.Did (side code) (now (m .entry)) (now (m .exit)) (L.added key visible (L.entries (side code) (cell (now (m .entry))))) ⌝ }
 {
-    levels::add(m, side_of(code), key, visible);
+    levels::add(m, side_of(code), key, visible, 0);
 }
 
 #[no_mangle]
