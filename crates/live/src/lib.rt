@@ -90,22 +90,21 @@ fn shift(m: &mut [u8], account: usize, side: Side, old: u64, new: u64)
     store::set(m, store::ACCOUNTS, account, k, total);
 }
 
-// The order has this price and this much open, and holds accordingly.
-fn revise(m: &mut [u8], i: usize, o: Live, priced: u64, price: u64, leaves: u64)
-    requires { ⌜ Holds (now m) × (i < order-room) × (o .account < owner-slots) ⌝ }
+// The order has this price and this much open, and holds accordingly: what it holds then is given.
+fn revise(m: &mut [u8], i: usize, o: Live, priced: u64, price: u64, leaves: u64, hold: u64)
+    requires { ⌜ Holds (now m) × (i < order-room) × (o .account < owner-slots) × (hold ≡ P.hold-word (o .side) priced price leaves) ⌝ }
     ensures { λ r. ⌜ Is (now (m .exit)) (P.revise i o priced price leaves (cell (now (m .entry)))) ⌝ }
 {
-    let hold = hold_of(o.side, priced, price, leaves);
     orders::revise(m, i, priced, price, leaves, hold);
     shift(m, o.account as usize, store::side_of(o.side), o.hold, hold);
 }
 
 // The order's open quantity is now `leaves`: what it holds follows.
-pub fn set_leaves(m: &mut [u8], i: usize, o: Live, leaves: u64)
-    requires { ⌜ State (now m) × P.At i o (cell (now m)) ⌝ }
+pub fn set_leaves(m: &mut [u8], i: usize, o: Live, leaves: u64, hold: u64)
+    requires { ⌜ State (now m) × P.At i o (cell (now m)) × (hold ≡ P.hold-word (o .side) (o .priced) (o .price) leaves) ⌝ }
     ensures { λ r. ⌜ Becomes (now (m .exit)) (P.with-ledger (Ledger.change (Ledger.set-leaves (number-at i (cell (now (m .entry)))) leaves)) (gateway (cell (now (m .entry))))) ⌝ }
 {
-    revise(m, i, o, o.priced, o.price, leaves);
+    revise(m, i, o, o.priced, o.price, leaves, hold);
 }
 
 // The order ends: what it held goes back, and its account has one order less.
@@ -129,23 +128,23 @@ pub fn retire(m: &mut [u8], i: usize, o: Live)
 }
 
 // An order with nothing left is done.
-fn leave(m: &mut [u8], i: usize, o: Live, priced: u64, price: u64, leaves: u64)
-    requires { ⌜ Holds (now m) × (i < order-room) × (o .account < owner-slots) × (0 < word (cell (now m)) C.live-orders) × (0 < cell (now m) C.accounts (o .account) C.account-open-orders) ⌝ }
+fn leave(m: &mut [u8], i: usize, o: Live, priced: u64, price: u64, leaves: u64, hold: u64)
+    requires { ⌜ Holds (now m) × (i < order-room) × (o .account < owner-slots) × (0 < word (cell (now m)) C.live-orders) × (0 < cell (now m) C.accounts (o .account) C.account-open-orders) × (hold ≡ P.hold-word (o .side) priced price leaves) ⌝ }
     ensures { λ r. ⌜ Is (now (m .exit)) (P.left i o priced price leaves (cell (now (m .entry)))) ⌝ }
 {
     if leaves == 0 {
         end(m, i, o);
         return;
     }
-    revise(m, i, o, priced, price, leaves);
+    revise(m, i, o, priced, price, leaves, hold);
 }
 
 // A modify changed its price and its open quantity.
-pub fn reprice(m: &mut [u8], i: usize, o: Live, price: u64, leaves: u64)
-    requires { ⌜ State (now m) × P.At i o (cell (now m)) ⌝ }
+pub fn reprice(m: &mut [u8], i: usize, o: Live, price: u64, leaves: u64, hold: u64)
+    requires { ⌜ State (now m) × P.At i o (cell (now m)) × (hold ≡ P.hold-word (o .side) 1 price leaves) ⌝ }
     ensures { λ r. ⌜ Becomes (now (m .exit)) (P.with-ledger (Ledger.change (Ledger.reprice (number-at i (cell (now (m .entry)))) (int price) leaves)) (gateway (cell (now (m .entry))))) ⌝ }
 {
-    leave(m, i, o, 1, price, leaves);
+    leave(m, i, o, 1, price, leaves, hold);
 }
 
 fn settle(m: &mut [u8], account: usize, side: Side, price: u64, qty: u64)
@@ -167,12 +166,12 @@ fn pay(m: &mut [u8], account: usize, side: Side, price: u64, qty: u64)
 }
 
 // The order traded `qty` at `price`, and has `leaves` open.
-pub fn traded(m: &mut [u8], i: usize, o: Live, price: u64, qty: u64, leaves: u64)
-    requires { ⌜ State (now m) × P.At i o (cell (now m)) ⌝ }
+pub fn traded(m: &mut [u8], i: usize, o: Live, price: u64, qty: u64, leaves: u64, hold: u64)
+    requires { ⌜ State (now m) × P.At i o (cell (now m)) × (hold ≡ P.hold-word (o .side) (o .priced) (o .price) leaves) ⌝ }
     ensures { λ r. ⌜ Becomes (now (m .exit)) (P.with-ledger (Ledger.change (Ledger.fill (number-at i (cell (now (m .entry)))) (int price) qty leaves)) (gateway (cell (now (m .entry))))) ⌝ }
 {
     pay(m, o.account as usize, store::side_of(o.side), price, qty);
-    leave(m, i, o, o.priced, o.price, leaves);
+    leave(m, i, o, o.priced, o.price, leaves, hold);
 }
 
 // A row for a new order, numbered above those of the table; its hold is not read but found.

@@ -4,7 +4,7 @@ use Rattle.live.proofs.reprice.Statement.{statement}
 use Rattle.live.proofs.reprice.Tie as tie
 
 leave-requires : tie.Need-leave-requires
-leave-requires c κs = let p = c .before .before .pre in needs-met (p .0) (p .1)
+leave-requires c κs = let p = c .before .before .pre in let n = needs-met (p .0) (p .1) in (n .0, n .1, n .2, n .3, n .4, p .2)
 
 same-length : tie.Need-same-length
 same-length c = search needs

@@ -3,9 +3,6 @@ use borrow.Author.Needs.{needs}
 use Rattle.live.proofs.revise.Statement.{statement}
 use Rattle.live.proofs.revise.Tie as tie
 
-hold-of-requires : tie.Need-hold-of-requires
-hold-of-requires c κs = search needs
-
 revise-requires : tie.Need-revise-requires
 revise-requires c κs = search needs
 
@@ -24,4 +21,4 @@ returns c = search (laws, needs)
 pub revise-spec : {M : Type 1} → statement M
 revise-spec =
     tie.close
-    (tie.spec hold-of-requires revise-requires side-of-requires shift-requires same-length returns)
+    (tie.spec revise-requires side-of-requires shift-requires same-length returns)

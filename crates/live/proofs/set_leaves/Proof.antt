@@ -4,7 +4,7 @@ use Rattle.live.proofs.set_leaves.Statement.{statement}
 use Rattle.live.proofs.set_leaves.Tie as tie
 
 revise-requires : tie.Need-revise-requires
-revise-requires c κs = let p = c .before .before .pre in let n = needs-met (p .0) (p .1) in (n .0, n .1, n .2)
+revise-requires c κs = let p = c .before .before .pre in let n = needs-met (p .0) (p .1) in (n .0, n .1, n .2, p .2)
 
 same-length : tie.Need-same-length
 same-length c = search needs

@@ -14,7 +14,8 @@ leave-requires c κs =
     let y = c .before .before .before in
     let p = y .before .before .before .before .pre in
     let h = paid (p .0) (p .1) _ _ _ (y .before .side-of .ensures) (y .pay .ensures) in
-    needs-met (pay-becomes (p .0) (p .1) _ _ h .state) (pay-at (p .0) (p .1) _ _ h)
+    let n = needs-met (pay-becomes (p .0) (p .1) _ _ h .state) (pay-at (p .0) (p .1) _ _ h) in
+    (n .0, n .1, n .2, n .3, n .4, p .2)
 
 same-length : tie.Need-same-length
 same-length c = search needs
