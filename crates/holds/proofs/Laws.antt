@@ -16,7 +16,7 @@ use Rattle.gateway.specs.Deliver.{order-notices, change-notices, notices-of}
 use Rattle.gateway.specs.Calls.{Gateway}
 use Rattle.gateway.specs.Invariant.{Ok}
 use Rattle.gateway.proofs.Base.{split}
-use Rattle.gateway.proofs.Moves.{Of, names, wallets-changed, marked-alike, changed-alike, holds-alike, notices-alike}
+use Rattle.gateway.proofs.Moves.{Of, names, find-changed, wallets-changed, marked-alike, changed-alike, holds-alike, notices-alike}
 use Rattle.store.specs.Cells as C
 use Rattle.store.specs.Layout.{cell}
 use Rattle.store.specs.View.{Store, word, side, ledger, gateway}
@@ -24,9 +24,9 @@ use Rattle.sound.specs.Sound.{Becomes}
 use Rattle.live.specs.Live.{with-ledger}
 use Rattle.holds.specs.declared.Move.{Move}
 use Rattle.holds.specs.declared.Shift.{Shift}
-use Rattle.holds.specs.Holds.{change-of, moved, Part, part-of, paper-order, part, Weighs, shift-fits, pair-fits}
+use Rattle.holds.specs.Holds.{change-of, moved, Part, part-of, paper-order, part, NewHold, Weighs, shift-fits, pair-fits}
 use Rattle.holds.proofs.Totals as Totals
-use Rattle.holds.proofs.Totals.{part-fits, both-fit, paper-changed}
+use Rattle.holds.proofs.Totals.{part-fits, both-fit}
 use Rattle.holds.proofs.Weighing.{of, notices-two}
 use Rattle.holds.proofs.Applying.{notices-count}
 
@@ -85,21 +85,40 @@ notices-paper {n} {c} h l = ap (option [] (λ o. cond (is-some (wallet-of (l .wa
     go none = refl
     go (some o) = split (λ b. cond b (order-notices c o) [] ≡ option [] (order-notices c) (cond b (some o) none)) (is-some (wallet-of (l .wallets) o)) (λ _. refl) (λ _. refl)
 
-pub weighs-same : {n : ℕ} {x : Move} {s : Shift} {g : Gateway} → Weighs n x s g → (h : Gateway) → paper-order n (h .core .ledger) ≡ paper-order n (g .core .ledger) →
+paper-same : (n : ℕ) (l k : Ledger) → find n (k .orders) ≡ find n (l .orders) → ((a : ℕ) → is-some (getD (k .wallets) a none) ≡ is-some (getD (l .wallets) a none)) → paper-order n k ≡ paper-order n l
+paper-same n l k e f = ap (option none (λ o. cond (is-some (wallet-of (k .wallets) o)) (some o) none)) e ∙ go (find n (l .orders))
+  where
+    go : (w : Option Order) → option none (λ o. cond (is-some (wallet-of (k .wallets) o)) (some o) none) w ≡ option none (λ o. cond (is-some (wallet-of (l .wallets) o)) (some o) none) w
+    go none = refl
+    go (some o) = ap (λ b. cond b (some o) none) (f (o .account))
+
+hold-same : (n : ℕ) (x : Move) (w : ℕ) (l k : Ledger) → find n (k .orders) ≡ find n (l .orders) → NewHold n x w l → NewHold n x w k
+hold-same n x w l k e h o f = h o (sym e ∙ f)
+
+pub weighs-same : {n : ℕ} {x : Move} {s : Shift} {g : Gateway} → Weighs n x s g → (h : Gateway) → find n (h .core .ledger .orders) ≡ find n (g .core .ledger .orders) →
     ((a : ℕ) → is-some (getD (h .core .ledger .wallets) a none) ≡ is-some (getD (g .core .ledger .wallets) a none)) → Weighs n x s h
-weighs-same {n} {x} {s} {g} w h e f =
+weighs-same {n} {x} {s} {g} w h d f =
+    let l = g .core .ledger in
+    let k = h .core .ledger in
+    let e = paper-same n l k d f in
     record {
       owned = record { inside = w .owned .inside; has-wallet = λ q. f (s .account) ∙ w .owned .has-wallet q };
-      paper-is = paper-some n (h .core .ledger) ∙ ap is-some e ∙ sym (paper-some n (g .core .ledger)) ∙ w .paper-is;
-      noticed =
-          ap length (notices-paper (of n x) (h .core .ledger) ∙ ap (option [] (order-notices (change-of n x))) e ∙ sym (notices-paper (of n x) (g .core .ledger))) ∙ w .noticed;
+      paper-is = paper-some n k ∙ ap is-some e ∙ sym (paper-some n l) ∙ w .paper-is;
+      noticed = ap length (notices-paper (of n x) k ∙ ap (option [] (order-notices (change-of n x))) e ∙ sym (notices-paper (of n x) l)) ∙ w .noticed;
       is = w .is ∙ ap (Option·map (part-of (change-of n x))) (sym e);
+      holds = hold-same n x (s .new) l k d (w .holds);
     }
 
 -- where another order has changed, and where the mark has moved
+pub kept-hold : (n : ℕ) (x : Move) (w : ℕ) (l : Ledger) → NewHold n x w l → (i : ℕ) (y : Move) → (i ≡ n → ⊥) → NewHold n x w (change (change-of i y) l)
+kept-hold n x w l h i y ne = hold-same n x w l (change (change-of i y) l) (find-changed i n ne (of i y) l) h
+
+pub marked-hold : (n : ℕ) (x : Move) (w : ℕ) (l : Ledger) → NewHold n x w l → (a b : ℕ) (p : ℤ) → NewHold n x w (change (mark-by a b p) l)
+marked-hold n x w l h a b p = hold-same n x w l (change (mark-by a b p) l) (ap (find n) (marked-alike a b p l .orders-are)) h
+
 pub weighs-after : {j : ℕ} {y : Move} {t : Shift} {g : Gateway} → Weighs j y t g → (i : ℕ) (x : Move) → (i ≡ j → ⊥) → Weighs j y t (moved (change-of i x) g)
 weighs-after {j} {g = g} w i x ne =
-    weighs-same w (moved (change-of i x) g) (paper-changed (of i x) j ne (g .core .ledger)) (wallets-changed (change-of i x) (g .core .ledger))
+    weighs-same w (moved (change-of i x) g) (find-changed i j ne (of i x) (g .core .ledger)) (wallets-changed (change-of i x) (g .core .ledger))
 
 pub weighs-marked : {n : ℕ} {x : Move} {s : Shift} {g : Gateway} → Weighs n x s g → (a b : ℕ) (p : ℤ) → Weighs n x s (with-ledger (change (mark-by a b p)) g)
 unfolding change
@@ -125,11 +144,11 @@ notices-fit s ns k e =
     ap (λ m. leb m most-notices) (let q : k + word s C.notice-rows ≡ length (gateway s .rest .notices ++ ns) = omega (arith, notices-count s, length-append (gateway s .rest .notices) ns) in q)
 
 module _ (xs : List ℕ) {n : ℕ} {x : Move} {s : Shift} (w : Weighs n x s (gateway (cell xs))) where
-  -- what `apply` asks
+  -- what is asked to apply it
   pub apply-room : s .notices + word (cell xs) C.notice-rows ≤ most-notices → length (change-notices (change-of n x) (ledger (cell xs))) + word (cell xs) C.notice-rows ≤ most-notices
   apply-room h = omega (arith, w .noticed)
 
-  -- and what it leaves
+  -- and what that leaves
   pub rows-after : {ys : List ℕ} → Becomes ys (moved (change-of n x) (gateway (cell xs))) → word (cell ys) C.notice-rows ≡ word (cell xs) C.notice-rows + s .notices
   rows-after {ys} b =
       sym (notices-count (cell ys)) ∙ ap (λ (g : Gateway). length (g .rest .notices)) (b .gateway-is) ∙ length-append (gateway (cell xs) .rest .notices) (change-notices (change-of n x) (ledger (cell xs)))

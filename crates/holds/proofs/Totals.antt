@@ -76,15 +76,6 @@ move-is a z c l f (some o) h =
     (λ _ m. +ℤ-idr h) refl)
     refl
 
--- another change leaves it
-pub paper-changed : {i : ℕ} {c : Change} → Of i c → (j : ℕ) → (i ≡ j → ⊥) → (l : Ledger) → paper-order j (change c l) ≡ paper-order j l
-paper-changed {i} {c} of j ne l =
-    ap (option none (λ o. cond (is-some (wallet-of (change c l .wallets) o)) (some o) none)) (find-changed i j ne of l) ∙ go (find j (l .orders))
-  where
-    go : (w : Option Order) → option none (λ o. cond (is-some (wallet-of (change c l .wallets) o)) (some o) none) w ≡ option none (λ o. cond (is-some (wallet-of (l .wallets) o)) (some o) none) w
-    go none = refl
-    go (some o) = ap (λ b. cond b (some o) none) (wallets-changed c l (o .account))
-
 -- ---- the tests
 
 abbrev pub part-fits : Option Part → Ledger → Bool

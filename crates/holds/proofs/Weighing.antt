@@ -1,7 +1,7 @@
 -- What `weigh` finds: the part of the order that x would change, and its notices. Assumes nothing.
 use mathlib.Core.Path.{_≡_, refl, sym, ap, ap₂, subst, _∙_}
 use mathlib.Core.Bool.{Bool, true, false, cond, false≢true}
-use mathlib.Core.Option.{Option, none, some, Option·map}
+use mathlib.Core.Option.{Option, none, some, Option·map, Option·none-ne-some, Option·some-injective}
 use mathlib.Core.List.{List, [], _∷_, _++_}
 use Prim.Native.Nat.{ℕ, _+_, _≤_, _<_}
 use native.Mathlib.Omega.{arith}
@@ -18,7 +18,6 @@ use Rattle.gateway.specs.Ledger.{Order, Ledger, number-of, find, paper, wallet-
 use Rattle.gateway.specs.Deliver.{hold-after, order-notices, change-notices}
 use Rattle.gateway.specs.Deliver as Deliver
 use Rattle.gateway.specs.Entry.{is-zero}
-use Rattle.gateway.specs.Calls.{Gateway}
 use Rattle.gateway.proofs.Base.{split}
 use Rattle.gateway.proofs.Moves.{Of, fills, sets, reprices, retires, names}
 use Rattle.store.specs.Cells as C
@@ -65,29 +64,22 @@ settles-small (Leaves v) = omega arith
 settles-small (Reprice p v) = omega arith
 settles-small Retire = omega arith
 
-pub count-same : (x : Move) (old new n : ℕ) → n ≡ settles x → old ≡ new → n ≡ notice-count x old new
-count-same x old new n h e = h ∙ sym (ap (λ b. cond b (settles x) (settles x + 1)) (stays old new e))
+-- b: there is a wallet
+pub count-same : (b : Bool) (x : Move) (old new n : ℕ) → b ≡ true → n ≡ settles x → old ≡ new → n ≡ cond b (notice-count x old new) 0
+count-same b x old new n f h e = h ∙ sym (ap₂ (λ c d. cond c (cond d (settles x) (settles x + 1)) 0) f (stays old new e))
 
-pub count-other : (x : Move) (old new n : ℕ) → n ≡ settles x → old < modulus → new < modulus → (old ≡ new → ⊥) → n + 1 ≡ notice-count x old new
-count-other x old new n h f g e = ap (λ k. k + 1) h ∙ sym (ap (λ b. cond b (settles x) (settles x + 1)) (differs old new f g e))
+pub count-other : (b : Bool) (x : Move) (old new n : ℕ) → b ≡ true → n ≡ settles x → old < modulus → new < modulus → (old ≡ new → ⊥) → n + 1 ≡ cond b (notice-count x old new) 0
+count-other b x old new n f h l m e = ap (λ k. k + 1) h ∙ sym (ap₂ (λ c d. cond c (cond d (settles x) (settles x + 1)) 0) f (differs old new l m e))
+
+pub count-none : (b : Bool) (x : Move) (old new : ℕ) → b ≡ false → 0 ≡ cond b (notice-count x old new) 0
+count-none b x old new f = sym (ap (λ c. cond c (notice-count x old new) 0) f)
 
 -- ---- a row
 
-pub row-funded : (x : Move) (o : Live) (s : Store) (b : Bool) (h k : ℕ) → b ≡ is-some (wallet (s C.accounts (o .account))) → b ≡ true → h ≡ hold-after-word x o → k ≡ notice-count x (o .hold) h →
-    record { account = o .account; side = o .side; old = o .hold; new = h; notices = k; funded = true } ≡ row-shift x o s
-row-funded x o s b h k e f p q =
-    let known : is-some (wallet (s C.accounts (o .account))) ≡ true = sym e ∙ f in
-    (λ i. record { account = o .account; side = o .side; old = o .hold; new = p i; notices = (q ∙ ap (notice-count x (o .hold)) p) i; funded = true })
-    ∙ sym
-    (ap (λ (c : Bool).
-    cond c (record { account = o .account; side = o .side; old = o .hold; new = hold-after-word x o; notices = notice-count x (o .hold) (hold-after-word x o); funded = true }) nothing) known)
-
-pub row-unfunded : (x : Move) (o : Live) (s : Store) (b : Bool) (r : Shift) → b ≡ is-some (wallet (s C.accounts (o .account))) → b ≡ false → r ≡ nothing → r ≡ row-shift x o s
-row-unfunded x o s b r e f h =
-    h
-    ∙ sym
-    (ap (λ (c : Bool).
-    cond c (record { account = o .account; side = o .side; old = o .hold; new = hold-after-word x o; notices = notice-count x (o .hold) (hold-after-word x o); funded = true }) nothing) (sym e ∙ f))
+pub row-weighed : (x : Move) (o : Live) (s : Store) (b : Bool) (h k : ℕ) → h ≡ hold-after-word x o → b ≡ is-some (wallet (s C.accounts (o .account))) → k ≡ cond b (notice-count x (o .hold) h) 0 →
+    record { account = o .account; side = o .side; old = o .hold; new = h; notices = k; funded = b } ≡ row-shift x o s
+row-weighed x o s b h k p e q =
+    λ i. record { account = o .account; side = o .side; old = o .hold; new = p i; notices = (q ∙ ap₂ (λ c w. cond c (notice-count x (o .hold) w) 0) e p) i; funded = e i }
 
 -- ---- notices, by the order
 
@@ -121,24 +113,28 @@ new-is n (Leaves v) r = hold-is (r C.order-side) (r C.order-priced) (r C.order-p
 new-is n (Reprice p v) r = hold-is (r C.order-side) 1 p v
 new-is n Retire r = int-zero
 
--- none, or one whose account has no wallet
-nothing-weighs : (n : ℕ) (x : Move) (g : Gateway) → paper n (g .core .ledger) ≡ false → change-notices (change-of n x) (g .core .ledger) ≡ [] → paper-order n (g .core .ledger) ≡ none → Weighs n x nothing g
-nothing-weighs n x g p e f = record { owned = record { inside = omega arith; has-wallet = λ q. absurd (false≢true q) }; paper-is = p; noticed = ap length e; is = sym (ap (Option·map (part-of (change-of n x))) f) }
-
-module _ (xs : List ℕ) (st : State xs) (n : ℕ) (x : Move) (at : Found) (sees : Sees C.order-live order number-of (cell xs) n at) where
+module _ (xs : List ℕ) (st : State xs) (n : ℕ) (at : Found) (sees : Sees C.order-live order number-of (cell xs) n at) where
   abbrev s : Store
   s = cell xs
 
-  pub weighs-nothing : at ≡ Nothing → (r : Shift) → r ≡ nothing → Weighs n x r (gateway s)
+  pub none-there : at ≡ Nothing → find n (ledger s .orders) ≡ none
+  none-there absent = let u : Sees C.order-live order number-of s n Nothing = rw absent at sees in u .order
+
+  pub weighs-nothing : (x : Move) → at ≡ Nothing → (r : Shift) → r ≡ nothing → Weighs n x r (gateway s)
   unfolding paper
-  weighs-nothing absent r e =
-      let none-there : find n (ledger s .orders) ≡ none = (let u : Sees C.order-live order number-of s n Nothing = rw absent at sees in u .order) in
+  weighs-nothing x absent r e =
+      let gone = none-there absent in
       subst (λ t. Weighs n x t (gateway s)) (sym e)
-      (nothing-weighs n x (gateway s) (ap (option false (λ o. is-some (wallet-of (ledger s .wallets) o))) none-there) (notices-by n x (ledger s) none-there)
-      (ap (option none (λ o. cond (is-some (wallet-of (ledger s .wallets) o)) (some o) none)) none-there))
+      (record {
+        owned = record { inside = omega arith; has-wallet = λ q. absurd (false≢true q) };
+        paper-is = ap (option false (λ o. is-some (wallet-of (ledger s .wallets) o))) gone;
+        noticed = ap length (notices-by n x (ledger s) gone);
+        is = sym (ap (λ w. Option·map (part-of (change-of n x)) (option none (λ o. cond (is-some (wallet-of (ledger s .wallets) o)) (some o) none) w)) gone);
+        holds = λ o q. absurd (Option·none-ne-some o (sym gone ∙ q));
+      })
 
   module _ (i : ℕ) (found : at ≡ At i) where
-    there : Sees C.order-live order number-of s n (At i)
+    pub there : Sees C.order-live order number-of s n (At i)
     there = rw found at sees
 
     pub row-small : i < order-room
@@ -157,65 +153,35 @@ module _ (xs : List ℕ) (st : State xs) (n : ℕ) (x : Move) (at : Found) (sees
       pub live-at : L.At i o s
       live-at = record { inside = there .row .0; live = there .row .2; is = o-is }
 
-      pub weighs-row : (r : Shift) → r ≡ row-shift x o s → Weighs n x r (gateway s)
+      pub weighs-row : (x : Move) (r : Shift) → r ≡ row-shift x o s → Weighs n x r (gateway s)
       unfolding paper
-      weighs-row r e =
+      weighs-row x r e =
           subst (λ t. Weighs n x t (gateway s)) (sym (e ∙ ap (λ (w : Live). row-shift x w s) o-is))
-          (split
-          (λ b. (is-some (wallet (s C.accounts (was .account))) ≡ b) →
-          Weighs n x
-          (cond b
           (record {
-            account = was .account;
-            side = s C.orders i C.order-side;
-            old = s C.orders i C.order-hold;
-            new = hold-after-word x (live-row (s C.orders i));
-            notices = notice-count x (s C.orders i C.order-hold) (hold-after-word x (live-row (s C.orders i)));
-            funded = true;
+            owned = record { inside = small; has-wallet = λ q. wallet-is ∙ q };
+            paper-is = ap (option false (λ q. is-some (wallet-of (ledger s .wallets) q))) (there .order) ∙ wallet-is;
+            noticed =
+                ap length (notices-by n x (ledger s) (there .order) ∙ ap (λ c. cond c (order-notices (change-of n x) was) []) wallet-is)
+                ∙ split (λ c. length (cond c (order-notices (change-of n x) was) []) ≡ cond c (notice-count x (s C.orders i C.order-hold) (hold-after-word x (live-row (s C.orders i)))) 0) funded
+                (λ _. counted n x was ∙ ap₂ (λ new old. cond (is-zero (new -ℤ old)) (settles x) (settles x + 1)) (sym (new-is n x (s C.orders i))) (sym old-is)) (λ _. refl);
+            is =
+                split (λ c. cond c (some (record { account = was .account; side = was .side; old = int (s C.orders i C.order-hold); new = int (hold-after-word x (live-row (s C.orders i))) })) none ≡
+                Option·map (part-of (change-of n x)) (cond c (some was) none)) funded
+                (λ _ j. some (record { account = was .account; side = was .side; old = old-is j; new = new-is n x (s C.orders i) j })) (λ _. refl)
+                ∙ sym (ap (Option·map (part-of (change-of n x))) order-is);
+            holds = λ q e. new-is n x (s C.orders i) ∙ ap (hold-after (change-of n x)) (Option·some-injective was q (sym (there .order) ∙ e));
           })
-          nothing)
-          (gateway s))
-          (is-some (wallet (s C.accounts (was .account)))) (λ _ b. some-weighs b) (λ _ b. none-weighs b) refl)
         where
-          wallet-is : {b : Bool} → is-some (wallet (s C.accounts (was .account))) ≡ b → is-some (wallet-of (ledger s .wallets) was) ≡ b
-          wallet-is b = ap is-some (wallet-at-row (was .account) s small) ∙ b
+          funded : Bool
+          funded = is-some (wallet (s C.accounts (was .account)))
 
-          paper-is : {b : Bool} → is-some (wallet (s C.accounts (was .account))) ≡ b → paper n (ledger s) ≡ b
-          paper-is b = ap (option false (λ q. is-some (wallet-of (ledger s .wallets) q))) (there .order) ∙ wallet-is b
+          wallet-is : is-some (wallet-of (ledger s .wallets) was) ≡ funded
+          wallet-is = ap is-some (wallet-at-row (was .account) s small)
 
-          notices-is : {b : Bool} → is-some (wallet (s C.accounts (was .account))) ≡ b → change-notices (change-of n x) (ledger s) ≡ cond b (order-notices (change-of n x) was) []
-          notices-is b = notices-by n x (ledger s) (there .order) ∙ ap (λ c. cond c (order-notices (change-of n x) was) []) (wallet-is b)
-
-          order-is : {b : Bool} → is-some (wallet (s C.accounts (was .account))) ≡ b → paper-order n (ledger s) ≡ cond b (some was) none
-          order-is b = ap (option none (λ q. cond (is-some (wallet-of (ledger s .wallets) q)) (some q) none)) (there .order) ∙ ap (λ c. cond c (some was) none) (wallet-is b)
+          order-is : paper-order n (ledger s) ≡ cond funded (some was) none
+          order-is = ap (option none (λ q. cond (is-some (wallet-of (ledger s .wallets) q)) (some q) none)) (there .order) ∙ ap (λ c. cond c (some was) none) wallet-is
 
           old-is : int (s C.orders i C.order-hold) ≡ order-hold was
           old-is = st .sound .held .rows i (there .row .0) (there .row .2) .hold-is
 
-          none-weighs : is-some (wallet (s C.accounts (was .account))) ≡ false → Weighs n x nothing (gateway s)
-          none-weighs b = nothing-weighs n x (gateway s) (paper-is b) (notices-is b) (order-is b)
-
-          some-weighs : is-some (wallet (s C.accounts (was .account))) ≡ true →
-              Weighs n x
-              (record {
-                account = was .account;
-                side = s C.orders i C.order-side;
-                old = s C.orders i C.order-hold;
-                new = hold-after-word x (live-row (s C.orders i));
-                notices = notice-count x (s C.orders i C.order-hold) (hold-after-word x (live-row (s C.orders i)));
-                funded = true;
-              })
-              (gateway s)
-          some-weighs b =
-              record {
-                owned = record { inside = small; has-wallet = λ _. wallet-is b };
-                paper-is = paper-is b;
-                noticed =
-                    ap length (notices-is b) ∙ counted n x was
-                    ∙ ap₂ (λ new old. cond (is-zero (new -ℤ old)) (settles x) (settles x + 1)) (sym (new-is n x (s C.orders i))) (sym old-is);
-                is =
-                    (λ j. some (record { account = was .account; side = was .side; old = old-is j; new = new-is n x (s C.orders i) j }))
-                    ∙ sym (ap (Option·map (part-of (change-of n x))) (order-is b));
-              }
-
-pub ruleset weighing = (after-fill, after-leaves, after-reprice, after-retire, settles-as, count-same, count-other, row-funded, row-unfunded, weighs-nothing, row-small, owner-small, live-at, weighs-row, arith)
+pub ruleset weighing = (after-fill, after-leaves, after-reprice, after-retire, settles-as, count-same, count-other, count-none, row-weighed, weighs-nothing, row-small, owner-small, live-at, weighs-row, arith)

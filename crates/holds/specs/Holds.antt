@@ -3,7 +3,6 @@ use Prim.Native.Nat.{ℕ, _+_, _<_}
 use mathlib.Core.Path.{_≡_}
 use mathlib.Core.Bool.{Bool, true, false, cond, _&&_}
 use mathlib.Core.Option.{Option, none, some, Option·map}
-use mathlib.Core.List.{List, []}
 use lib.Dec.{eqb}
 use lib.IntN.{ℤ, _+ℤ_, _-ℤ_}
 use lib.ListN.{length, getD}
@@ -18,7 +17,7 @@ use Rattle.gateway.specs.Calls.{Gateway}
 use Rattle.store.specs.Cells as C
 use Rattle.store.specs.View.{Store, side, wallet}
 use Rattle.orders.specs.declared.Live.{Live}
-use Rattle.live.specs.Live.{with-ledger, with-notices, hold-word, wallet-notice}
+use Rattle.live.specs.Live.{with-ledger, with-notices, hold-word}
 use Rattle.holds.specs.declared.Move.{Move}
 use Rattle.holds.specs.declared.Move.the-variants.{Fill, Leaves, Reprice, Retire}
 use Rattle.holds.specs.declared.Shift.{Shift}
@@ -52,7 +51,7 @@ part-of x o = record { account = o .account; side = o .side; old = order-hold o;
 abbrev pub paper-order : ℕ → Ledger → Option Order
 paper-order n l = option none (λ o. cond (is-some (wallet-of (l .wallets) o)) (some o) none) (find n (l .orders))
 
--- what a shift says: nothing without a wallet
+-- what a shift says of a wallet: nothing without one
 abbrev pub part : Shift → Option Part
 part s = cond (s .funded) (some (record { account = s .account; side = side (s .side); old = int (s .old); new = int (s .new) })) none
 
@@ -61,12 +60,17 @@ pub record Owned (s : Shift) (l : Ledger) : Type 0 where
   pub inside : s .account < owner-slots
   pub has-wallet : s .funded ≡ true → is-some (getD (l .wallets) (s .account) none) ≡ true
 
+-- w is what the live order n holds after x
+abbrev pub NewHold : ℕ → Move → ℕ → Ledger → Type 0
+NewHold n x w l = (o : Order) → find n (l .orders) ≡ some o → int w ≡ hold-after (change-of n x) o
+
 -- s is what x would do to the order n
 pub record Weighs (n : ℕ) (x : Move) (s : Shift) (g : Gateway) : Type 0 where
   pub owned : Owned s (g .core .ledger)
   pub paper-is : paper n (g .core .ledger) ≡ s .funded
   pub noticed : length (change-notices (change-of n x) (g .core .ledger)) ≡ s .notices
   pub is : part s ≡ Option·map (part-of (change-of n x)) (paper-order n (g .core .ledger))
+  pub holds : NewHold n x (s .new) (g .core .ledger)
 
 -- ---- the tests
 
@@ -109,16 +113,11 @@ notice-count x old new = cond (is-zero (int new -ℤ int old)) (settles x) (sett
 
 abbrev pub row-shift : Move → Live → Store → Shift
 row-shift x o s =
-    cond (is-some (wallet (s C.accounts (o .account))))
-    (record {
+    record {
       account = o .account;
       side = o .side;
       old = o .hold;
       new = hold-after-word x o;
-      notices = notice-count x (o .hold) (hold-after-word x o);
-      funded = true;
-    })
-    nothing
-
-abbrev pub settled-notice : ℕ → Move → Store → List ℕ
-settled-notice a x s = cond (eqb (settles x) 0) [] (wallet-notice a s)
+      notices = cond (is-some (wallet (s C.accounts (o .account)))) (notice-count x (o .hold) (hold-after-word x o)) 0;
+      funded = is-some (wallet (s C.accounts (o .account)));
+    }

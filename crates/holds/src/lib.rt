@@ -4,6 +4,7 @@ use store::cells;
 use store::limits;
 use table::Found;
 ghost use mathlib.Core.Path.{_≡_};
+ghost use mathlib.Core.Bool.{cond};
 ghost use Prim.Native.Nat.{_+_, _≤_, _<_};
 ghost use lib.ListN.{length};
 ghost use lib.Dec.{leb};
@@ -15,8 +16,9 @@ ghost use Rattle.store.specs.Layout.{cell};
 ghost use Rattle.store.specs.View.{word, order, ledger, gateway};
 ghost use Rattle.orders.specs.Orders.{Sees, number-at};
 ghost use Rattle.sound.specs.Sound.{State, Becomes};
-ghost use Rattle.live.specs.Live.{At, with-ledger, with-notices};
+ghost use Rattle.live.specs.Live.{At, with-ledger};
 ghost use Rattle.outcome.specs.Between.{Between};
+ghost use Rattle.holds.specs.declared.Move.the-variants.{Fill, Leaves, Reprice, Retire};
 ghost use Rattle.holds.specs.Holds as P;
 
 // What happens to the order. Prices are words, in two's complement.
@@ -27,7 +29,7 @@ pub enum Move {
     Retire,
 }
 
-// Of a live order whose account has a wallet: what it holds before and after, and how many notices there are. Otherwise all 0.
+// Of a live order: what it holds before and after, and, where its account has a wallet, how many notices there are. Of no live order all is 0.
 pub struct Shift {
     pub account: u64,
     pub side: u64,
@@ -62,14 +64,17 @@ fn settles(x: Move) -> u64
 }
 
 // A wallet's notices: one where money moves, one where what is held changes.
-fn count_notices(x: Move, old: u64, new: u64) -> u64
-    ensures { λ r. ⌜ r ≡ P.notice-count x old new ⌝ }
+fn count_notices(funded: bool, x: Move, old: u64, new: u64) -> u64
+    ensures { λ r. ⌜ r ≡ cond funded (P.notice-count x old new) 0 ⌝ }
 {
-    let n = settles(x);
-    if old == new {
-        return n;
+    if funded {
+        let n = settles(x);
+        if old == new {
+            return n;
+        }
+        return n + 1;
     }
-    n + 1
+    0
 }
 
 fn nothing() -> Shift
@@ -89,19 +94,17 @@ fn weigh_row(m: &[u8], o: Live, x: Move) -> Shift
     requires { ⌜ State (now m) × (o .account < owner-slots) ⌝ }
     ensures { λ r. ⌜ r ≡ P.row-shift x o (cell (now (m .entry))) ⌝ }
 {
-    if clients::is_funded(m, o.account as usize) {
-        let new = hold_after(o, x);
-        let notices = count_notices(x, o.hold, new);
-        return Shift {
-            account: o.account,
-            side: o.side,
-            old: o.hold,
-            new,
-            notices,
-            funded: true,
-        };
+    let new = hold_after(o, x);
+    let funded = clients::is_funded(m, o.account as usize);
+    let notices = count_notices(funded, x, o.hold, new);
+    Shift {
+        account: o.account,
+        side: o.side,
+        old: o.hold,
+        new,
+        notices,
+        funded,
     }
-    nothing()
 }
 
 // What x would do to the order `id`, which is at `at`.
@@ -165,46 +168,68 @@ pub fn few(m: &[u8], notices: u64) -> bool
     notices + n <= limits::MOST_NOTICES
 }
 
-fn change_row(m: &mut [u8], i: usize, o: Live, x: Move)
-    requires { ⌜ State (now m) × At i o (cell (now m)) ⌝ }
-    ensures { λ r. ⌜ Becomes (now (m .exit)) (with-ledger (change (P.change-of (number-at i (cell (now (m .entry)))) x)) (gateway (cell (now (m .entry))))) ⌝ }
-{
-    match x {
-        Move::Fill { price, qty, leaves } => live::traded(m, i, o, price, qty, leaves),
-        Move::Leaves { leaves } => live::set_leaves(m, i, o, leaves),
-        Move::Reprice { price, leaves } => live::reprice(m, i, o, price, leaves),
-        Move::Retire => live::retire(m, i, o),
-    }
-}
+// ---- applied
 
-// The notice that money moved, where it did.
-fn notice_settled(m: &mut [u8], account: u64, x: Move)
-    requires { ⌜ State (now m) × (account < owner-slots) × (length (P.settled-notice account x (cell (now m))) + word (cell (now m)) C.notice-rows ≤ most-notices) ⌝ }
-    ensures { λ r. ⌜ Becomes (now (m .exit)) (with-notices (P.settled-notice account x (cell (now (m .entry)))) (gateway (cell (now (m .entry))))) ⌝ }
-{
-    if settles(x) != 0 {
-        live::notice(m, account);
-    }
-}
-
-fn apply_row(m: &mut [u8], i: usize, o: Live, x: Move)
-    requires { ⌜ State (now m) × At i o (cell (now m)) × (length (change-notices (P.change-of (number-at i (cell (now m))) x) (ledger (cell (now m)))) + word (cell (now m)) C.notice-rows ≤ most-notices) ⌝ }
-    ensures { λ r. ⌜ Becomes (now (m .exit)) (P.moved (P.change-of (number-at i (cell (now (m .entry)))) x) (gateway (cell (now (m .entry))))) ⌝ }
-{
-    let new = hold_after(o, x);
-    change_row(m, i, o, x);
-    notice_settled(m, o.account, x);
-    live::notice_hold(m, o.account, o.hold, new);
-}
-
-// x happens to the order `id`, which is at `at`: the change and its notices.
-pub fn apply(m: &mut [u8], id: u64, at: Found, x: Move)
-    requires { ⌜ State (now m) × Sees C.order-live order number-of (cell (now m)) id at × (length (change-notices (P.change-of id x) (ledger (cell (now m)))) + word (cell (now m)) C.notice-rows ≤ most-notices) ⌝ }
-    ensures { λ r. ⌜ Becomes (now (m .exit)) (P.moved (P.change-of id x) (gateway (cell (now (m .entry))))) ⌝ }
+// The order `id`, which is at `at`, traded `qty` at `price` and has `leaves` open: it holds `new` then. The change and its notices.
+pub fn fill(m: &mut [u8], id: u64, at: Found, new: u64, price: u64, qty: u64, leaves: u64)
+    requires { ⌜ State (now m) × Sees C.order-live order number-of (cell (now m)) id at × P.NewHold id (Fill price qty leaves) new (ledger (cell (now m))) × (length (change-notices (P.change-of id (Fill price qty leaves)) (ledger (cell (now m)))) + word (cell (now m)) C.notice-rows ≤ most-notices) ⌝ }
+    ensures { λ r. ⌜ Becomes (now (m .exit)) (P.moved (P.change-of id (Fill price qty leaves)) (gateway (cell (now (m .entry))))) ⌝ }
 {
     if let Found::At(i) = at {
         let o = orders::live_at(m, i);
-        apply_row(m, i, o, x);
+        live::traded(m, i, o, price, qty, leaves, new);
+        live::notice(m, o.account);
+        live::notice_hold(m, o.account, o.hold, new);
+    }
+}
+
+// It has `leaves` open.
+pub fn set_leaves(m: &mut [u8], id: u64, at: Found, new: u64, leaves: u64)
+    requires { ⌜ State (now m) × Sees C.order-live order number-of (cell (now m)) id at × P.NewHold id (Leaves leaves) new (ledger (cell (now m))) × (length (change-notices (P.change-of id (Leaves leaves)) (ledger (cell (now m)))) + word (cell (now m)) C.notice-rows ≤ most-notices) ⌝ }
+    ensures { λ r. ⌜ Becomes (now (m .exit)) (P.moved (P.change-of id (Leaves leaves)) (gateway (cell (now (m .entry))))) ⌝ }
+{
+    if let Found::At(i) = at {
+        let o = orders::live_at(m, i);
+        live::set_leaves(m, i, o, leaves, new);
+        live::notice_hold(m, o.account, o.hold, new);
+    }
+}
+
+// A modify gave it this price, and `leaves` open.
+pub fn reprice(m: &mut [u8], id: u64, at: Found, new: u64, price: u64, leaves: u64)
+    requires { ⌜ State (now m) × Sees C.order-live order number-of (cell (now m)) id at × P.NewHold id (Reprice price leaves) new (ledger (cell (now m))) × (length (change-notices (P.change-of id (Reprice price leaves)) (ledger (cell (now m)))) + word (cell (now m)) C.notice-rows ≤ most-notices) ⌝ }
+    ensures { λ r. ⌜ Becomes (now (m .exit)) (P.moved (P.change-of id (Reprice price leaves)) (gateway (cell (now (m .entry))))) ⌝ }
+{
+    if let Found::At(i) = at {
+        let o = orders::live_at(m, i);
+        live::reprice(m, i, o, price, leaves, new);
+        live::notice_hold(m, o.account, o.hold, new);
+    }
+}
+
+// It has left the book.
+pub fn retire(m: &mut [u8], id: u64, at: Found)
+    requires { ⌜ State (now m) × Sees C.order-live order number-of (cell (now m)) id at × (length (change-notices (P.change-of id Retire) (ledger (cell (now m)))) + word (cell (now m)) C.notice-rows ≤ most-notices) ⌝ }
+    ensures { λ r. ⌜ Becomes (now (m .exit)) (P.moved (P.change-of id Retire) (gateway (cell (now (m .entry))))) ⌝ }
+{
+    if let Found::At(i) = at {
+        let o = orders::live_at(m, i);
+        live::retire(m, i, o);
+        live::notice_hold(m, o.account, o.hold, 0);
+    }
+}
+
+// ---- replayed
+
+fn change_row(m: &mut [u8], i: usize, o: Live, x: Move, new: u64)
+    requires { ⌜ State (now m) × At i o (cell (now m)) × (new ≡ P.hold-after-word x o) ⌝ }
+    ensures { λ r. ⌜ Becomes (now (m .exit)) (with-ledger (change (P.change-of (number-at i (cell (now (m .entry)))) x)) (gateway (cell (now (m .entry))))) ⌝ }
+{
+    match x {
+        Move::Fill { price, qty, leaves } => live::traded(m, i, o, price, qty, leaves, new),
+        Move::Leaves { leaves } => live::set_leaves(m, i, o, leaves, new),
+        Move::Reprice { price, leaves } => live::reprice(m, i, o, price, leaves, new),
+        Move::Retire => live::retire(m, i, o),
     }
 }
 
@@ -215,6 +240,7 @@ pub fn change(m: &mut [u8], id: u64, at: Found, x: Move)
 {
     if let Found::At(i) = at {
         let o = orders::live_at(m, i);
-        change_row(m, i, o, x);
+        let new = hold_after(o, x);
+        change_row(m, i, o, x, new);
     }
 }

@@ -10,6 +10,9 @@ enum-known-at c = search needs
 live-at-requires : tie.Need-live-at-requires
 live-at-requires c κs = search weighing
 
+hold-after-requires : tie.Need-hold-after-requires
+hold-after-requires c κs = search needs
+
 change-row-requires : tie.Need-change-row-requires
 change-row-requires c κs = search (applying, weighing)
 
@@ -31,6 +34,7 @@ change-spec =
     (tie.spec
     enum-known-at
     live-at-requires
+    hold-after-requires
     change-row-requires
     enum-told
     same-length

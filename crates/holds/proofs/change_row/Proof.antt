@@ -1,4 +1,4 @@
-use Rattle.holds.proofs.Applying.{applying}
+use Rattle.holds.proofs.Applying.{after-as, applying}
 use borrow.Author.Needs.{needs}
 use Rattle.holds.proofs.change_row.Statement.{statement}
 use Rattle.holds.proofs.change_row.Tie as tie
@@ -7,19 +7,28 @@ enum-known-x : tie.Need-enum-known-x
 enum-known-x c = search needs
 
 traded-requires : tie.Need-traded-requires
-traded-requires c κs = search needs
+traded-requires c κs =
+    let a = c .before .before in
+    let s = a .before .before .before in
+    (s .pre .0, s .pre .1, after-as _ _ (a .x .given .1) (s .pre .2))
 
 enum-known-x-2 : tie.Need-enum-known-x-2
 enum-known-x-2 c = search needs
 
 set-leaves-requires : tie.Need-set-leaves-requires
-set-leaves-requires c κs = search needs
+set-leaves-requires c κs =
+    let a = c .before .before in
+    let s = a .before .before .before in
+    (s .pre .0, s .pre .1, after-as _ _ (a .x2 .given .1) (s .pre .2))
 
 enum-known-x-3 : tie.Need-enum-known-x-3
 enum-known-x-3 c = search needs
 
 reprice-requires : tie.Need-reprice-requires
-reprice-requires c κs = search needs
+reprice-requires c κs =
+    let a = c .before .before in
+    let s = a .before .before .before in
+    (s .pre .0, s .pre .1, after-as _ _ (a .x3 .given .1) (s .pre .2))
 
 enum-told : tie.Need-enum-told
 enum-told c = search needs

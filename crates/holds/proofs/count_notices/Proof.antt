@@ -12,10 +12,13 @@ returns : tie.Need-returns
 returns c = search weighing
 
 add-result : tie.Need-add-result
-add-result c = record { fits = omega (arith, c .before .settles .ensures, settles-small (c .before .before .args .x)) }
+add-result c = record { fits = omega (arith, c .before .settles .ensures, settles-small (c .before .before .before .args .x)) }
 
 returns-2 : tie.Need-returns-2
 returns-2 c = search weighing
 
+returns-3 : tie.Need-returns-3
+returns-3 c = search weighing
+
 pub count-notices-spec : {M : Type 1} → statement M
-count-notices-spec = tie.close (tie.spec settles-requires returns add-result returns-2)
+count-notices-spec = tie.close (tie.spec settles-requires returns add-result returns-2 returns-3)

@@ -3,11 +3,11 @@ use borrow.Author.Needs.{needs}
 use Rattle.holds.proofs.weigh_row.Statement.{statement}
 use Rattle.holds.proofs.weigh_row.Tie as tie
 
-is-funded-requires : tie.Need-is-funded-requires
-is-funded-requires c κs = search needs
-
 hold-after-requires : tie.Need-hold-after-requires
 hold-after-requires c κs = search needs
+
+is-funded-requires : tie.Need-is-funded-requires
+is-funded-requires c κs = search needs
 
 count-notices-requires : tie.Need-count-notices-requires
 count-notices-requires c κs = search needs
@@ -15,19 +15,7 @@ count-notices-requires c κs = search needs
 returns : tie.Need-returns
 returns c = search weighing
 
-nothing-requires : tie.Need-nothing-requires
-nothing-requires c κs = search needs
-
-returns-2 : tie.Need-returns-2
-returns-2 c = search weighing
-
 pub weigh-row-spec : {M : Type 1} → statement M
 weigh-row-spec =
     tie.close
-    (tie.spec
-    is-funded-requires
-    hold-after-requires
-    count-notices-requires
-    returns
-    nothing-requires
-    returns-2)
+    (tie.spec hold-after-requires is-funded-requires count-notices-requires returns)
