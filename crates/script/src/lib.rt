@@ -28,14 +28,14 @@ ghost use Rattle.script.specs.Script.{word-at, small-at, code-at, price-
 
 const TWO_32: u64 = 4_294_967_296;
 
-fn word(row: &[u8], i: usize) -> u64
+pub fn word(row: &[u8], i: usize) -> u64
     requires { ⌜ 8 * i + 8 ≤ length (now row) ⌝ }
     ensures { λ r. ⌜ r ≡ word-at (now (row .entry)) i ⌝ }
 {
     le::get_u64(row, 8 * i)
 }
 
-fn small(row: &[u8], i: usize) -> u32
+pub fn small(row: &[u8], i: usize) -> u32
     requires { ⌜ 8 * i + 8 ≤ length (now row) ⌝ }
     ensures { λ r. ⌜ r ≡ small-at (now (row .entry)) i ⌝ }
 {
@@ -49,21 +49,21 @@ fn code(row: &[u8], i: usize) -> u8
     (word(row, i) % 256) as u8
 }
 
-fn side(row: &[u8], i: usize) -> Side
+pub fn side(row: &[u8], i: usize) -> Side
     requires { ⌜ 8 * i + 8 ≤ length (now row) ⌝ }
     ensures { λ r. ⌜ r ≡ side (word-at (now (row .entry)) i) ⌝ }
 {
     store::side_of(word(row, i))
 }
 
-fn price(row: &[u8], i: usize) -> i64
+pub fn price(row: &[u8], i: usize) -> i64
     requires { ⌜ 8 * i + 8 ≤ length (now row) ⌝ }
     ensures { λ r. ⌜ r ≡ price-at (now (row .entry)) i ⌝ }
 {
     words::to_i64(word(row, i))
 }
 
-fn maybe_price(row: &[u8], i: usize) -> MaybePrice
+pub fn maybe_price(row: &[u8], i: usize) -> MaybePrice
     requires { ⌜ 8 * i + 16 ≤ length (now row) ⌝ }
     ensures { λ r. ⌜ r ≡ maybe-price (word-at (now (row .entry)) i) (word-at (now (row .entry)) (i + 1)) ⌝ }
 {
@@ -186,7 +186,7 @@ pub fn message(row: &[u8]) -> Inbound
 
 // ---- events
 
-fn reject_reason(row: &[u8]) -> RejectReason
+pub fn reject_reason(row: &[u8]) -> RejectReason
     requires { ⌜ length (now row) ≡ 128 ⌝ }
     ensures { λ r. ⌜ r ≡ P.reject-at (now (row .entry)) ⌝ }
 {
@@ -196,7 +196,7 @@ fn reject_reason(row: &[u8]) -> RejectReason
     }
 }
 
-fn cancel_reason(row: &[u8]) -> CancelReason
+pub fn cancel_reason(row: &[u8]) -> CancelReason
     requires { ⌜ length (now row) ≡ 128 ⌝ }
     ensures { λ r. ⌜ r ≡ P.cancel-at (now (row .entry)) ⌝ }
 {
@@ -206,7 +206,7 @@ fn cancel_reason(row: &[u8]) -> CancelReason
     }
 }
 
-fn phase(row: &[u8], i: usize) -> Phase
+pub fn phase(row: &[u8], i: usize) -> Phase
     requires { ⌜ 8 * i + 8 ≤ length (now row) ⌝ }
     ensures { λ r. ⌜ r ≡ P.phase-at (now (row .entry)) i ⌝ }
 {
