@@ -1,6 +1,5 @@
 // Events that name no order, and the call: `deliver` of exchange.rs.
 use delivery::Tests;
-use orderbook::Event;
 use orderbook::Phase;
 use outcome::Reply;
 use protocol::Outbound;
@@ -22,6 +21,8 @@ ghost use Rattle.outcome.specs.Between.{Between};
 ghost use Rattle.outcome.specs.Answers.{verdict, Gives};
 ghost use Rattle.outcome.specs.Parts.{Sends, Stepped};
 ghost use Rattle.delivery.specs.Delivery as Delivery;
+ghost use Rattle.script.specs.Script as Script;
+ghost use Rattle.script.specs.Script.{event-of};
 ghost use Rattle.deliver.specs.Delivering as P;
 
 fn judge(m: &[u8], n: u64, below: bool, rows: usize, room: usize) -> u64
@@ -146,66 +147,104 @@ fn phase_changed(m: &mut [u8], n: u64, phase: Phase, out: &mut [u8]) -> Reply
     Reply { code: 0, count: k }
 }
 
-// ---- the call
+// ---- the call: an event's row is read by its kind, and no `Event` is made of it
 
-pub fn deliver(m: &mut [u8], n: u64, e: Event, out: &mut [u8]) -> Reply
-    requires { ⌜ Between (now m) ⌝ }
-    ensures { λ r. ⌜ Gives (call (gateway (cell (now (m .entry)))) (deliver-event n e (places (length (now (out .entry)))))) r (now (m .entry)) (now (m .exit)) (now (out .entry)) (now (out .exit)) ⌝ }
+fn trade(m: &mut [u8], n: u64, row: &[u8], out: &mut [u8]) -> Reply
+    requires { ⌜ Between (now m) × (length (now row) ≡ 128) ⌝ }
+    ensures { λ r. ⌜ Gives (call (gateway (cell (now (m .entry)))) (deliver-event n (Script.traded (now (row .entry))) (places (length (now (out .entry)))))) r (now (m .entry)) (now (m .exit)) (now (out .entry)) (now (out .exit)) ⌝ }
 {
-    match e {
-        Event::Accepted { id } => events::accepted(m, n, id, out),
-        Event::Rejected { id, reason } => events::rejected(m, n, id, reason, out),
-        Event::Trade {
-            trade_id,
-            taker,
-            maker,
-            taker_side,
-            price,
-            qty,
-            taker_leaves,
-            maker_leaves,
-        } => trades::trade(
-            m,
-            n,
-            trade_id,
-            taker,
-            maker,
-            taker_side,
-            price,
-            qty,
-            taker_leaves,
-            maker_leaves,
-            out,
-        ),
-        Event::Rested {
-            id,
-            side,
-            price,
-            qty,
-            visible,
-        } => events::rested(m, n, id, side, price, qty, visible, out),
-        Event::Replenished {
-            id,
-            side,
-            price,
-            visible,
-        } => events::replenished(m, n, id, side, price, visible, out),
-        Event::Cancelled { id, qty, reason } => events::cancelled(m, n, id, qty, reason, out),
-        Event::Modified {
-            id,
-            price,
-            qty,
-            leaves,
-        } => events::modified(m, n, id, price, qty, leaves, out),
-        Event::StopPlaced {
-            id,
-            side,
-            trigger,
-            limit,
-            qty,
-        } => events::stop_placed(m, n, id, side, trigger, limit, qty, out),
-        Event::Triggered { id } => events::triggered(m, n, id, out),
-        Event::MassCancelled { owner, count } => mass_cancelled(m, n, owner, count, out),
-        Event::PhaseChanged { phase } => phase_changed(m, n, phase, out),
+    let side = script::side(row, 4);
+    let price = script::price(row, 5);
+    trades::trade(
+        m,
+        n,
+        script::word(row, 1),
+        script::word(row, 2),
+        script::word(row, 3),
+        side,
+        price,
+        script::word(row, 6),
+        script::word(row, 7),
+        script::word(row, 8),
+        out,
+    )
+}
+
+fn rested(m: &mut [u8], n: u64, row: &[u8], out: &mut [u8]) -> Reply
+    requires { ⌜ Between (now m) × (length (now row) ≡ 128) ⌝ }
+    ensures { λ r. ⌜ Gives (call (gateway (cell (now (m .entry)))) (deliver-event n (Script.rested (now (row .entry))) (places (length (now (out .entry)))))) r (now (m .entry)) (now (m .exit)) (now (out .entry)) (now (out .exit)) ⌝ }
+{
+    let id = script::word(row, 1);
+    let side = script::side(row, 2);
+    let price = script::price(row, 3);
+    events::rested(
+        m,
+        n,
+        id,
+        side,
+        price,
+        script::word(row, 4),
+        script::word(row, 5),
+        out,
+    )
+}
+
+fn replenished(m: &mut [u8], n: u64, row: &[u8], out: &mut [u8]) -> Reply
+    requires { ⌜ Between (now m) × (length (now row) ≡ 128) ⌝ }
+    ensures { λ r. ⌜ Gives (call (gateway (cell (now (m .entry)))) (deliver-event n (Script.replenished (now (row .entry))) (places (length (now (out .entry)))))) r (now (m .entry)) (now (m .exit)) (now (out .entry)) (now (out .exit)) ⌝ }
+{
+    let id = script::word(row, 1);
+    let side = script::side(row, 2);
+    let price = script::price(row, 3);
+    events::replenished(m, n, id, side, price, script::word(row, 4), out)
+}
+
+fn cancelled(m: &mut [u8], n: u64, row: &[u8], out: &mut [u8]) -> Reply
+    requires { ⌜ Between (now m) × (length (now row) ≡ 128) ⌝ }
+    ensures { λ r. ⌜ Gives (call (gateway (cell (now (m .entry)))) (deliver-event n (Script.cancelled (now (row .entry))) (places (length (now (out .entry)))))) r (now (m .entry)) (now (m .exit)) (now (out .entry)) (now (out .exit)) ⌝ }
+{
+    let id = script::word(row, 1);
+    let qty = script::word(row, 2);
+    let reason = script::cancel_reason(row);
+    events::cancelled(m, n, id, qty, reason, out)
+}
+
+fn modified(m: &mut [u8], n: u64, row: &[u8], out: &mut [u8]) -> Reply
+    requires { ⌜ Between (now m) × (length (now row) ≡ 128) ⌝ }
+    ensures { λ r. ⌜ Gives (call (gateway (cell (now (m .entry)))) (deliver-event n (Script.modified (now (row .entry))) (places (length (now (out .entry)))))) r (now (m .entry)) (now (m .exit)) (now (out .entry)) (now (out .exit)) ⌝ }
+{
+    let id = script::word(row, 1);
+    let price = script::price(row, 2);
+    let qty = script::word(row, 3);
+    events::modified(m, n, id, price, qty, script::word(row, 4), out)
+}
+
+fn stop_placed(m: &mut [u8], n: u64, row: &[u8], out: &mut [u8]) -> Reply
+    requires { ⌜ Between (now m) × (length (now row) ≡ 128) ⌝ }
+    ensures { λ r. ⌜ Gives (call (gateway (cell (now (m .entry)))) (deliver-event n (Script.stop-placed (now (row .entry))) (places (length (now (out .entry)))))) r (now (m .entry)) (now (m .exit)) (now (out .entry)) (now (out .exit)) ⌝ }
+{
+    let id = script::word(row, 1);
+    let side = script::side(row, 2);
+    let trigger = script::price(row, 3);
+    let limit = script::maybe_price(row, 4);
+    events::stop_placed(m, n, id, side, trigger, limit, script::word(row, 6), out)
+}
+
+pub fn deliver(m: &mut [u8], n: u64, row: &[u8], out: &mut [u8]) -> Reply
+    requires { ⌜ Between (now m) × (length (now row) ≡ 128) ⌝ }
+    ensures { λ r. ⌜ Gives (call (gateway (cell (now (m .entry)))) (deliver-event n (event-of (now (row .entry))) (places (length (now (out .entry)))))) r (now (m .entry)) (now (m .exit)) (now (out .entry)) (now (out .exit)) ⌝ }
+{
+    match script::word(row, 0) {
+        0 => events::accepted(m, n, script::word(row, 1), out),
+        1 => events::rejected(m, n, script::word(row, 1), script::reject_reason(row), out),
+        2 => trade(m, n, row, out),
+        3 => rested(m, n, row, out),
+        4 => replenished(m, n, row, out),
+        5 => cancelled(m, n, row, out),
+        6 => modified(m, n, row, out),
+        7 => stop_placed(m, n, row, out),
+        8 => events::triggered(m, n, script::word(row, 1), out),
+        9 => mass_cancelled(m, n, script::small(row, 1), script::small(row, 2), out),
+        _ => phase_changed(m, n, script::phase(row, 1), out),
     }
 }

@@ -1,70 +1,62 @@
-use Rattle.deliver.proofs.Events.{events, as-trade, as-rested, as-replenished, as-modified, as-stop}
+use Rattle.script.proofs.Laws.{is-phase}
+use Rattle.deliver.proofs.Events.{events, as-event}
 use borrow.Author.Needs.{needs}
 use Rattle.deliver.proofs.deliver.Statement.{statement}
 use Rattle.deliver.proofs.deliver.Tie as tie
 
-enum-known-e : tie.Need-enum-known-e
-enum-known-e c = search needs
+word-requires : tie.Need-word-requires
+word-requires c κs = search needs
+
+word-requires-2 : tie.Need-word-requires-2
+word-requires-2 c κs = search needs
 
 accepted-requires : tie.Need-accepted-requires
 accepted-requires c κs = search needs
 
-enum-known-e-2 : tie.Need-enum-known-e-2
-enum-known-e-2 c = search needs
+word-requires-3 : tie.Need-word-requires-3
+word-requires-3 c κs = search needs
+
+reject-reason-requires : tie.Need-reject-reason-requires
+reject-reason-requires c κs = search needs
 
 rejected-requires : tie.Need-rejected-requires
 rejected-requires c κs = search needs
 
-enum-known-e-3 : tie.Need-enum-known-e-3
-enum-known-e-3 c = search needs
-
 trade-requires : tie.Need-trade-requires
 trade-requires c κs = search needs
-
-enum-known-e-4 : tie.Need-enum-known-e-4
-enum-known-e-4 c = search needs
 
 rested-requires : tie.Need-rested-requires
 rested-requires c κs = search needs
 
-enum-known-e-5 : tie.Need-enum-known-e-5
-enum-known-e-5 c = search needs
-
 replenished-requires : tie.Need-replenished-requires
 replenished-requires c κs = search needs
-
-enum-known-e-6 : tie.Need-enum-known-e-6
-enum-known-e-6 c = search needs
 
 cancelled-requires : tie.Need-cancelled-requires
 cancelled-requires c κs = search needs
 
-enum-known-e-7 : tie.Need-enum-known-e-7
-enum-known-e-7 c = search needs
-
 modified-requires : tie.Need-modified-requires
 modified-requires c κs = search needs
-
-enum-known-e-8 : tie.Need-enum-known-e-8
-enum-known-e-8 c = search needs
 
 stop-placed-requires : tie.Need-stop-placed-requires
 stop-placed-requires c κs = search needs
 
-enum-known-e-9 : tie.Need-enum-known-e-9
-enum-known-e-9 c = search needs
+word-requires-4 : tie.Need-word-requires-4
+word-requires-4 c κs = search needs
 
 triggered-requires : tie.Need-triggered-requires
 triggered-requires c κs = search needs
 
-enum-known-e-10 : tie.Need-enum-known-e-10
-enum-known-e-10 c = search needs
+small-requires : tie.Need-small-requires
+small-requires c κs = search needs
+
+small-requires-2 : tie.Need-small-requires-2
+small-requires-2 c κs = search needs
 
 mass-cancelled-requires : tie.Need-mass-cancelled-requires
 mass-cancelled-requires c κs = search needs
 
-enum-known-e-11 : tie.Need-enum-known-e-11
-enum-known-e-11 c = search needs
+phase-requires : tie.Need-phase-requires
+phase-requires c κs = search needs
 
 phase-changed-requires : tie.Need-phase-changed-requires
 phase-changed-requires c κs = search needs
@@ -94,9 +86,7 @@ same-length-6 : tie.Need-same-length-6
 same-length-6 c = search needs
 
 returns-3 : tie.Need-returns-3
-returns-3 c =
-    let k = c .before .before .before .before .before .before .before in
-    as-trade _ _ _ _ _ _ _ _ _ _ _ _ _ (k .before .e3 .given .1) (k .known-told3 .given .1 .1 .1 .1 .0 .1) (c .before .before .before .before .trade .ensures)
+returns-3 c = search events
 
 same-length-7 : tie.Need-same-length-7
 same-length-7 c = search needs
@@ -105,9 +95,7 @@ same-length-8 : tie.Need-same-length-8
 same-length-8 c = search needs
 
 returns-4 : tie.Need-returns-4
-returns-4 c =
-    let k = c .before .before .before .before .before .before .before in
-    as-rested _ _ _ _ _ _ _ _ _ _ (k .before .e4 .given .1) (k .known-told4 .given .1 .1 .0 .1) (c .before .before .before .before .rested .ensures)
+returns-4 c = search events
 
 same-length-9 : tie.Need-same-length-9
 same-length-9 c = search needs
@@ -116,9 +104,7 @@ same-length-10 : tie.Need-same-length-10
 same-length-10 c = search needs
 
 returns-5 : tie.Need-returns-5
-returns-5 c =
-    let k = c .before .before .before .before .before .before .before in
-    as-replenished _ _ _ _ _ _ _ _ _ (k .before .e5 .given .1) (k .known-told5 .given .1 .1 .0 .1) (c .before .before .before .before .replenished .ensures)
+returns-5 c = search events
 
 same-length-11 : tie.Need-same-length-11
 same-length-11 c = search needs
@@ -136,9 +122,7 @@ same-length-14 : tie.Need-same-length-14
 same-length-14 c = search needs
 
 returns-7 : tie.Need-returns-7
-returns-7 c =
-    let k = c .before .before .before .before .before .before .before in
-    as-modified _ _ _ _ _ _ _ _ _ (k .before .e7 .given .1) (k .known-told7 .given .1 .0 .1) (c .before .before .before .before .modified .ensures)
+returns-7 c = search events
 
 same-length-15 : tie.Need-same-length-15
 same-length-15 c = search needs
@@ -147,9 +131,7 @@ same-length-16 : tie.Need-same-length-16
 same-length-16 c = search needs
 
 returns-8 : tie.Need-returns-8
-returns-8 c =
-    let k = c .before .before .before .before .before .before .before in
-    as-stop _ _ _ _ _ _ _ _ _ _ (k .before .e8 .given .1) (k .known-told8 .given .1 .1 .0 .1) (c .before .before .before .before .stop-placed .ensures)
+returns-8 c = search events
 
 same-length-17 : tie.Need-same-length-17
 same-length-17 c = search needs
@@ -176,33 +158,33 @@ same-length-22 : tie.Need-same-length-22
 same-length-22 c = search needs
 
 returns-11 : tie.Need-returns-11
-returns-11 c = search events
+returns-11 c =
+    let a = c .before .before .before .before in
+    let r = a .before .before .before .before .match .rest in
+    as-event _ _ _ _ _ _ _ _ (a .phase-changed .ensures) (is-phase _ _ (a .before .before .before .before .before .word .ensures) _ (r .0 .0 .0 .0 .0 .0 .0 .0 .0 .1) (r .0 .0 .0 .0 .0 .0 .0 .0 .1) (r .0 .0 .0 .0 .0 .0 .0 .1) (r .0 .0 .0 .0 .0 .0 .1) (r .0 .0 .0 .0 .0 .1) (r .0 .0 .0 .0 .1) (r .0 .0 .0 .1) (r .0 .0 .1) (r .0 .1) (r .1) (a .before .before .phase .ensures))
 
 pub deliver-spec : {M : Type 1} → statement M
 deliver-spec =
     tie.close
     (tie.spec
-    enum-known-e
+    word-requires
+    word-requires-2
     accepted-requires
-    enum-known-e-2
+    word-requires-3
+    reject-reason-requires
     rejected-requires
-    enum-known-e-3
     trade-requires
-    enum-known-e-4
     rested-requires
-    enum-known-e-5
     replenished-requires
-    enum-known-e-6
     cancelled-requires
-    enum-known-e-7
     modified-requires
-    enum-known-e-8
     stop-placed-requires
-    enum-known-e-9
+    word-requires-4
     triggered-requires
-    enum-known-e-10
+    small-requires
+    small-requires-2
     mass-cancelled-requires
-    enum-known-e-11
+    phase-requires
     phase-changed-requires
     same-length
     same-length-2
