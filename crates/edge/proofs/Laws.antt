@@ -117,9 +117,6 @@ module _ (xs ys : List ℕ) (b d ok : Bool) (kept : Type 0) (tells : Answer → 
   pub received : (s time room : ℕ) (row : List ℕ) (v : Inbound) → v ≡ message-of row → Answers (call (gateway (cell xs)) (C.receive-from s v time room)) kept tells code xs ys → Enters (asked ok xs (C.receive-from s (message-of row) time room)) kept tells code xs ys
   received s time room row v q h = entered-as _ _ (ap (λ (z : Inbound). C.receive-from s z time room) q) h
 
-  pub delivered : (n room : ℕ) (row : List ℕ) (v : Event) → v ≡ event-of row → Answers (call (gateway (cell xs)) (C.deliver-event n v room)) kept tells code xs ys → Enters (asked ok xs (C.deliver-event n (event-of row) room)) kept tells code xs ys
-  delivered n room row v q h = entered-as _ _ (ap (λ (z : Event). C.deliver-event n z room) q) h
-
   pub redelivered : (n : ℕ) (row : List ℕ) (v : Event) → v ≡ event-of row → Answers (call (gateway (cell xs)) (C.replay-event n v)) kept tells code xs ys → Enters (asked ok xs (C.replay-event n (event-of row))) kept tells code xs ys
   redelivered n row v q h = entered-as _ _ (ap (C.replay-event n) q) h
 
@@ -190,4 +187,4 @@ module _ (xs ys : List ℕ) (b : Bool) (e : b ≡ whole true xs) where
       (subst (λ (o : Option ℕ). Enters (asked true xs (C.detach s)) (Unit {0}) (Said (account-was o)) 0 xs ys) (i .same)
       (entered xs b true true (Unit {0}) (Said (account-was (maybe-id v))) (C.detach s) refl e 0 ys t h))
 
-pub ruleset laws = (needs, both, both-no, is-whole-yes, is-whole-no, lent-between, message-sized, event-sized, command-sized, account-sized, entered, malformed-no, received, delivered, redelivered, replayed, joined, ended, levelled, collared, reason-yes, reason-no, listing-yes, listing-no, some-balance, no-balance, some-id, no-id, no-percent, a-percent, wallet-told, wallet-malformed, account-told)
+pub ruleset laws = (needs, both, both-no, is-whole-yes, is-whole-no, lent-between, message-sized, event-sized, command-sized, account-sized, entered, malformed-no, received, redelivered, replayed, joined, ended, levelled, collared, reason-yes, reason-no, listing-yes, listing-no, some-balance, no-balance, some-id, no-id, no-percent, a-percent, wallet-told, wallet-malformed, account-told)

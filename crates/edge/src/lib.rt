@@ -456,8 +456,7 @@ pub extern "C" fn rowanchess_deliver(m: &mut [u8], n: u64, row: &[u8], out: &mut
     ensures { λ r. ⌜ Gives (asked (is-event (now (row .entry))) (now (m .entry)) (C.deliver-event n (event-of (now (row .entry))) (places (length (now (out .entry)))))) r (now (m .entry)) (now (m .exit)) (now (out .entry)) (now (out .exit)) ⌝ }
 {
     if is_whole(m, strict::is_event(row)) {
-        let e = script::event(row);
-        let r = deliver::deliver(m, n, e, out);
+        let r = deliver::deliver(m, n, row, out);
         return Reply {
             code: r.code,
             count: r.count,

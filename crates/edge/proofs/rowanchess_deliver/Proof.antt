@@ -9,9 +9,6 @@ is-event-requires c κs = search needs
 is-whole-requires : tie.Need-is-whole-requires
 is-whole-requires c κs = search needs
 
-event-requires : tie.Need-event-requires
-event-requires c κs = search laws
-
 deliver-requires : tie.Need-deliver-requires
 deliver-requires c κs = search laws
 
@@ -36,7 +33,6 @@ rowanchess-deliver-spec =
     (tie.spec
     is-event-requires
     is-whole-requires
-    event-requires
     deliver-requires
     same-length
     same-length-2
