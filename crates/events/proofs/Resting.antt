@@ -40,7 +40,7 @@ use Rattle.delivery.proofs.Calls.{judged-is, deliver-refused, deliver-done}
 use Rattle.holds.specs.declared.Move.{Move}
 use Rattle.holds.specs.declared.Move.the-variants.{Leaves}
 use Rattle.holds.specs.declared.Shift.{Shift}
-use Rattle.holds.specs.Holds.{change-of, moved, Weighs, shift-fits}
+use Rattle.holds.specs.Holds.{change-of, moved, NewHold, Weighs, shift-fits}
 use Rattle.holds.proofs.Laws.{one-fits}
 use Rattle.gateway.specs.Limits.{most-notices}
 use Rattle.events.specs.Events.{rested-tests, joined, CanJoin, Stands}
@@ -153,6 +153,10 @@ module _ (xs : List ℕ) {ys : List ℕ} (n : ℕ) (x : Move) (o : D.Resting) (s
 pub stands : (z : Side) (y : ℤ) (q v s p : ℕ) → s ≡ sideCode z → int p ≡ y → q < modulus → Stands z y q v (record { side = s; price = p; visible = v; leaves = q })
 stands z y q v s p s-is p-is f =
     record { is = λ i. ap₂ (λ (a : Side) (b : ℤ). record { number = i; side = a; price = b; visible = v; leaves = q }) (ap side s-is ∙ side-back z) p-is; leaves-is = refl; qty-fits = f }
+
+-- what is left of the order is what it rests with
+pub left-hold : {z : Side} {y : ℤ} {q v i : ℕ} {o : Words.Resting} {h : Shift} {g : Gateway} → Stands z y q v o → Weighs i (Leaves q) h g → NewHold i (Leaves (o .leaves)) (h .new) (g .core .ledger)
+left-hold {i = i} {h = h} {g = g} s w = subst (λ (k : ℕ). NewHold i (Leaves k) (h .new) (g .core .ledger)) (sym (s .leaves-is)) (w .holds)
 
 -- with a price that was read back from its bits
 pub stands-as : {z : Side} {x y : ℤ} {q v : ℕ} {o : Words.Resting} → x ≡ y → Stands z x q v o → Stands z y q v o

@@ -27,9 +27,11 @@ ghost use Rattle.gateway.specs.Calls.{call, deliver-event};
 ghost use Rattle.store.specs.Cells as C;
 ghost use Rattle.store.specs.Layout.{cell};
 ghost use Rattle.store.specs.View.{order, resting, ledger, depth, gateway};
+ghost use Rattle.store.specs.View as View;
 ghost use Rattle.orders.specs.Orders.{Sees, resting-of};
 ghost use Rattle.sound.specs.Sound.{State, Becomes};
 ghost use Rattle.mailbox.specs.Mailbox.{places};
+ghost use Rattle.marketdata.specs.Marketdata.{Placed};
 ghost use Rattle.outcome.specs.Between.{Between};
 ghost use Rattle.outcome.specs.Answers.{verdict, Gives};
 ghost use Rattle.delivery.specs.Delivery as Delivery;
@@ -139,12 +141,12 @@ fn judge_changed(m: &[u8], n: u64, id: u64, at: Found, h: Shift, t: Told, room: 
     })
 }
 
-fn apply_cancelled(m: &mut [u8], n: u64, id: u64, live: Found)
+fn apply_cancelled(m: &mut [u8], n: u64, id: u64, live: Found, resting: Found)
     requires { ⌜ State (now m) × Sees C.order-live order number-of (cell (now m)) id live × P.CanChange n id Retire D.take-off (gateway (cell (now m))) ⌝ }
     ensures { λ r. ⌜ Becomes (now (m .exit)) (P.in-book n id Retire D.take-off (gateway (cell (now (m .entry))))) ⌝ }
 {
-    holds::apply(m, id, live, Move::Retire);
-    marketdata::on_cancelled(m, id);
+    holds::retire(m, id, live);
+    marketdata::on_cancelled(m, id, resting);
     delivery::land(m, n);
 }
 
@@ -170,7 +172,7 @@ pub fn cancelled(
         return Reply { code, count: 0 };
     }
     let k = reporting::rows(t);
-    apply_cancelled(m, n, id, live);
+    apply_cancelled(m, n, id, live, resting);
     reporting::report(m, out, 0, n, id, t, ReportKind::Cancelled { qty, reason });
     Reply { code: 0, count: k }
 }
@@ -182,12 +184,21 @@ pub fn price_of(price: i64, leaves: u64) -> u64
     words::of_i64(price)
 }
 
-fn apply_modified(m: &mut [u8], n: u64, id: u64, live: Found, price: u64, leaves: u64)
-    requires { ⌜ State (now m) × Sees C.order-live order number-of (cell (now m)) id live × P.CanChange n id (Reprice price leaves) (D.modified (int price) leaves) (gateway (cell (now m))) ⌝ }
+fn apply_modified(
+    m: &mut [u8],
+    n: u64,
+    id: u64,
+    live: Found,
+    resting: Found,
+    price: u64,
+    leaves: u64,
+    new: u64,
+)
+    requires { ⌜ State (now m) × Sees C.order-live order number-of (cell (now m)) id live × Holds.NewHold id (Reprice price leaves) new (ledger (cell (now m))) × P.CanChange n id (Reprice price leaves) (D.modified (int price) leaves) (gateway (cell (now m))) ⌝ }
     ensures { λ r. ⌜ Becomes (now (m .exit)) (P.in-book n id (Reprice price leaves) (D.modified (int price) leaves) (gateway (cell (now (m .entry))))) ⌝ }
 {
-    holds::apply(m, id, live, Move::Reprice { price, leaves });
-    marketdata::on_modified(m, id, price, leaves);
+    holds::reprice(m, id, live, new, price, leaves);
+    marketdata::on_modified(m, id, resting, price, leaves);
     delivery::land(m, n);
 }
 
@@ -215,7 +226,7 @@ pub fn modified(
         return Reply { code, count: 0 };
     }
     let k = reporting::rows(t);
-    apply_modified(m, n, id, live, p, leaves);
+    apply_modified(m, n, id, live, resting, p, leaves, h.new);
     reporting::report(
         m,
         out,
@@ -260,11 +271,11 @@ fn judge_replenished(
     })
 }
 
-fn apply_replenished(m: &mut [u8], n: u64, id: u64, visible: u64)
+fn apply_replenished(m: &mut [u8], n: u64, id: u64, resting: Found, visible: u64)
     requires { ⌜ State (now m) × P.CanReshow n id visible (gateway (cell (now m))) ⌝ }
     ensures { λ r. ⌜ Becomes (now (m .exit)) (P.reshown n id visible (gateway (cell (now (m .entry))))) ⌝ }
 {
-    marketdata::on_replenished(m, id, visible);
+    marketdata::on_replenished(m, id, resting, visible);
     delivery::land(m, n);
 }
 
@@ -289,7 +300,7 @@ pub fn replenished(
         return Reply { code, count: 0 };
     }
     let k = reporting::rows(t);
-    apply_replenished(m, n, id, visible);
+    apply_replenished(m, n, id, resting, visible);
     reporting::report(
         m,
         out,
@@ -327,17 +338,18 @@ fn judge_rested(
     id: u64,
     at: Found,
     o: Resting,
+    place: usize,
     h: Shift,
     t: Told,
     room: usize,
 ) -> u64
-    requires { ⌜ Between (now m) × Sees C.order-resting resting D.resting-number (cell (now m)) id at × P.Weighed h (ledger (cell (now m))) ⌝ }
+    requires { ⌜ Between (now m) × Sees C.order-resting resting D.resting-number (cell (now m)) id at × Placed (View.side (o .side)) (int (o .price)) (now m) place × P.Weighed h (ledger (cell (now m))) ⌝ }
     ensures { λ r. ⌜ r ≡ verdict (Delivery.tests (P.rested-tests n (resting-of id o) h t room (gateway (cell (now (m .entry)))))) ⌝ }
 {
     let flying = delivery::is_flying(m, n);
     let absent = shows::is_absent(m, id, at);
     let fits = holds::fits(m, h);
-    let levels = shows::join_fits(m, id, o);
+    let levels = shows::join_fits(m, id, o, place);
     let depth = shows::join_room(m, id, o);
     let few = holds::few(m, h.notices);
     let rows = reporting::rows(t);
@@ -355,12 +367,12 @@ fn judge_rested(
     })
 }
 
-fn apply_rested(m: &mut [u8], n: u64, id: u64, live: Found, o: Resting)
-    requires { ⌜ State (now m) × Sees C.order-live order number-of (cell (now m)) id live × P.CanJoin n (Leaves (o .leaves)) (resting-of id o) (gateway (cell (now m))) ⌝ }
+fn apply_rested(m: &mut [u8], n: u64, id: u64, live: Found, o: Resting, place: usize, new: u64)
+    requires { ⌜ State (now m) × Sees C.order-live order number-of (cell (now m)) id live × Holds.NewHold id (Leaves (o .leaves)) new (ledger (cell (now m))) × P.CanJoin n (Leaves (o .leaves)) (resting-of id o) (gateway (cell (now m))) ⌝ }
     ensures { λ r. ⌜ Becomes (now (m .exit)) (P.joined n (Leaves (o .leaves)) (resting-of id o) (gateway (cell (now (m .entry))))) ⌝ }
 {
-    holds::apply(m, id, live, Move::Leaves { leaves: o.leaves });
-    marketdata::add(m, id, o);
+    holds::set_leaves(m, id, live, new, o.leaves);
+    marketdata::add(m, id, o, live, place);
     delivery::land(m, n);
 }
 
@@ -382,14 +394,15 @@ pub fn rested(
     let at = orders::look(m, id);
     let live = at.live;
     let resting = at.resting;
+    let place = marketdata::place_of(m, o.side, o.price);
     let h = holds::weigh(m, id, live, Move::Leaves { leaves: qty });
     let t = reporting::owner(m, id, live);
-    let code = judge_rested(m, n, id, resting, o, h, t, mailbox::room(out));
+    let code = judge_rested(m, n, id, resting, o, place, h, t, mailbox::room(out));
     if code != 0 {
         return Reply { code, count: 0 };
     }
     let k = reporting::rows(t);
-    apply_rested(m, n, id, live, o);
+    apply_rested(m, n, id, live, o, place, h.new);
     reporting::report(
         m,
         out,
@@ -435,7 +448,7 @@ fn retire(m: &mut [u8], n: u64, live: Found)
     requires { ⌜ State (now m) × Sees C.order-live order number-of (cell (now m)) n live × P.CanRetire n (gateway (cell (now m))) ⌝ }
     ensures { λ r. ⌜ Becomes (now (m .exit)) (P.retired n (gateway (cell (now (m .entry))))) ⌝ }
 {
-    holds::apply(m, n, live, Move::Retire);
+    holds::retire(m, n, live);
     delivery::land(m, n);
 }
 

@@ -22,15 +22,17 @@ use Rattle.sound.proofs.Waiting.{mark-sound, trade-sound}
 use Rattle.marketdata.specs.Marketdata.{with-depth, CanTrade}
 use Rattle.outcome.proofs.Laws.{then-becomes}
 use Rattle.delivery.specs.Delivery.{landed, after}
-use Rattle.holds.specs.Holds.{change-of, moved}
+use Rattle.holds.specs.Holds.{change-of, moved, NewHold}
 use Rattle.holds.proofs.Applying.{notices-count}
+use Rattle.holds.proofs.Laws.{kept-hold}
 use Rattle.trades.specs.declared.Deal.{Deal}
-use Rattle.trades.specs.Trades.{event-of, taker-fill, maker-fill, settled, marked, ticked, in-depth, dealt, Noticed, CanDeal}
+use Rattle.trades.specs.declared.Party.{Party}
+use Rattle.trades.specs.Trades.{event-of, taker-fill, maker-fill, settled, marked, ticked, in-depth, dealt, Stands, CanSettle, CanDeal}
 use Rattle.trades.proofs.Judging.{trades-count}
 
 -- ---- both fills
 
-module _ (xs : List ℕ) (d : Deal) (h : Noticed d (gateway (cell xs))) where
+module _ (xs : List ℕ) (d : Deal) (new maker-new : ℕ) (h : CanSettle d new maker-new (gateway (cell xs))) where
   abbrev first : Change
   first = change-of (d .taker) (taker-fill d)
 
@@ -38,18 +40,29 @@ module _ (xs : List ℕ) (d : Deal) (h : Noticed d (gateway (cell xs))) where
   second = change-of (d .maker) (maker-fill d)
 
   pub taker-room : length (change-notices (change-of (d .taker) (taker-fill d)) (ledger (cell xs))) + word (cell xs) C.notice-rows ≤ most-notices
-  taker-room = omega (arith, notices-count (cell xs), h .few)
+  taker-room = omega (arith, notices-count (cell xs), h .noticed .few)
 
   module _ {ys : List ℕ} (b : Becomes ys (moved (change-of (d .taker) (taker-fill d)) (gateway (cell xs)))) where
     pub maker-room : length (change-notices (change-of (d .maker) (maker-fill d)) (ledger (cell ys))) + word (cell ys) C.notice-rows ≤ most-notices
     maker-room =
         let e = ap (λ (g : Gateway). length (change-notices second (g .core .ledger))) (b .gateway-is) in
         let f = ap (λ (g : Gateway). length (g .rest .notices)) (b .gateway-is) in
-        omega (arith, e, f, notices-count (cell ys), length-append (gateway (cell xs) .rest .notices) (change-notices first (gateway (cell xs) .core .ledger)), h .few)
+        omega (arith, e, f, notices-count (cell ys), length-append (gateway (cell xs) .rest .notices) (change-notices first (gateway (cell xs) .core .ledger)), h .noticed .few)
+
+    -- the taker's fill leaves the maker as it is
+    pub maker-hold : NewHold (d .maker) (maker-fill d) maker-new (ledger (cell ys))
+    maker-hold =
+        subst (λ (g : Gateway). NewHold (d .maker) (maker-fill d) maker-new (g .core .ledger)) (sym (b .gateway-is))
+        (kept-hold (d .maker) (maker-fill d) maker-new (ledger (cell xs)) (h .maker-holds) (d .taker) (taker-fill d) (h .two))
 
 pub settled-becomes : (xs : List ℕ) {ys zs : List ℕ} (d : Deal) → Becomes ys (moved (change-of (d .taker) (taker-fill d)) (gateway (cell xs))) →
     Becomes zs (moved (change-of (d .maker) (maker-fill d)) (gateway (cell ys))) → Becomes zs (settled d (gateway (cell xs)))
 settled-becomes xs d b c = then-becomes (moved (change-of (d .maker) (maker-fill d))) b c
+
+-- what was found says what both hold then
+pub can-settle : {xs : List ℕ} (n : ℕ) (d : Deal) (t m : Party) → Stands (d .taker) (taker-fill d) t xs → Stands (d .maker) (maker-fill d) m xs → CanDeal n d (gateway (cell xs)) →
+    CanSettle d (t .shift .new) (m .shift .new) (gateway (cell xs))
+can-settle n d t m a b can = record { noticed = can .noticed; two = can .in-book .two; taker-holds = a .weighs .holds; maker-holds = b .weighs .holds }
 
 -- ---- the reference price
 
@@ -105,4 +118,4 @@ dealt-after n d both g e =
     let ms = change-notices (change-of (d .maker) (maker-fill d)) (change (change-of (d .taker) (taker-fill d)) l) in
     rw (e, append-assoc (g .rest .notices) ns ms, append-nil ms) refl
 
-pub ruleset applying = (taker-room, maker-room, settled-becomes, mark-stays, mark-moves, tick-room, tick-becomes, still-room, still-flying, arith)
+pub ruleset applying = (taker-room, maker-room, maker-hold, can-settle, settled-becomes, mark-stays, mark-moves, tick-room, tick-becomes, still-room, still-flying, arith)

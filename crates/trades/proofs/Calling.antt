@@ -19,15 +19,18 @@ use Rattle.protocol.specs.declared.ReportKind.{ReportKind}
 use Rattle.words.specs.Words.{int, half, modulus, place-of}
 use Rattle.words.proofs.Int.{read}
 use Rattle.gateway.specs.Limits.{most-trades, most-notices, most-changed}
-use Rattle.gateway.specs.Ledger.{fits}
+use Rattle.gateway.specs.Ledger.{fits, number-of}
 use Rattle.gateway.specs.Core.{Pass}
-use Rattle.gateway.specs.Depth.{shows}
+use Rattle.gateway.specs.Depth.{shows, resting-number}
 use Rattle.gateway.specs.Fits.{EventFits}
 use Rattle.gateway.specs.Calls.{Gateway, call, deliver-event}
 use Rattle.gateway.proofs.Depths.{few-counts, changed-decides}
+use Rattle.store.specs.Cells as C
 use Rattle.store.specs.Layout.{cell}
-use Rattle.store.specs.View.{side, gateway}
+use Rattle.store.specs.View.{side, order, resting, gateway}
 use Rattle.pending.proofs.Commands.{side-back}
+use Rattle.orders.specs.declared.Places.{Places}
+use Rattle.orders.specs.Orders.{Sees}
 use Rattle.sound.specs.Sound.{Becomes}
 use Rattle.mailbox.specs.Mailbox.{places}
 use Rattle.marketdata.specs.Marketdata.{Roomy}
@@ -37,15 +40,18 @@ use Rattle.outcome.specs.Answers.{verdict, Gives}
 use Rattle.outcome.specs.Parts.{Sends}
 use Rattle.outcome.proofs.Walk.{sends-more}
 use Rattle.reporting.specs.declared.Told.{Told}
-use Rattle.reporting.specs.Reporting.{told-mail, told-rows}
+use Rattle.reporting.specs.Reporting.{told-mail, told-rows, Tells}
 use Rattle.reporting.proofs.Laws.{told-length}
 use Rattle.delivery.specs.Delivery.{tests, call-tests}
 use Rattle.delivery.proofs.Calls.{judged-is, passes, deliver-refused, deliver-done}
+use Rattle.holds.specs.declared.Move.{Move}
+use Rattle.holds.specs.declared.Shift.{Shift}
+use Rattle.holds.specs.Holds.{Weighs}
 use Rattle.holds.proofs.Laws.{two-noticed}
 use Rattle.shows.proofs.Judged as Shows
 use Rattle.trades.specs.declared.Deal.{Deal}
 use Rattle.trades.specs.declared.Party.{Party}
-use Rattle.trades.specs.Trades.{event-of, Says, taker-fill, maker-fill, Stands, trade-tests, in-depth, dealt, CanDeal, fill-kind, deal-mail, Reports}
+use Rattle.trades.specs.Trades.{event-of, Says, taker-fill, maker-fill, Seen, Weighed, Stands, trade-tests, in-depth, dealt, CanDeal, fill-kind, deal-mail, Reports}
 use Rattle.trades.proofs.Judging.{differ, mail-is, mail-count, trade-judges}
 use Rattle.trades.proofs.Applying.{dealt-after}
 
@@ -77,6 +83,18 @@ module _ (xs out : List ℕ) (n : ℕ) (d : Deal) (a b : Told) (z o : Side) (k l
       mails =
           ap₂ (λ (x y : ReportKind). told-mail n (d .taker) x a ++ told-mail n (d .maker) y b) (k-is ∙ ap (λ (y : Side). fill-kind d y (d .«taker_leaves»)) z-is)
           (l-is ∙ ap (λ (y : Side). fill-kind d y (d .«maker_leaves»)) (o-is ∙ ap oppositeOf z-is))
+
+-- ---- what is found, step by step
+
+pub seen : {i : ℕ} {p : Places} {xs : List ℕ} → Sees C.order-live order number-of (cell xs) i (p .live) → Sees C.order-resting resting resting-number (cell xs) i (p .resting) → Seen i p xs
+seen a b = record { lives = a; rests = b }
+
+pub weighed : {i : ℕ} {x : Move} {p : Places} {s : Shift} {xs : List ℕ} → Seen i p xs → Weighs i x s (gateway (cell xs)) → Weighed i x p s xs
+weighed a b = record { seen = a; weighs = b }
+
+pub stands : {i : ℕ} {x : Move} {p : Places} {s : Shift} {t : Told} {xs : List ℕ} → Weighed i x p s xs → Tells i t (gateway (cell xs)) →
+    Stands i x (record { live = p .live; resting = p .resting; shift = s; told = t }) xs
+stands w t = record { lives = w .seen .lives; rests = w .seen .rests; weighs = w .weighs; tells = t }
 
 -- ---- the call
 
@@ -134,4 +152,4 @@ as-said xs out {ys} {end} n id taker maker z p q tl ml d r h s =
     subst (λ (e : Event). Gives (call (gateway (cell xs)) (deliver-event n e (places (length out)))) r xs ys out end)
     (s .is ∙ ap (λ (y : ℤ). Trade id taker maker z y q tl ml) (read {x = p} h))
 
-pub ruleset calling = (both-told, trade-refused, arith)
+pub ruleset calling = (both-told, seen, weighed, stands, trade-refused, arith)

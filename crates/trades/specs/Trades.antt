@@ -25,6 +25,7 @@ use Rattle.gateway.specs.Calls.{Gateway}
 use Rattle.store.specs.Cells as C
 use Rattle.store.specs.Layout.{cell}
 use Rattle.store.specs.View.{side, order, resting, gateway}
+use Rattle.orders.specs.declared.Places.{Places}
 use Rattle.orders.specs.Orders.{Sees}
 use Rattle.live.specs.Live.{with-ledger}
 use Rattle.marketdata.specs.Marketdata.{with-depth, traded, CanTrade}
@@ -36,7 +37,7 @@ use Rattle.delivery.specs.Delivery.{landed}
 use Rattle.holds.specs.declared.Move.{Move}
 use Rattle.holds.specs.declared.Move.the-variants.{Fill}
 use Rattle.holds.specs.declared.Shift.{Shift}
-use Rattle.holds.specs.Holds.{change-of, moved, Weighs, pair-fits}
+use Rattle.holds.specs.Holds.{change-of, moved, NewHold, Weighs, pair-fits}
 use Rattle.shows.specs.Shows.{both-few}
 use Rattle.trades.specs.declared.Deal.{Deal}
 use Rattle.trades.specs.declared.Party.{Party}
@@ -56,6 +57,16 @@ taker-fill d = Fill (d .price) (d .qty) (d .«taker_leaves»)
 
 abbrev pub maker-fill : Deal → Move
 maker-fill d = Fill (d .price) (d .qty) (d .«maker_leaves»)
+
+-- where the order i stands
+pub record Seen (i : ℕ) (p : Places) (xs : List ℕ) : Type 0 where
+  pub lives : Sees C.order-live order number-of (cell xs) i (p .live)
+  pub rests : Sees C.order-resting resting resting-number (cell xs) i (p .resting)
+
+-- and what x does to it
+pub record Weighed (i : ℕ) (x : Move) (p : Places) (s : Shift) (xs : List ℕ) : Type 0 where
+  pub seen : Seen i p xs
+  pub weighs : Weighs i x s (gateway (cell xs))
 
 -- p is what is found of the order i, to which x happens
 pub record Stands (i : ℕ) (x : Move) (p : Party) (xs : List ℕ) : Type 0 where
@@ -127,6 +138,13 @@ pub record Noticed (d : Deal) (g : Gateway) : Type 0 where
       + length (change-notices (change-of (d .maker) (maker-fill d)) (change (change-of (d .taker) (taker-fill d)) (g .core .ledger)))
       + length (g .rest .notices)
       ≤ most-notices
+
+-- they are two, and hold `taker` and `maker` then
+pub record CanSettle (d : Deal) (taker maker : ℕ) (g : Gateway) : Type 0 where
+  pub noticed : Noticed d g
+  pub two : (d .taker ≡ d .maker → ⊥)
+  pub taker-holds : NewHold (d .taker) (taker-fill d) taker (g .core .ledger)
+  pub maker-holds : NewHold (d .maker) (maker-fill d) maker (g .core .ledger)
 
 pub record CanDeal (n : ℕ) (d : Deal) (g : Gateway) : Type 0 where
   pub flying : in-flight n (g .core) ≡ true

@@ -3,6 +3,7 @@ use delivery::Tests;
 use holds::Move;
 use holds::Shift;
 use orderbook::Side;
+use orders::Places;
 use outcome::Reply;
 use pending::Trade;
 use protocol::ReportKind;
@@ -79,24 +80,6 @@ pub fn deal_of(
     }
 }
 
-// The order `id`, to which x happens.
-fn find_party(m: &[u8], id: u64, x: Move) -> Party
-    requires { ⌜ State (now m) ⌝ }
-    ensures { λ r. ⌜ P.Stands id x r (now (m .entry)) ⌝ }
-{
-    let at = orders::look(m, id);
-    let live = at.live;
-    let resting = at.resting;
-    let shift = holds::weigh(m, id, live, x);
-    let told = reporting::owner(m, id, live);
-    Party {
-        live,
-        resting,
-        shift,
-        told,
-    }
-}
-
 // ---- judged
 
 // Two orders, neither later than the command.
@@ -170,32 +153,14 @@ fn judge(m: &[u8], n: u64, d: Deal, taker: Party, maker: Party, room: usize) -> 
 
 // ---- applied
 
-// The taker, which is at `at`, before the maker.
-fn settle(m: &mut [u8], d: Deal, at: Found)
-    requires { ⌜ State (now m) × Sees C.order-live order number-of (cell (now m)) (d .taker) at × P.Noticed d (gateway (cell (now m))) ⌝ }
+// The taker before the maker, which was at `maker_at`.
+fn settle(m: &mut [u8], d: Deal, at: Found, new: u64, maker_at: Found, maker_new: u64)
+    requires { ⌜ State (now m) × Sees C.order-live order number-of (cell (now m)) (d .taker) at × P.CanSettle d new «maker_new» (gateway (cell (now m))) ⌝ }
     ensures { λ r. ⌜ Becomes (now (m .exit)) (P.settled d (gateway (cell (now (m .entry))))) ⌝ }
 {
-    holds::apply(
-        m,
-        d.taker,
-        at,
-        Move::Fill {
-            price: d.price,
-            qty: d.qty,
-            leaves: d.taker_leaves,
-        },
-    );
-    let maker_at = orders::find_live(m, d.maker);
-    holds::apply(
-        m,
-        d.maker,
-        maker_at,
-        Move::Fill {
-            price: d.price,
-            qty: d.qty,
-            leaves: d.maker_leaves,
-        },
-    );
+    holds::fill(m, d.taker, at, new, d.price, d.qty, d.taker_leaves);
+    let again = orders::live_again(m, d.maker, maker_at);
+    holds::fill(m, d.maker, again, maker_new, d.price, d.qty, d.maker_leaves);
 }
 
 // Paper accounts that trade with each other do not move the reference price.
@@ -226,13 +191,26 @@ fn push(m: &mut [u8], n: u64, d: Deal)
     );
 }
 
-fn apply(m: &mut [u8], n: u64, d: Deal, at: Found, both: bool)
-    requires { ⌜ State (now m) × Sees C.order-live order number-of (cell (now m)) (d .taker) at × P.CanDeal n d (gateway (cell (now m))) ⌝ }
+fn apply(m: &mut [u8], n: u64, d: Deal, taker: Party, maker: Party, both: bool)
+    requires { ⌜ State (now m) × P.Stands (d .taker) (P.taker-fill d) taker (now m) × P.Stands (d .maker) (P.maker-fill d) maker (now m) × P.CanDeal n d (gateway (cell (now m))) ⌝ }
     ensures { λ r. ⌜ Becomes (now (m .exit)) (P.dealt n d both (gateway (cell (now (m .entry))))) ⌝ }
 {
-    settle(m, d, at);
+    let live = taker.live;
+    let maker_live = maker.live;
+    let at = taker.resting;
+    let maker_at = maker.resting;
+    settle(m, d, live, taker.shift.new, maker_live, maker.shift.new);
     mark(m, both, d.price);
-    marketdata::on_trade(m, d.taker, d.maker, d.qty, d.taker_leaves, d.maker_leaves);
+    marketdata::on_trade(
+        m,
+        d.taker,
+        at,
+        d.maker,
+        maker_at,
+        d.qty,
+        d.taker_leaves,
+        d.maker_leaves,
+    );
     push(m, n, d);
     delivery::land(m, n);
 }
@@ -268,36 +246,98 @@ fn tell(m: &mut [u8], out: &mut [u8], n: u64, d: Deal, taker: Told, maker: Told)
 
 // ---- the call
 
-fn deliver(m: &mut [u8], n: u64, d: Deal, out: &mut [u8]) -> Reply
-    requires { ⌜ Between (now m) × EventFits (P.event-of d) ⌝ }
+// In steps, each a function, so that what is found of the orders is handed on in registers: where they stand (`deliver`), what they hold
+// (`weigh`), whom they are reported to (`find_owners`); then they are judged, applied and reported.
+fn decide(m: &mut [u8], n: u64, d: Deal, taker: Party, maker: Party, out: &mut [u8]) -> Reply
+    requires { ⌜ Between (now m) × EventFits (P.event-of d) × P.Stands (d .taker) (P.taker-fill d) taker (now m) × P.Stands (d .maker) (P.maker-fill d) maker (now m) ⌝ }
     ensures { λ r. ⌜ Gives (call (gateway (cell (now (m .entry)))) (deliver-event n (P.event-of d) (places (length (now (out .entry)))))) r (now (m .entry)) (now (m .exit)) (now (out .entry)) (now (out .exit)) ⌝ }
 {
-    let taker = find_party(
+    let code = judge(m, n, d, taker, maker, mailbox::room(out));
+    if code != 0 {
+        return Reply { code, count: 0 };
+    }
+    apply(
+        m,
+        n,
+        d,
+        taker,
+        maker,
+        taker.shift.funded & maker.shift.funded,
+    );
+    let count = tell(m, out, n, d, taker.told, maker.told);
+    Reply { code: 0, count }
+}
+
+fn find_owners(
+    m: &mut [u8],
+    n: u64,
+    d: Deal,
+    at: Places,
+    shift: Shift,
+    maker_at: Places,
+    maker_shift: Shift,
+    out: &mut [u8],
+) -> Reply
+    requires { ⌜ Between (now m) × EventFits (P.event-of d) × P.Weighed (d .taker) (P.taker-fill d) at shift (now m) × P.Weighed (d .maker) (P.maker-fill d) «maker_at» «maker_shift» (now m) ⌝ }
+    ensures { λ r. ⌜ Gives (call (gateway (cell (now (m .entry)))) (deliver-event n (P.event-of d) (places (length (now (out .entry)))))) r (now (m .entry)) (now (m .exit)) (now (out .entry)) (now (out .exit)) ⌝ }
+{
+    let live = at.live;
+    let resting = at.resting;
+    let maker_live = maker_at.live;
+    let maker_resting = maker_at.resting;
+    let told = reporting::owner(m, d.taker, live);
+    let maker_told = reporting::owner(m, d.maker, maker_live);
+    let taker = Party {
+        live,
+        resting,
+        shift,
+        told,
+    };
+    let maker = Party {
+        live: maker_live,
+        resting: maker_resting,
+        shift: maker_shift,
+        told: maker_told,
+    };
+    decide(m, n, d, taker, maker, out)
+}
+
+fn weigh(m: &mut [u8], n: u64, d: Deal, at: Places, maker_at: Places, out: &mut [u8]) -> Reply
+    requires { ⌜ Between (now m) × EventFits (P.event-of d) × P.Seen (d .taker) at (now m) × P.Seen (d .maker) «maker_at» (now m) ⌝ }
+    ensures { λ r. ⌜ Gives (call (gateway (cell (now (m .entry)))) (deliver-event n (P.event-of d) (places (length (now (out .entry)))))) r (now (m .entry)) (now (m .exit)) (now (out .entry)) (now (out .exit)) ⌝ }
+{
+    let live = at.live;
+    let maker_live = maker_at.live;
+    let shift = holds::weigh(
         m,
         d.taker,
+        live,
         Move::Fill {
             price: d.price,
             qty: d.qty,
             leaves: d.taker_leaves,
         },
     );
-    let maker = find_party(
+    let maker_shift = holds::weigh(
         m,
         d.maker,
+        maker_live,
         Move::Fill {
             price: d.price,
             qty: d.qty,
             leaves: d.maker_leaves,
         },
     );
-    let code = judge(m, n, d, taker, maker, mailbox::room(out));
-    if code != 0 {
-        return Reply { code, count: 0 };
-    }
-    let at = taker.live;
-    apply(m, n, d, at, taker.shift.funded & maker.shift.funded);
-    let count = tell(m, out, n, d, taker.told, maker.told);
-    Reply { code: 0, count }
+    find_owners(m, n, d, at, shift, maker_at, maker_shift, out)
+}
+
+fn deliver(m: &mut [u8], n: u64, d: Deal, out: &mut [u8]) -> Reply
+    requires { ⌜ Between (now m) × EventFits (P.event-of d) ⌝ }
+    ensures { λ r. ⌜ Gives (call (gateway (cell (now (m .entry)))) (deliver-event n (P.event-of d) (places (length (now (out .entry)))))) r (now (m .entry)) (now (m .exit)) (now (out .entry)) (now (out .exit)) ⌝ }
+{
+    let at = orders::look(m, d.taker);
+    let maker_at = orders::look(m, d.maker);
+    weigh(m, n, d, at, maker_at, out)
 }
 
 pub fn trade(

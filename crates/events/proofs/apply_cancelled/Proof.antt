@@ -3,8 +3,8 @@ use borrow.Author.Needs.{needs}
 use Rattle.events.proofs.apply_cancelled.Statement.{statement}
 use Rattle.events.proofs.apply_cancelled.Tie as tie
 
-apply-requires : tie.Need-apply-requires
-apply-requires c κs = search changing
+retire-requires : tie.Need-retire-requires
+retire-requires c κs = search changing
 
 on-cancelled-requires : tie.Need-on-cancelled-requires
 on-cancelled-requires c κs = search changing
@@ -20,4 +20,4 @@ returns c = search changing
 
 pub apply-cancelled-spec : {M : Type 1} → statement M
 apply-cancelled-spec =
-    tie.close (tie.spec apply-requires on-cancelled-requires land-requires same-length returns)
+    tie.close (tie.spec retire-requires on-cancelled-requires land-requires same-length returns)

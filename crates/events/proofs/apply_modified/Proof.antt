@@ -3,8 +3,8 @@ use borrow.Author.Needs.{needs}
 use Rattle.events.proofs.apply_modified.Statement.{statement}
 use Rattle.events.proofs.apply_modified.Tie as tie
 
-apply-requires : tie.Need-apply-requires
-apply-requires c κs = search changing
+reprice-requires : tie.Need-reprice-requires
+reprice-requires c κs = search changing
 
 on-modified-requires : tie.Need-on-modified-requires
 on-modified-requires c κs = search changing
@@ -20,4 +20,4 @@ returns c = search changing
 
 pub apply-modified-spec : {M : Type 1} → statement M
 apply-modified-spec =
-    tie.close (tie.spec apply-requires on-modified-requires land-requires same-length returns)
+    tie.close (tie.spec reprice-requires on-modified-requires land-requires same-length returns)

@@ -3,8 +3,8 @@ use borrow.Author.Needs.{needs}
 use Rattle.events.proofs.apply_rested.Statement.{statement}
 use Rattle.events.proofs.apply_rested.Tie as tie
 
-apply-requires : tie.Need-apply-requires
-apply-requires c κs = search resting-laws
+set-leaves-requires : tie.Need-set-leaves-requires
+set-leaves-requires c κs = search resting-laws
 
 add-requires : tie.Need-add-requires
 add-requires c κs = search resting-laws
@@ -14,7 +14,7 @@ land-requires c κs =
     let a = c .before .before .before in
     let b = a .before .before .before .before in
     let d = b .before .before .before in
-    (a .add .ensures .state, joined-flying _ _ _ _ (d .pre .0) (d .pre .2) (b .apply .ensures) (a .add .ensures))
+    (a .add .ensures .state, joined-flying _ _ _ _ (d .pre .0) (d .pre .3) (b .set-leaves .ensures) (a .add .ensures))
 
 same-length : tie.Need-same-length
 same-length c = search needs
@@ -24,4 +24,4 @@ returns c = search resting-laws
 
 pub apply-rested-spec : {M : Type 1} → statement M
 apply-rested-spec =
-    tie.close (tie.spec apply-requires add-requires land-requires same-length returns)
+    tie.close (tie.spec set-leaves-requires add-requires land-requires same-length returns)

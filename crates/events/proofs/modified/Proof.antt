@@ -52,7 +52,7 @@ apply-modified-requires c κs =
     let g = f .before .before in
     let h = g .before .before in
     let i = h .before .before .before in
-    (i .pre .state, g .look .ensures .0, can-modify (i .args .m .now) (i .args .out .now) (i .args .n) (i .args .id) (i .pre) _ _ (e .owner .ensures) _ _ (d .room .ensures) (b .judge-changed .ensures) (i .args .price) (i .args .qty) _ _ (repriced-as (read {x = i .args .price} (i .fits .price .sfits)) (h .price-of .ensures)) (f .weigh .ensures) (a .if1 .left))
+    (i .pre .state, g .look .ensures .0, f .weigh .ensures .holds, can-modify (i .args .m .now) (i .args .out .now) (i .args .n) (i .args .id) (i .pre) _ _ (e .owner .ensures) _ _ (d .room .ensures) (b .judge-changed .ensures) (i .args .price) (i .args .qty) _ _ (repriced-as (read {x = i .args .price} (i .fits .price .sfits)) (h .price-of .ensures)) (f .weigh .ensures) (a .if1 .left))
 
 report-requires : tie.Need-report-requires
 report-requires c κs =

@@ -3,8 +3,8 @@ use borrow.Author.Needs.{needs}
 use Rattle.events.proofs.retire.Statement.{statement}
 use Rattle.events.proofs.retire.Tie as tie
 
-apply-requires : tie.Need-apply-requires
-apply-requires c κs = search refusing
+retire-requires : tie.Need-retire-requires
+retire-requires c κs = search refusing
 
 land-requires : tie.Need-land-requires
 land-requires c κs = search refusing
@@ -16,4 +16,4 @@ returns : tie.Need-returns
 returns c = search refusing
 
 pub retire-spec : {M : Type 1} → statement M
-retire-spec = tie.close (tie.spec apply-requires land-requires same-length returns)
+retire-spec = tie.close (tie.spec retire-requires land-requires same-length returns)

@@ -14,7 +14,7 @@ on-trade-requires c κs =
     let k = c .before .before .before in
     let s = k .before .before .before .before in
     let a = s .before .before .before in
-    (k .mark .ensures .state, still-trades (a .args .m .now) _ _ (a .args .n) (a .args .d) (a .args .both) (a .pre .2) (s .settle .ensures) (k .mark .ensures))
+    (k .mark .ensures .state, still-trades (a .args .m .now) _ _ (a .args .n) (a .args .d) (a .args .both) (a .pre .3) (s .settle .ensures) (k .mark .ensures))
 
 push-requires : tie.Need-push-requires
 push-requires c κs = search applying
@@ -33,7 +33,7 @@ returns c =
     let k = t .before .before .before .before in
     let s = k .before .before .before .before in
     let a = s .before .before .before in
-    dealt-becomes (a .args .m .now) _ _ (a .args .n) (a .args .d) (a .args .both) (a .pre .2) (s .settle .ensures) (k .mark .ensures) _ (t .on-trade .ensures) _ (p .push .ensures) (l .land .ensures)
+    dealt-becomes (a .args .m .now) _ _ (a .args .n) (a .args .d) (a .args .both) (a .pre .3) (s .settle .ensures) (k .mark .ensures) _ (t .on-trade .ensures) _ (p .push .ensures) (l .land .ensures)
 
 pub apply-spec : {M : Type 1} → statement M
 apply-spec =
