@@ -13,7 +13,6 @@ const NEVER: u64 = u64::MAX;
 
 pub struct Proved {
     state: Vec<u8>,
-    row: [u8; 128],
     out: Vec<u8>,
     sent: usize,
     pub refused: usize,
@@ -26,29 +25,24 @@ fn side_code(side: Side) -> u64 {
     }
 }
 
-/// The first words of a row.
-fn put(row: &mut [u8; 128], words: &[u64]) {
-    for (at, word) in row.chunks_exact_mut(8).zip(words) {
-        at.copy_from_slice(&word.to_le_bytes());
-    }
-}
-
 /// A row of 16 words.
 fn row(words: &[u64]) -> [u8; 128] {
     let mut row = [0; 128];
-    put(&mut row, words);
+    for (at, word) in row.chunks_exact_mut(8).zip(words) {
+        at.copy_from_slice(&word.to_le_bytes());
+    }
     row
 }
 
-/// An event's kind, then its fields. What stands behind them in the row is not read.
-fn put_event(row: &mut [u8; 128], event: Event) {
+/// What an event's row has: its kind, then its fields.
+fn event_row(event: Event) -> [u8; 128] {
     match event {
-        Event::Accepted { id } => put(row, &[0, id]),
+        Event::Accepted { id } => row(&[0, id]),
         Event::Trade { trade_id, taker, maker, taker_side, price, qty, taker_leaves, maker_leaves } => {
-            put(row, &[2, trade_id, taker, maker, side_code(taker_side), price as u64, qty, taker_leaves, maker_leaves]);
+            row(&[2, trade_id, taker, maker, side_code(taker_side), price as u64, qty, taker_leaves, maker_leaves])
         }
-        Event::Rested { id, side, price, qty, visible } => put(row, &[3, id, side_code(side), price as u64, qty, visible]),
-        Event::Cancelled { id, qty, reason: _ } => put(row, &[5, id, qty, 1]),
+        Event::Rested { id, side, price, qty, visible } => row(&[3, id, side_code(side), price as u64, qty, visible]),
+        Event::Cancelled { id, qty, reason: _ } => row(&[5, id, qty, 1]),
         _ => unreachable!("not drawn"),
     }
 }
@@ -68,7 +62,7 @@ pub fn accounts(count: usize, funds: impl Fn(usize) -> Option<(i64, i64)>) -> Ve
 
 impl Proved {
     pub fn new() -> Proved {
-        let mut column = Proved { state: vec![0; STATE], row: [0; 128], out: vec![0; 4_096 * MAIL], sent: 0, refused: 0 };
+        let mut column = Proved { state: vec![0; STATE], out: vec![0; 4_096 * MAIL], sent: 0, refused: 0 };
         column.set_up(0, &accounts(SESSIONS, funds), &[]);
         for session in 0..SESSIONS {
             edge::connect(&mut column.state, session, 0);
@@ -139,8 +133,8 @@ impl Column for Proved {
     }
 
     fn deliver(&mut self, n: u64, event: Event) {
-        put_event(&mut self.row, event);
-        let reply = edge::deliver(&mut self.state, n, &self.row, &mut self.out[..4 * MAIL]);
+        let row = event_row(event);
+        let reply = edge::deliver(&mut self.state, n, &row, &mut self.out[..4 * MAIL]);
         self.note(reply);
     }
 
