@@ -206,9 +206,11 @@ impl Exchange {
         let rows = self.rows(call)?;
         let sent = rows.len();
         for row in rows {
-            match rows::mail_of(row) {
-                Mail::Send(session, message) => mail.send(session, message),
-                Mail::Close(session) => mail.close(session),
+            let session = rows::session_of(row);
+            if rows::is_close(row) {
+                mail.close(session);
+            } else {
+                mail.send(session, rows::message_of(row));
             }
         }
         self.sent = sent;

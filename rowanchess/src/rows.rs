@@ -2,7 +2,7 @@
 //! include/rowanchess.h has the same layouts in words. A signed number is its two's complement. An option is a flag and a value.
 
 use crate::accounts::Account;
-use crate::exchange::{Checkpoint, Mail, SavedOrder, SavedWallet};
+use crate::exchange::{Checkpoint, Mail, SavedOrder, SavedWallet, SessionId};
 use crate::marketdata::Level;
 use crate::orderbook::{CancelReason, Command, Event, Listed, Phase, Price, RejectReason, Side, TimeInForce};
 use crate::protocol::{
@@ -314,10 +314,21 @@ fn report_kind(row: &[u8; MAIL]) -> ReportKind {
     }
 }
 
+/// Whose mail it is.
 #[inline]
-pub fn mail_of(row: &[u8; MAIL]) -> Mail {
-    let message = match word(row, 1) {
-        0 => return Mail::Close(word(row, 0) as usize),
+pub fn session_of(row: &[u8; MAIL]) -> SessionId {
+    word(row, 0) as usize
+}
+
+#[inline]
+pub fn is_close(row: &[u8; MAIL]) -> bool {
+    word(row, 1) == 0
+}
+
+/// The message of a row that is no close.
+#[inline]
+pub fn message_of(row: &[u8; MAIL]) -> Outbound {
+    match word(row, 1) {
         1 => Outbound::LoginAccepted { account: small(row, 2), last_seq: word(row, 3) },
         2 => Outbound::LoginRejected { reason: LoginError::of(word(row, 2)) },
         3 => Outbound::Heartbeat,
@@ -351,8 +362,14 @@ pub fn mail_of(row: &[u8; MAIL]) -> Mail {
             position_held: signed(row, 5),
         }),
         kind => stray("message", kind),
-    };
-    Mail::Send(word(row, 0) as usize, message)
+    }
+}
+
+pub fn mail_of(row: &[u8; MAIL]) -> Mail {
+    if is_close(row) {
+        return Mail::Close(session_of(row));
+    }
+    Mail::Send(session_of(row), message_of(row))
 }
 
 pub fn level_of(row: [u8; LEVEL]) -> (Price, Level) {
