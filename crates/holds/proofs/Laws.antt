@@ -109,17 +109,19 @@ weighs-same {n} {x} {s} {g} w h d f =
       holds = hold-same n x (s .new) l k d (w .holds);
     }
 
--- where another order has changed, and where the mark has moved
+-- where another order has changed
 pub kept-hold : (n : ℕ) (x : Move) (w : ℕ) (l : Ledger) → NewHold n x w l → (i : ℕ) (y : Move) → (i ≡ n → ⊥) → NewHold n x w (change (change-of i y) l)
 kept-hold n x w l h i y ne = hold-same n x w l (change (change-of i y) l) (find-changed i n ne (of i y) l) h
 
-pub marked-hold : (n : ℕ) (x : Move) (w : ℕ) (l : Ledger) → NewHold n x w l → (a b : ℕ) (p : ℤ) → NewHold n x w (change (mark-by a b p) l)
-marked-hold n x w l h a b p = hold-same n x w l (change (mark-by a b p) l) (ap (find n) (marked-alike a b p l .orders-are)) h
+-- in the bytes
+pub kept-hold-at : (n : ℕ) (x : Move) (w : ℕ) (xs : List ℕ) {ys : List ℕ} → NewHold n x w (ledger (cell xs)) → (i : ℕ) (y : Move) → (i ≡ n → ⊥) → Becomes ys (moved (change-of i y) (gateway (cell xs))) → NewHold n x w (ledger (cell ys))
+kept-hold-at n x w xs h i y ne b = subst (λ g. NewHold n x w (g .core .ledger)) (sym (b .gateway-is)) (kept-hold n x w (ledger (cell xs)) h i y ne)
 
 pub weighs-after : {j : ℕ} {y : Move} {t : Shift} {g : Gateway} → Weighs j y t g → (i : ℕ) (x : Move) → (i ≡ j → ⊥) → Weighs j y t (moved (change-of i x) g)
 weighs-after {j} {g = g} w i x ne =
     weighs-same w (moved (change-of i x) g) (find-changed i j ne (of i x) (g .core .ledger)) (wallets-changed (change-of i x) (g .core .ledger))
 
+-- and where the mark has moved
 pub weighs-marked : {n : ℕ} {x : Move} {s : Shift} {g : Gateway} → Weighs n x s g → (a b : ℕ) (p : ℤ) → Weighs n x s (with-ledger (change (mark-by a b p)) g)
 unfolding change
 weighs-marked {g = g} w a b p = weighs-same w (with-ledger (change (mark-by a b p)) g) refl (λ i. refl)
