@@ -24,7 +24,7 @@ use Rattle.outcome.proofs.Laws.{then-becomes}
 use Rattle.delivery.specs.Delivery.{landed, after}
 use Rattle.holds.specs.Holds.{change-of, moved, NewHold}
 use Rattle.holds.proofs.Applying.{notices-count}
-use Rattle.holds.proofs.Laws.{kept-hold}
+use Rattle.holds.proofs.Laws.{kept-hold-at}
 use Rattle.trades.specs.declared.Deal.{Deal}
 use Rattle.trades.specs.declared.Party.{Party}
 use Rattle.trades.specs.Trades.{event-of, taker-fill, maker-fill, settled, marked, ticked, in-depth, dealt, Stands, CanSettle, CanDeal}
@@ -51,9 +51,7 @@ module _ (xs : List ℕ) (d : Deal) (new maker-new : ℕ) (h : CanSettle d new m
 
     -- the taker's fill leaves the maker as it is
     pub maker-hold : NewHold (d .maker) (maker-fill d) maker-new (ledger (cell ys))
-    maker-hold =
-        subst (λ (g : Gateway). NewHold (d .maker) (maker-fill d) maker-new (g .core .ledger)) (sym (b .gateway-is))
-        (kept-hold (d .maker) (maker-fill d) maker-new (ledger (cell xs)) (h .maker-holds) (d .taker) (taker-fill d) (h .two))
+    maker-hold = kept-hold-at (d .maker) (maker-fill d) maker-new xs (h .maker-holds) (d .taker) (taker-fill d) (h .two) b
 
 pub settled-becomes : (xs : List ℕ) {ys zs : List ℕ} (d : Deal) → Becomes ys (moved (change-of (d .taker) (taker-fill d)) (gateway (cell xs))) →
     Becomes zs (moved (change-of (d .maker) (maker-fill d)) (gateway (cell ys))) → Becomes zs (settled d (gateway (cell xs)))
