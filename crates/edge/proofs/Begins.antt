@@ -1,33 +1,18 @@
 -- A start with the accounts of lent rows, or 11 and nothing changed. Assumes nothing.
-use Prim.Native.Nat.{ℕ, _+_}
+use Prim.Native.Nat.{ℕ}
 use mathlib.Core.Path.{_≡_, refl, sym, ap, subst, _∙_}
 use mathlib.Core.Bool.{Bool, true, false, cond}
-use mathlib.Core.List.{List, [], _∷_, _++_}
+use mathlib.Core.List.{List}
 use borrow.Author.Needs.{needs}
 use Rattle.accounts.specs.declared.Account.{Account}
 use Rattle.gateway.specs.Limits.{malformed}
 use Rattle.gateway.specs.Start.{Started, not-started}
-use Rattle.store.specs.View.{listed}
-use Rattle.store.proofs.Listed.{listed-more}
 use Rattle.roster.specs.declared.Roster.{Roster}
 use Rattle.roster.specs.Rostered.{nobody, enter, entered, Numbered}
-use Rattle.roster.proofs.Tables.{entered-more, gathered}
+use Rattle.roster.proofs.Tables.{gathered}
 use Rattle.opening.specs.Starts.{Starts, Begins}
 use Rattle.edge.specs.Entering.{whole, begins}
 use Rattle.edge.proofs.Laws.{whole-holds}
-
--- ---- the roster of rows
-
-module _ (limit : ℕ) (row : ℕ → Account) (r : Roster) where
-  pub no-rows : r ≡ nobody → r ≡ entered limit nobody (listed row 0)
-  unfolding entered listed
-  no-rows e = e
-
-  pub one-row-more : (j : ℕ) (s : Roster) (a : Account) → r ≡ entered limit nobody (listed row j) → a ≡ row j → s ≡ enter limit r a
-      → s ≡ entered limit nobody (listed row (j + 1))
-  one-row-more j s a e f g =
-      g ∙ ap (enter limit r) f ∙ ap (λ (x : Roster). enter limit x (row j)) e
-      ∙ entered-more limit nobody (listed row j) (row j) ∙ ap (entered limit nobody) (sym (listed-more row j))
 
 -- ---- the start, and its refusal
 

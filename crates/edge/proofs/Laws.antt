@@ -1,10 +1,9 @@
 -- An entry point answers as its call does, or 11 and nothing changed. Assumes nothing.
-use Prim.Native.Nat.{ℕ, suc, _+_, _-_, _*_, _%_, _≤_}
+use Prim.Native.Nat.{ℕ, _*_}
 use mathlib.Core.Path.{_≡_, refl, sym, ap, subst, _∙_}
-use mathlib.Core.Bool.{Bool, true, false, cond, _&&_, false≢true, and-eq-true-iff}
+use mathlib.Core.Bool.{Bool, true, false, cond, _&&_, and-eq-true-iff}
 use mathlib.Core.Option.{Option, none, some}
 use mathlib.Core.List.{List}
-use native.Mathlib.Omega.{arith}
 use borrow.Author.Needs.{needs}
 use borrow.Author.Tests.{eq-eqb, ne-eqb, eqb-true}
 use lib.Dec.{eqb}
@@ -34,15 +33,13 @@ use Rattle.balances.specs.declared.MaybeBalance as Ba
 use Rattle.balances.specs.Balances.{maybe-balance}
 use Rattle.commands.specs.declared.MaybeId as Id
 use Rattle.commands.specs.Commands.{maybe-id}
-use Rattle.listing.specs.Rows.{row-bytes, rows}
 use Rattle.script.specs.Script.{word-at, message-of, event-of}
-use Rattle.script.specs.Strict.{is-message, is-event, is-command, is-account, all-fit, message-fits, event-fits, owned-fits, account-fits}
+use Rattle.script.specs.Strict.{is-message, is-event, is-command, is-account, message-fits, event-fits, owned-fits, account-fits}
 use Rattle.script.specs.Records.{command-of, account-of}
-use Rattle.script.proofs.Tests.{both, both-no, no-row, a-row}
 use Rattle.edge.specs.declared.Wallet.{Wallet}
 use Rattle.edge.specs.declared.Account as A
 use Rattle.edge.specs.Entering.{Lent, whole, asked, Enters}
-use Rattle.edge.specs.Values.{is-reason, reason-or, wallet-in, no-wallet, IsWallet, account-in, IsAccount, entry-fits-at, is-listing}
+use Rattle.edge.specs.Values.{is-reason, reason-or, wallet-in, no-wallet, IsWallet, account-in, IsAccount}
 
 -- ---- the length
 
@@ -143,14 +140,6 @@ reason-yes why m x e f = rw (← e, f) refl
 pub reason-no : (why : ℕ) (m : M.MaybeLogoutReason) → m ≡ logoutOf why → m ≡ M.the-variants.None → false ≡ is-reason (logoutOf why)
 reason-no why m e f = rw (← e, f) refl
 
-pub listing-yes : (xs : List ℕ) (b : Bool) → length xs % 64 ≡ 0 → b ≡ all-fit (entry-fits-at xs) (rows xs) → b ≡ is-listing xs
-unfolding is-listing
-listing-yes xs b h f = f ∙ a-row (length xs % 64) 0 (all-fit (entry-fits-at xs) (rows xs)) h
-
-pub listing-no : (xs : List ℕ) → (length xs % 64 ≡ 0 → ⊥) → false ≡ is-listing xs
-unfolding is-listing
-listing-no xs h = no-row (length xs % 64) 0 (all-fit (entry-fits-at xs) (rows xs)) h
-
 pub some-balance : (v : Ba.MaybeBalance) (x : Balance) → v ≡ Ba.the-variants.Some x → maybe-balance v ≡ some x
 some-balance v x e = ap maybe-balance e
 
@@ -187,4 +176,4 @@ module _ (xs ys : List ℕ) (b : Bool) (e : b ≡ whole true xs) where
       (subst (λ (o : Option ℕ). Enters (asked true xs (C.detach s)) (Unit {0}) (Said (account-was o)) 0 xs ys) (i .same)
       (entered xs b true true (Unit {0}) (Said (account-was (maybe-id v))) (C.detach s) refl e 0 ys t h))
 
-pub ruleset laws = (needs, both, both-no, is-whole-yes, is-whole-no, lent-between, message-sized, event-sized, command-sized, account-sized, entered, malformed-no, received, redelivered, replayed, joined, ended, levelled, collared, reason-yes, reason-no, listing-yes, listing-no, some-balance, no-balance, some-id, no-id, no-percent, a-percent, wallet-told, wallet-malformed, account-told)
+pub ruleset laws = (needs, is-whole-yes, is-whole-no, lent-between, message-sized, event-sized, command-sized, account-sized, entered, malformed-no, received, redelivered, replayed, joined, ended, levelled, collared, reason-yes, reason-no, some-balance, no-balance, some-id, no-id, no-percent, a-percent, wallet-told, wallet-malformed, account-told)

@@ -1,11 +1,8 @@
--- Numbers of the entry points as values: options, reasons, the answers of `wallet` and `detach`, and which rows are a book listing.
-use Prim.Native.Nat.{ℕ, _%_}
+-- Numbers of the entry points as values: options, reasons, the answers of `wallet` and `detach`.
+use Prim.Native.Nat.{ℕ}
 use mathlib.Core.Path.{_≡_}
-use mathlib.Core.Bool.{Bool, true, false, _&&_}
+use mathlib.Core.Bool.{Bool, true, false}
 use mathlib.Core.Option.{Option}
-use mathlib.Core.List.{List}
-use lib.Dec.{eqb, leb}
-use lib.ListN.{length}
 use lib.IntN.{pos}
 use Rattle.accounts.specs.declared.Timing.{Timing}
 use Rattle.protocol.specs.declared.Balance as B
@@ -17,9 +14,6 @@ use Rattle.balances.specs.declared.MaybeBalance as Ba
 use Rattle.balances.specs.Balances.{maybe-balance}
 use Rattle.commands.specs.declared.MaybeId as Id
 use Rattle.commands.specs.Commands.{maybe-id}
-use Rattle.listing.specs.declared.Entry.{Entry}
-use Rattle.listing.specs.Rows.{row-bytes, entry, rows}
-use Rattle.script.specs.Strict.{most-32, all-fit, are-accounts}
 use Rattle.edge.specs.declared.Wallet.{Wallet}
 use Rattle.edge.specs.declared.Account.{Account}
 
@@ -54,30 +48,7 @@ pub record IsAccount (b : Id.MaybeId) (a : Account) : Type 0 where
   pub code-is : a .code ≡ 0
   pub same : maybe-id b ≡ account-in a
 
--- ---- a book listing
-
--- the side, and whether there is a price
-abbrev pub flags-fit : Entry → Bool
-flags-fit e = leb (e .side) 1 && leb (e .priced) 1
-
-abbrev pub owner-fits : Entry → Bool
-owner-fits e = leb (e .owner) most-32 && flags-fit e
-
-abbrev pub entry-fits : Entry → Bool
-entry-fits e = leb (e .kind) 1 && owner-fits e
-
-abbrev pub entry-fits-at : List ℕ → ℕ → Bool
-entry-fits-at xs j = entry-fits (entry xs j)
-
--- whole rows, and each an entry
-unfoldable pub is-listing : List ℕ → Bool
-is-listing xs = eqb (length xs % row-bytes) 0 && all-fit (entry-fits-at xs) (rows xs)
-
 -- ---- what a start is given
 
 abbrev pub timing : (heartbeat idle-timeout : ℕ) → Timing
 timing heartbeat idle-timeout = record { heartbeat = heartbeat; «idle_timeout» = idle-timeout }
-
--- the rows of accounts and of the listing
-abbrev pub are-rows : (accounts list : List ℕ) → Bool
-are-rows accounts list = are-accounts accounts && is-listing list

@@ -1,8 +1,6 @@
 // The calls of document 01 for programs that link this library: the methods of `Exchange` of exchange.rs, on numbers and byte slices.
 // A slice arrives as its address and its length. Bytes that have not a state's length, a row of another length than its own, and a number outside
 // its enum or its integer type get 11 and change nothing. What the caller has to see to is document 01's premise alone (`Lent`).
-mod listings;
-
 use accounts::Timing;
 use balances::MaybeBalance;
 use commands::MaybeId;
@@ -10,7 +8,6 @@ use protocol::LogoutReason;
 use protocol::codes;
 use protocol::codes::MaybeLogoutReason;
 use risk::MaybePercent;
-use roster::Roster;
 use script::records;
 use script::strict;
 ghost use mathlib.Core.Path.{_≡_};
@@ -30,8 +27,8 @@ ghost use Rattle.saved.specs.Contents.{order-section};
 ghost use Rattle.script.specs.Script.{message-of, event-of};
 ghost use Rattle.script.specs.Strict.{is-message, is-event, is-command, is-account, are-accounts};
 ghost use Rattle.script.specs.Records.{command-of, account-of, accounts-in};
-ghost use Rattle.roster.specs.Rostered.{nobody, entered};
 ghost use Rattle.opening.specs.Starts.{Starts};
+ghost use Rattle.lists.specs.Lists.{is-listing, are-rows};
 ghost use Rattle.edge.specs.Entering.{Lent, whole, begins, asked, Gives, Lists, Writes, Says};
 ghost use Rattle.edge.specs.Values as P;
 
@@ -80,30 +77,6 @@ fn is_whole(m: &[u8], ok: bool) -> bool
 
 // ---- the start
 
-// The roster of the accounts in the rows.
-fn gather(limit: u64, accounts: &[u8]) -> Roster
-    ensures { λ r. ⌜ r ≡ entered limit nobody (accounts-in (now (accounts .entry))) ⌝ }
-{
-    let n = records::account_rows(accounts);
-    let mut r = roster::nobody();
-    let mut j: usize = 0;
-    while j < n {
-        let a = records::account_at(accounts, j);
-        r = roster::enter(r, limit, a);
-        j += 1;
-    }
-    r
-}
-
-fn are_rows(accounts: &[u8], list: &[u8]) -> bool
-    ensures { λ r. ⌜ r ≡ P.are-rows (now (accounts .entry)) (now (list .entry)) ⌝ }
-{
-    if strict::are_accounts(accounts) {
-        return listings::is_listing(list);
-    }
-    false
-}
-
 // `accounts` has rows of 7 words, and `list` is a book listing: the bytes become a state.
 #[no_mangle]
 pub extern "C" fn rowanchess_set_up(
@@ -115,14 +88,14 @@ pub extern "C" fn rowanchess_set_up(
     accounts: &[u8],
     list: &[u8],
 ) -> u64
-    ensures { λ r. ⌜ Starts (begins (P.are-rows (now (accounts .entry)) (now (list .entry))) (now (m .entry)) (set-up limit last (accounts-in (now (accounts .entry))) (listing (now (list .entry))) (P.timing heartbeat «idle_timeout»))) r (now (m .entry)) (now (m .exit)) ⌝ }
+    ensures { λ r. ⌜ Starts (begins (are-rows (now (accounts .entry)) (now (list .entry))) (now (m .entry)) (set-up limit last (accounts-in (now (accounts .entry))) (listing (now (list .entry))) (P.timing heartbeat «idle_timeout»))) r (now (m .entry)) (now (m .exit)) ⌝ }
 {
-    if is_whole(m, are_rows(accounts, list)) {
+    if is_whole(m, lists::are_rows(accounts, list)) {
         let timing = Timing {
             heartbeat,
             idle_timeout,
         };
-        let r = gather(limit, accounts);
+        let r = lists::gather(limit, accounts);
         return setup::set_up(m, limit, last, timing, r, list);
     }
     outcome::MALFORMED
@@ -145,7 +118,7 @@ pub extern "C" fn rowanchess_restore(
             heartbeat,
             idle_timeout,
         };
-        let r = gather(limit, accounts);
+        let r = lists::gather(limit, accounts);
         return restore::restore(m, limit, timing, r, bytes);
     }
     outcome::MALFORMED
@@ -513,9 +486,9 @@ pub extern "C" fn rowanchess_replay_event(m: &mut [u8], n: u64, row: &[u8]) -> u
 #[no_mangle]
 pub extern "C" fn rowanchess_finish(m: &mut [u8], list: &[u8]) -> u64
     requires { ⌜ Lent (now m) ⌝ }
-    ensures { λ r. ⌜ Says nothing (asked (P.is-listing (now (list .entry))) (now (m .entry)) (C.finish (listing (now (list .entry))))) r (now (m .entry)) (now (m .exit)) ⌝ }
+    ensures { λ r. ⌜ Says nothing (asked (is-listing (now (list .entry))) (now (m .entry)) (C.finish (listing (now (list .entry))))) r (now (m .entry)) (now (m .exit)) ⌝ }
 {
-    if is_whole(m, listings::is_listing(list)) {
+    if is_whole(m, lists::is_listing(list)) {
         return finish::finish(m, list);
     }
     outcome::MALFORMED

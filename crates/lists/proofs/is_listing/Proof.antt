@@ -1,7 +1,7 @@
-use Rattle.edge.proofs.Laws.{laws}
+use Rattle.lists.proofs.Laws.{laws}
 use borrow.Author.Needs.{needs}
-use Rattle.edge.proofs.listings.is_listing.Statement.{statement}
-use Rattle.edge.proofs.listings.is_listing.Tie as tie
+use Rattle.lists.proofs.is_listing.Statement.{statement}
+use Rattle.lists.proofs.is_listing.Tie as tie
 
 entries-fit-requires : tie.Need-entries-fit-requires
 entries-fit-requires c κs = search needs

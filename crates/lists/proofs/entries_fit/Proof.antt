@@ -6,9 +6,9 @@ use borrow.Author.Tests.{not-true, not-false}
 use Rattle.listing.specs.Rows.{rows}
 use Rattle.script.specs.Strict.{all-fit}
 use Rattle.script.proofs.Rows.{fits-not, fits-too, none-left}
-use Rattle.edge.specs.Values.{entry-fits, entry-fits-at}
-use Rattle.edge.proofs.listings.entries_fit.Statement.{statement}
-use Rattle.edge.proofs.listings.entries_fit.Tie as tie
+use Rattle.lists.specs.Lists.{entry-fits, entry-fits-at}
+use Rattle.lists.proofs.entries_fit.Statement.{statement}
+use Rattle.lists.proofs.entries_fit.Tie as tie
 
 abbrev Inv-loop : tie.InvT-loop
 Inv-loop list j₀ j = (j ≤ rows list) × (all-fit (entry-fits-at list) (rows list) ≡ all-fit (entry-fits-at list) j)

@@ -1,7 +1,7 @@
-use Rattle.edge.proofs.Laws.{laws}
+use Rattle.lists.proofs.Laws.{laws}
 use borrow.Author.Needs.{needs}
-use Rattle.edge.proofs.listings.owner_fits.Statement.{statement}
-use Rattle.edge.proofs.listings.owner_fits.Tie as tie
+use Rattle.lists.proofs.owner_fits.Statement.{statement}
+use Rattle.lists.proofs.owner_fits.Tie as tie
 
 at-most-requires : tie.Need-at-most-requires
 at-most-requires c κs = search needs

@@ -6,9 +6,9 @@ use Rattle.store.specs.View.{listed}
 use Rattle.roster.specs.declared.Roster.{Roster}
 use Rattle.roster.specs.Rostered.{nobody, entered}
 use Rattle.script.specs.Records.{account-rows, account-at}
-use Rattle.edge.proofs.Begins.{no-rows, one-row-more}
-use Rattle.edge.proofs.gather.Statement.{statement}
-use Rattle.edge.proofs.gather.Tie as tie
+use Rattle.lists.proofs.Laws.{no-rows, one-row-more}
+use Rattle.lists.proofs.gather.Statement.{statement}
+use Rattle.lists.proofs.gather.Tie as tie
 
 abbrev Inv-loop : tie.InvT-loop
 Inv-loop limit accounts n r₀ j₀ r j = (n ≡ account-rows accounts) × (j ≤ n) × (r ≡ entered limit nobody (listed (account-at accounts) j))

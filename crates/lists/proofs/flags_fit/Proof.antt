@@ -1,7 +1,7 @@
-use Rattle.edge.proofs.Laws.{laws}
+use Rattle.lists.proofs.Laws.{laws}
 use borrow.Author.Needs.{needs}
-use Rattle.edge.proofs.listings.flags_fit.Statement.{statement}
-use Rattle.edge.proofs.listings.flags_fit.Tie as tie
+use Rattle.lists.proofs.flags_fit.Statement.{statement}
+use Rattle.lists.proofs.flags_fit.Tie as tie
 
 at-most-requires : tie.Need-at-most-requires
 at-most-requires c κs = search needs

@@ -1,7 +1,7 @@
-use Rattle.edge.proofs.Laws.{laws}
+use Rattle.lists.proofs.Laws.{laws}
 use borrow.Author.Needs.{needs}
-use Rattle.edge.proofs.are_rows.Statement.{statement}
-use Rattle.edge.proofs.are_rows.Tie as tie
+use Rattle.lists.proofs.are_rows.Statement.{statement}
+use Rattle.lists.proofs.are_rows.Tie as tie
 
 are-accounts-requires : tie.Need-are-accounts-requires
 are-accounts-requires c κs = search needs

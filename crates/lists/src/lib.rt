@@ -1,11 +1,17 @@
-// Whether the rows of a book listing are entries: whole rows, and each kind, owner, side and flag in its range.
+// The lists that a start and `finish` are handed, in rows: whether each row is one, and the accounts gathered.
 use listing::Entry;
+use roster::Roster;
+use script::records;
 use script::strict;
 ghost use mathlib.Core.Path.{_≡_};
 ghost use lib.Dec.{leb};
 ghost use Rattle.listing.specs.Rows.{rows};
 ghost use Rattle.script.specs.Strict.{all-fit};
-ghost use Rattle.edge.specs.Values as P;
+ghost use Rattle.script.specs.Records.{accounts-in};
+ghost use Rattle.roster.specs.Rostered.{nobody, entered};
+ghost use Rattle.lists.specs.Lists as P;
+
+// ---- a book listing: whole rows, and each kind, owner, side and flag in its range
 
 fn at_most(w: u64, most: u64) -> bool
     ensures { λ r. ⌜ r ≡ leb w most ⌝ }
@@ -59,6 +65,32 @@ pub fn is_listing(list: &[u8]) -> bool
 {
     if list.len() % listing::ROW == 0 {
         return entries_fit(list);
+    }
+    false
+}
+
+// ---- what a start is handed
+
+// The roster of the accounts in the rows.
+pub fn gather(limit: u64, accounts: &[u8]) -> Roster
+    ensures { λ r. ⌜ r ≡ entered limit nobody (accounts-in (now (accounts .entry))) ⌝ }
+{
+    let n = records::account_rows(accounts);
+    let mut r = roster::nobody();
+    let mut j: usize = 0;
+    while j < n {
+        let a = records::account_at(accounts, j);
+        r = roster::enter(r, limit, a);
+        j += 1;
+    }
+    r
+}
+
+pub fn are_rows(accounts: &[u8], list: &[u8]) -> bool
+    ensures { λ r. ⌜ r ≡ P.are-rows (now (accounts .entry)) (now (list .entry)) ⌝ }
+{
+    if strict::are_accounts(accounts) {
+        return is_listing(list);
     }
     false
 }
