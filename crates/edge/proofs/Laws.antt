@@ -43,13 +43,13 @@ use Rattle.edge.specs.Values.{is-reason, reason-or, wallet-in, no-wallet
 
 -- ---- the length
 
-pub is-whole-yes : (ok : Bool) (xs : List ℕ) → length xs ≡ 467200 → ok ≡ whole ok xs
+pub is-whole-yes : (ok : Bool) (xs : List ℕ) → length xs ≡ 565504 → ok ≡ whole ok xs
 unfolding whole
-is-whole-yes ok xs h = rw (eq-eqb (length xs) 467200 h) refl
+is-whole-yes ok xs h = rw (eq-eqb (length xs) 565504 h) refl
 
-pub is-whole-no : (ok : Bool) (xs : List ℕ) → (length xs ≡ 467200 → ⊥) → false ≡ whole ok xs
+pub is-whole-no : (ok : Bool) (xs : List ℕ) → (length xs ≡ 565504 → ⊥) → false ≡ whole ok xs
 unfolding whole
-is-whole-no ok xs h = rw (ne-eqb (length xs) 467200 h) refl
+is-whole-no ok xs h = rw (ne-eqb (length xs) 565504 h) refl
 
 module _ (xs : List ℕ) (b d : Bool) (e : b ≡ whole d xs) (t : b ≡ true) where
   parts : (eqb (length xs) (8 * cells) ≡ true) × (d ≡ true)

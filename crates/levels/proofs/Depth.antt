@@ -4,20 +4,17 @@ use Prim.Native.Nat.{ℕ, zero, suc, _<_, _≤_}
 use mathlib.Core.Path.{_≡_, refl, sym, ap, _∙_}
 use mathlib.Core.Bool.{true}
 use mathlib.Core.Option.{some}
-use mathlib.Core.List.{List, [], _∷_, _++_}
-use native.Mathlib.Numerals.{add-one}
+use mathlib.Core.List.{List, [], _∷_, _++_, append-nil}
 use native.Mathlib.Omega.{arith}
-use lib.ListN.{length, length-append}
 use Rattle.orderbook.specs.declared.Side.{Side}
-use Rattle.table.specs.Live.{Each, live, look, insert, replace, without, Ascends}
+use Rattle.table.specs.Live.{Each, pick, live, look, insert, replace, without, Ascends}
 use Rattle.table.proofs.Live.{each-live}
 use Rattle.gateway.specs.Ledger.{same-side}
 use Rattle.gateway.specs.Depth.{Resting, resting-number, joined, levels}
 use Rattle.gateway.proofs.Levels.{parted, reshown, levels-insert, levels-without, levels-replace}
 use Rattle.store.specs.Layout.{cell}
-use Rattle.store.specs.View.{Store}
 use Rattle.levels.specs.declared.Row.{Row}
-use Rattle.levels.specs.Levels.{key, row, size, entries, price, best, added, shown, removed, Table, Did}
+use Rattle.levels.specs.Levels.{key, orders, row, used, entries, price, best, added, shown, removed, Table, Did}
 use Rattle.levels.proofs.Best.{best-added, best-shown, best-removed}
 use Rattle.gateway.specs.Table.{Rises}
 
@@ -25,25 +22,20 @@ rises-more : (a : ℕ) (l : List Row) (y : Row) → Rises key a l → Each (λ r
 rises-more a [] y t e h = (h, tt)
 rises-more a (x ∷ l) y t e h = (t .0, rises-more (suc (x .key)) l y (t .1) (e .1) (e .0))
 
-rises-live : (f : ℕ → Row) (n : ℕ) → Ascends key f n → Rises key 0 (live (λ r. 1) f n)
+rises-pick : (m : ℕ) (l : List Row) (y : Row) → Rises key 0 l → Each (λ r. key r < key y) l → Rises key 0 (l ++ pick m y)
+rises-pick zero l y t e = rw (append-nil l) t
+rises-pick (suc m) l y t e = rises-more 0 l y t e (omega arith)
+
+rises-live : (f : ℕ → Row) (n : ℕ) → Ascends key f n → Rises key 0 (live orders f n)
 unfolding live
 rises-live f zero s = tt
 rises-live f (suc n) s =
-    rises-more 0 (live (λ r. 1) f n) (f n) (rises-live f n (λ i j h l. s i j h (omega arith)))
-    (each-live (λ r. 1) (λ r. key r < key (f n)) f n (λ j l m. s j n l (omega arith))) (omega arith)
+    rises-pick (f n .orders) (live orders f n) (f n) (rises-live f n (λ i j h l. s i j h (omega arith)))
+    (each-live orders (λ r. key r < key (f n)) f n (λ j l m. s j n l (omega arith)))
 
 pub entries-rise : (s : Side) {xs : List ℕ} → Table s xs → Rises key 0 (entries s (cell xs))
 unfolding entries
-entries-rise s {xs} t = rises-live (row s (cell xs)) (size s (cell xs)) (t .asc)
-
-live-length : (f : ℕ → Row) (n : ℕ) → length (live (λ r. 1) f n) ≡ n
-unfolding live
-live-length f zero = refl
-live-length f (suc n) = length-append (live (λ r. 1) f n) (f n ∷ []) ∙ add-one (length (live (λ r. 1) f n)) ∙ ap suc (live-length f n)
-
-pub entries-length : (s : Side) (t : Store) → length (entries s t) ≡ size s t
-unfolding entries
-entries-length s t = live-length (row s t) (size s t)
+entries-rise s {xs} t = rises-live (row s (cell xs)) (used s (cell xs)) (t .asc)
 
 -- xs holds the levels of a side of os
 abbrev pub Holding : Side → List ℕ → List Resting → Type 0

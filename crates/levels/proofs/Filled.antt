@@ -1,69 +1,65 @@
 -- The levels of a side by value: the places filled so far, and all of them. Assumes nothing.
 use mathlib.Core.Path.{_≡_, refl, sym, ap, ap₂, _∙_}
-use mathlib.Core.List.{List, [], _∷_, _++_, map, map-append}
+use mathlib.Core.List.{List, [], _∷_, _++_, map, map-append, append-nil}
 use Prim.Native.Nat.{ℕ, zero, suc, _+_, _-_, _≤_, _<_}
+use native.Mathlib.Numerals.{add-one}
 use native.Mathlib.Omega.{arith}
-use lib.ListN.{length, getD, take, drop, set, replicate, length-set, List·getD-map}
-use lib.Seq.{drop-drop, drop-set-lt, getD-take}
+use lib.ListN.{length, length-append, length-map, getD, take, drop, set, replicate, length-set, List·getD-map}
+use lib.Seq.{drop-drop, drop-set-lt, getD-take, take-suc-set}
 use Rattle.orderbook.specs.declared.Side.{Side}
 use Rattle.orderbook.specs.declared.Side.the-variants.{Buy, Sell}
-use Rattle.table.specs.Live.{live}
+use Rattle.table.specs.Live.{pick, live}
+use Rattle.table.proofs.Live.{live-ext, live-more, live-dead, live-few}
+use Rattle.table.proofs.Packed.{live-front}
 use Rattle.gateway.specs.Limits.{most-levels}
 use Rattle.gateway.specs.Depth as Depth
-use Rattle.store.specs.View.{Store, Bounds, listed}
-use Rattle.store.proofs.Listed.{listed-ext, front-more}
+use Rattle.store.specs.View.{Store}
 use Rattle.levels.specs.declared.Row.{Row}
 use Rattle.levels.specs.declared.listed.Level.{Level}
 use Rattle.levels.proofs.Best.{best-length}
-use Rattle.levels.proofs.Depth.{entries-length}
-use Rattle.levels.specs.Levels.{row, size, entries, level, best}
+use Rattle.levels.specs.Levels.{orders, row, used, size, entries, level, best}
 use Rattle.levels.specs.Listed.{side-of, nth, level-of, nothing, seen, Lists}
 
 -- ---- the levels by their places
-
-listed-first : {A : Type 0} (f : ℕ → A) (n : ℕ) → listed f (suc n) ≡ f 0 ∷ listed (λ j. f (suc j)) n
-unfolding listed
-listed-first f zero = refl
-listed-first f (suc n) = ap (λ l. l ++ (f (suc n) ∷ [])) (listed-first f n)
-
-listed-map : {A B : Type 0} (g : A → B) (f : ℕ → A) (n : ℕ) → map g (listed f n) ≡ listed (λ j. g (f j)) n
-unfolding listed
-listed-map g f zero = refl
-listed-map g f (suc n) = map-append g (listed f n) (f n ∷ []) ∙ ap (λ l. l ++ (g (f n) ∷ [])) (listed-map g f n)
-
-last-ask : (l : List Row) (r : Row) → best Sell (l ++ (r ∷ [])) ≡ best Sell l ++ (level r ∷ [])
-last-ask [] r = refl
-last-ask (x ∷ l) r = ap (λ m. level x ∷ m) (last-ask l r)
 
 last-bid : (l : List Row) (r : Row) → best Buy (l ++ (r ∷ [])) ≡ level r ∷ best Buy l
 last-bid [] r = refl
 last-bid (x ∷ l) r = ap (λ m. m ++ (level x ∷ [])) (last-bid l r)
 
-pub best-nth : (z : Side) (f : ℕ → Row) (n : ℕ) → best z (live (λ r. 1) f n) ≡ listed (λ j. level (f (nth z n j))) n
-unfolding live listed
-best-nth Sell f zero = refl
-best-nth Sell f (suc n) = last-ask (live (λ r. 1) f n) (f n) ∙ ap (λ l. l ++ (level (f n) ∷ [])) (best-nth Sell f n)
-best-nth Buy f zero = refl
-best-nth Buy f (suc n) =
-    last-bid (live (λ r. 1) f n) (f n) ∙ ap (λ l. level (f n) ∷ l) (best-nth Buy f n)
+best-asks : (l : List Row) → best Sell l ≡ map level l
+best-asks [] = refl
+best-asks (r ∷ l) = ap (λ m. level r ∷ m) (best-asks l)
+
+best-pick : (m : ℕ) (l : List Row) (r : Row) → best Buy (l ++ pick m r) ≡ map level (pick m r) ++ best Buy l
+best-pick zero l r = ap (best Buy) (append-nil l)
+best-pick (suc m) l r = last-bid l r
+
+-- best first, they are the live ones of the rows from the best on
+pub best-live : (z : Side) (f : ℕ → Row) (n : ℕ) → best z (live orders f n) ≡ map level (live orders (λ j. f (nth z n j)) n)
+unfolding live
+best-live Sell f n = best-asks (live orders f n)
+best-live Buy f zero = refl
+best-live Buy f (suc n) =
+    best-pick (f n .orders) (live orders f n) (f n)
+    ∙ ap (λ l. map level (pick (f n .orders) (f n)) ++ l) (best-live Buy f n)
     ∙ sym
-    (listed-first (λ j. level (f (nth Buy (suc n) j))) n
-    ∙ ap₂ (λ (x : Depth.Level) (l : List Depth.Level). x ∷ l) (at (suc n - 1 - 0) n (omega arith))
-    (listed-ext (λ j. level (f (nth Buy n j))) (λ j. level (f (nth Buy (suc n) (suc j)))) n (λ j h. at (suc n - 1 - suc j) (n - 1 - j) (omega arith))))
+    (ap (map level)
+    (live-front orders (λ j. f (nth Buy (suc n) j)) n
+    ∙ ap₂ (λ (r : Row) (l : List Row). pick (r .orders) r ++ l) (at (suc n - 1 - 0) n (omega arith))
+    (live-ext orders (λ j. f (nth Buy n j)) (λ j. f (nth Buy (suc n) (suc j))) n (λ j h. at (suc n - 1 - suc j) (n - 1 - j) (omega arith))))
+    ∙ map-append level (pick (f n .orders) (f n)) (live orders (λ j. f (nth Buy n j)) n))
   where
-    at : (i j : ℕ) → i ≡ j → level (f i) ≡ level (f j)
-    at i j e = ap (λ k. level (f k)) e
+    at : (i j : ℕ) → i ≡ j → f i ≡ f j
+    at i j e = ap f e
 
-pub best-size : (z : Side) (s : Store) → length (best z (entries z s)) ≡ size z s
-best-size z s = best-length z (entries z s) ∙ entries-length z s
+-- ---- i of n rows are looked at, from the best on: their k levels stand in l
 
--- ---- the first i of n places of l are filled
-
-pub record Filled (z : Side) (s : Store) (n i : ℕ) (l : List Level) : Type 0 where
+pub record Filled (z : Side) (s : Store) (n i k : ℕ) (l : List Level) : Type 0 where
   pub within : i ≤ n
+  pub count : k ≡ length (live orders (λ j. row z s (nth z n j)) i)
   pub long : length l ≡ most-levels
-  pub front : take i l ≡ listed (λ j. level-of (row z s (nth z n j))) i
-  pub behind : drop i l ≡ replicate (most-levels - i) nothing
+  pub front : map seen (take k l) ≡ map level (live orders (λ j. row z s (nth z n j)) i)
+  pub behind : drop k l ≡ replicate (most-levels - k) nothing
 
 fewer : (l : List Level) (i : ℕ) → i < most-levels → drop i l ≡ replicate (most-levels - i) nothing → drop (i + 1) l ≡ replicate (most-levels - (i + 1)) nothing
 fewer l i h e =
@@ -71,26 +67,48 @@ fewer l i h e =
     sym (drop-drop 1 i l) ∙ ap (drop 1) (e ∙ ap (λ n. replicate n nothing) m)
 
 module _ (z : Side) (s : Store) (n : ℕ) where
-  pub none-filled : Filled z s n 0 (replicate most-levels nothing)
-  unfolding listed
-  none-filled = record { within = omega arith; long = refl; front = refl; behind = refl }
+  pub none-filled : Filled z s n 0 0 (replicate most-levels nothing)
+  unfolding live
+  none-filled = record { within = omega arith; count = refl; long = refl; front = refl; behind = refl }
 
-  pub one-filled : (i k : ℕ) (l : List Level) (r : Row) (v : Level) → Filled z s n i l → i < n → n ≤ most-levels → k ≡ nth z n i → r ≡ row z s k → v ≡ level-of r → Filled z s n (i + 1) (set l i v)
-  one-filled i k l r v f h w p q e =
-      record {
-        within = omega arith;
-        long = length-set l i v ∙ f .long;
-        front = front-more _ l i v (omega (arith, f .long)) (f .front) (e ∙ ap level-of (q ∙ ap (row z s) p));
-        behind = drop-set-lt (i + 1) l i v (omega arith) ∙ fewer l i (omega arith) (f .behind);
-      }
+  pub filled-few : (i k : ℕ) (l : List Level) → Filled z s n i k l → k ≤ i
+  filled-few i k l f = omega (arith, f .count, live-few orders (λ j. row z s (nth z n j)) i)
 
-  pub all-filled : (i : ℕ) (l : List Level) → Filled z s n i l → n ≤ i → n ≡ size z s → Lists z s l
+  module _ (i k p : ℕ) (l : List Level) (r : Row) (f : Filled z s n i k l) (h : i < n) (p-is : p ≡ nth z n i) (r-is : r ≡ row z s p) where
+    row-is : row z s (nth z n i) ≡ r
+    row-is = sym (r-is ∙ ap (row z s) p-is)
+
+    pub one-skipped : r .orders ≡ 0 → Filled z s n (i + 1) k l
+    one-skipped d =
+        let e = live-dead orders (λ j. row z s (nth z n j)) i (ap orders row-is ∙ d) in
+        record { within = omega arith; count = f .count ∙ ap length (sym e); long = f .long; front = f .front ∙ ap (map level) (sym e); behind = f .behind }
+
+    pub one-filled : (v : Level) → (r .orders ≡ 0 → ⊥) → n ≤ most-levels → v ≡ level-of r → Filled z s n (i + 1) (k + 1) (set l k v)
+    one-filled v d w e =
+        let m = live-more orders (λ j. row z s (nth z n j)) i (omega (arith, d, ap orders row-is)) in
+        let few = filled-few i k l f in
+        record {
+          within = omega arith;
+          count = omega (arith, f .count, ap length m, length-append (live orders (λ j. row z s (nth z n j)) i) (row z s (nth z n i) ∷ []));
+          long = length-set l k v ∙ f .long;
+          front =
+              ap (map seen) (ap (λ y. take y (set l k v)) (add-one k) ∙ take-suc-set l k v (omega (arith, f .long, few)))
+              ∙ map-append seen (take k l) (v ∷ [])
+              ∙ ap₂ (λ (a : List Depth.Level) (x : Level). a ++ (seen x ∷ [])) (f .front) (e ∙ ap level-of (sym row-is))
+              ∙ sym (ap (map level) m ∙ map-append level (live orders (λ j. row z s (nth z n j)) i) (row z s (nth z n i) ∷ []));
+          behind = drop-set-lt (k + 1) l k v (omega arith) ∙ fewer l k (omega (arith, few)) (f .behind);
+        }
+
+  pub all-filled : (i k : ℕ) (l : List Level) → Filled z s n i k l → n ≤ i → n ≡ used z s → size z s ≡ length (entries z s) → Lists z s l
   unfolding entries
-  all-filled i l f h e =
-      let m : i ≡ size z s = omega (arith, f .within) in
+  all-filled i k l f h e c =
+      let m : i ≡ used z s = omega (arith, f .within) in
+      let q : n ≡ i = omega (arith, f .within) in
+      let b : best z (live orders (row z s) i) ≡ map level (live orders (λ j. row z s (nth z n j)) i) = rw q (best-live z (row z s) i) in
+      let k-is : k ≡ size z s = omega (arith, f .count, c, ap length (ap (live orders (row z s)) m), best-length z (live orders (row z s) i), ap length b, length-map (live orders (λ j. row z s (nth z n j)) i) level) in
       record {
-        levels = ap (λ k. map seen (take k l)) (sym m) ∙ ap (map seen) (f .front) ∙ listed-map seen _ i ∙ rw (m, e) (sym (best-nth z (row z s) (size z s)));
-        rest = rw (← m) (f .behind);
+        levels = ap (λ y. map seen (take y l)) (sym k-is) ∙ f .front ∙ sym b ∙ ap (λ y. best z (live orders (row z s) y)) m;
+        rest = rw (← k-is) (f .behind);
       }
 
 -- the element i is the level i
@@ -99,11 +117,6 @@ level-is z s l p i h =
     sym (List·getD-map seen (take (size z s) l) i nothing ∙ ap seen (getD-take (size z s) l i nothing h)) ∙ ap (λ ls. getD ls i (seen nothing)) (p .levels)
 
 -- ---- both sides
-
-pub few : (z : Side) {s : Store} → Bounds s → size z s ≤ most-levels
-unfolding size
-few Buy b = b .bids-fit
-few Sell b = b .asks-fit
 
 pub both-listed : (s : Store) (b a : List Level) → Lists Buy s b → Lists Sell s a → (z : Side) → Lists z s (side-of (b ∷ a ∷ []) z)
 both-listed s b a p q Buy = p

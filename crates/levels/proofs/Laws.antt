@@ -1,33 +1,35 @@
 -- What each operation makes of a side's levels, from the laws of `table` and of the layout. Assumes nothing.
-use mathlib.Core.Path.{_≡_, refl, sym, ap, subst, _∙_}
-use mathlib.Core.Logic.{⊎-elim}
-use mathlib.Core.Bool.{true, false}
+use mathlib.Core.Path.{_≡_, refl, sym, ap, ap₂, subst, _∙_}
+use mathlib.Core.Logic.{inr, ⊎-elim}
+use mathlib.Core.Bool.{true, false, not}
 use mathlib.Core.List.{List, [], _∷_}
 use mathlib.Core.Option.{Option, none, some}
 use Prim.Native.Nat.{ℕ, suc, _+_, _*_, _-_, _≤_, _<_}
+use native.Mathlib.Nat.{eq-or-lt-of-le}
 use native.Mathlib.Omega.{arith}
 use borrow.Author.Tests.{eq-eqb, ne-eqb, lt-ltb, le-ltb}
-use lib.Dec.{ltb}
+use lib.Dec.{eqb, ltb}
 use lib.ListN.{length, getD}
 use Rattle.orderbook.specs.declared.Side.{Side}
 use Rattle.orderbook.specs.declared.Side.the-variants.{Buy, Sell}
 use Rattle.le.specs.Le.{le, put, Outside, Local}
 use Rattle.le.specs.Row.{puts, Fit}
-use Rattle.le.proofs.Laws.{lt-or-le, outside-trans, outside-wider, local-wider, local-map}
+use Rattle.le.proofs.Laws.{lt-or-le, outside-trans, outside-wider, local-wider, local-map, local-outside}
 use Rattle.le.proofs.Rows.{outside-puts, gets-local, gets-puts}
 use Rattle.table.specs.Live.{live, look, insert, replace, without, Ascends, Gap, Changed}
 use Rattle.table.specs.Table.{keyAt, rows, Sorted, Between, Opened, Closed}
-use Rattle.table.proofs.Live.{same?, live-ext, live-insert, live-close, live-replace, look-some, look-none, ascends-ext, ascends-change, ascends-open, ascends-close}
+use Rattle.table.proofs.Lists.{insert-length, replace-length}
+use Rattle.table.proofs.Live.{same?, live-ext, live-few, live-all, live-some, live-insert, live-strike, live-struck, live-replace, live-over, live-under, look-some, look-none, ascends-ext, ascends-change, ascends-open, ascends-close, ascends-join, gap-end}
 use Rattle.table.proofs.Search.{between-above, finds-none}
-use Rattle.table.proofs.Readers.{row-changed, opened-gap, closed-gap}
+use Rattle.table.proofs.Readers.{row-changed, row-other, opened-gap, closed-gap}
 use Rattle.gateway.specs.Limits.{most-levels}
 use Rattle.store.specs.Cells as C
-use Rattle.store.specs.Layout.{blocks, start, spot, cell, Cell, Set, starts, cells}
+use Rattle.store.specs.Layout.{blocks, start, spot, cell, store, Cell, Holds, Set, starts, cells}
 use Rattle.store.specs.View.{word}
 use Rattle.store.proofs.Places.{header-cell, bid-cell, ask-cell, cell-block, cell-same, cell-other}
 use Rattle.levels.specs.declared.Row.{Row}
 use Rattle.levels.specs.Rows.{widths, values, made, read}
-use Rattle.levels.specs.Levels.{block, count, base, key, row, size, entries, opened, one-more, changed, one-less, added, shown, removed, Joins, CanAdd, CanShow, CanRemove, Table, Did, Sought, IsFirst, IsAt, Place}
+use Rattle.levels.specs.Levels.{block, used-cell, size-cell, base, key, orders, row, used, size, entries, grown, opened, one-more, changed, one-less, added, shown, removed, Joins, CanAdd, CanShow, CanRemove, Table, Recounted, Did, Sought, IsFirst, IsAt, Place, Next}
 use Rattle.words.specs.Words.{modulus}
 
 -- ---- the block in bytes
@@ -46,9 +48,17 @@ block-below : (s : Side) → block s < blocks
 block-below Buy = omega arith
 block-below Sell = omega arith
 
-pub count-cell : (s : Side) → Cell C.header 0 (count s)
-count-cell Buy = header-cell C.bid-levels (omega arith)
-count-cell Sell = header-cell C.ask-levels (omega arith)
+pub used-place : (s : Side) → Cell C.header 0 (used-cell s)
+used-place Buy = header-cell C.bid-rows (omega arith)
+used-place Sell = header-cell C.ask-rows (omega arith)
+
+pub size-place : (s : Side) → Cell C.header 0 (size-cell s)
+size-place Buy = header-cell C.bid-levels (omega arith)
+size-place Sell = header-cell C.ask-levels (omega arith)
+
+apart : (s : Side) → used-cell s ≡ size-cell s → ⊥
+apart Buy e = omega arith
+apart Sell e = omega arith
 
 pub block-cell : (s : Side) (i k : ℕ) → i < most-levels → k < 4 → Cell (block s) i k
 block-cell Buy i k h l = bid-cell i k h l
@@ -85,11 +95,11 @@ module _ (s : Side) (xs : List ℕ) where
   unfolding read
   keys-at = λ z j. row-at j z .key
 
-  pub sorted : {n : ℕ} → Table s xs → n ≡ size s (cell xs) → Sorted (base s) 32 n xs
+  pub sorted : {n : ℕ} → Table s xs → n ≡ used s (cell xs) → Sorted (base s) 32 n xs
   sorted {n} t e =
       record {
         room = record { fits = omega (arith, t .holds, t .few, base-fits s); wide = omega arith; words = refl };
-        asc = rw e (subst (λ ks. Ascends (λ k. k) ks (size s (cell xs))) (sym keys-at) (t .asc));
+        asc = rw e (subst (λ ks. Ascends (λ k. k) ks (used s (cell xs))) (sym keys-at) (t .asc));
       }
 
 read-local : Local 32 read
@@ -103,100 +113,244 @@ elsewhere s p c ne = cell-block (block s) (block-below s) (rw (block-from s, blo
 -- ---- what is found
 
 module _ (s : Side) {xs : List ℕ} (t : Table s xs) {k i : ℕ} (b : Sought s xs k i) where
-  pub at-some : i < size s (cell xs) → row s (cell xs) i .key ≡ k → look key k (entries s (cell xs)) ≡ some (row s (cell xs) i)
+  pub at-some : i < used s (cell xs) → row s (cell xs) i .key ≡ k → 0 < row s (cell xs) i .orders → look key k (entries s (cell xs)) ≡ some (row s (cell xs) i)
   unfolding entries
-  at-some h e = look-some (λ r. 1) key (row s (cell xs)) k i (size s (cell xs)) (t .asc) h e (omega arith)
+  at-some h e l = look-some orders key (row s (cell xs)) k i (used s (cell xs)) (t .asc) h e l
 
-  pub at-none : (i < size s (cell xs) → row s (cell xs) i .key ≡ k → ⊥) → look key k (entries s (cell xs)) ≡ none
+  pub at-none : (i < used s (cell xs) → row s (cell xs) i .key ≡ k → row s (cell xs) i .orders ≡ 0) → look key k (entries s (cell xs)) ≡ none
   unfolding entries
-  at-none d =
-      look-none (λ r. 1) key (row s (cell xs)) k (size s (cell xs))
-      (finds-none (λ j. 1) (t .asc) b (λ h e. absurd (d h e)))
+  at-none d = look-none orders key (row s (cell xs)) k (used s (cell xs)) (finds-none (λ j. row s (cell xs) j .orders) (t .asc) b d)
 
 -- ---- what is written
 
 module _ (s : Side) {xs : List ℕ} (t : Table s xs) where
-  -- a row changes, and not its key
-  pub replace-did : {ys : List ℕ} (i : ℕ) (r : Row) → i < size s (cell xs) → Fit widths (values r) → r .key ≡ row s (cell xs) i .key →
-      ys ≡ puts widths xs (base s + 32 * i) (values r) → Did s xs ys (replace key r (entries s (cell xs)))
-  unfolding entries size read
-  replace-did {ys} i r h f e w =
-      let o : ℕ = base s + 32 * i in
-      let p : Outside o (o + 32) xs ys = rw w (outside-puts o (o + 32) widths xs o (values r) (omega arith) (omega arith)) in
-      let q : Outside (base s) (base s + 16384) xs ys = outside-wider (base s) (base s + 16384) (omega arith) (omega (arith, t .few)) p in
-      let c : word (cell ys) (count s) ≡ word (cell xs) (count s) = elsewhere s q (count-cell s) (header-not-block s) in
-      let here : row s (cell ys) i ≡ r =
-      sym (row-at s ys i) ∙ ap (λ zs. read zs o) w ∙ ap made (gets-puts widths xs o (values r) f (omega (arith, t .holds, t .few, base-fits s))) in
-      let g : Changed (row s (cell xs)) (row s (cell ys)) (word (cell xs) (count s)) i =
-      rw (rows-at s xs, rows-at s ys) at (row-changed read-local (base s) h p) in
-      let same : row s (cell ys) i .key ≡ row s (cell xs) i .key = ap key here ∙ e in
-      record {
-        table = record {
-          holds = rw (q .len) (t .holds);
-          few = rw c (t .few);
-          asc = rw c (ascends-change key g same (t .asc));
-        };
-        list = rw c (live-replace (λ r. 1) key g (t .asc) same (omega arith) (omega arith) ∙ ap (λ x. replace key x (entries s (cell xs))) here);
-        kept = λ b j k z ne nc. elsewhere s q z ne;
-      }
-
-  -- the block changed, and then the count
-  counted-did : {ys zs : List ℕ} {l : List Row} (v : ℕ) → Outside (base s) (base s + 16384) xs ys → Set ys zs C.header 0 (count s) v → v ≤ most-levels →
-      Ascends key (row s (cell ys)) v → live (λ r. 1) (row s (cell ys)) v ≡ l → Did s xs zs l
-  unfolding entries size
-  counted-did {ys} {zs} v q w few asc e =
-      let other : (b i k : ℕ) → Cell b i k → (b ≡ C.header → k ≡ count s → ⊥) → cell zs b i k ≡ cell ys b i k =
-      λ b i k z ne. ap (λ us. cell us b i k) (w .exact) ∙ cell-other ys v (count-cell s) z (λ a _ c. ne (sym a) (sym c)) in
-      let c : word (cell zs) (count s) ≡ v =
-      ap (λ us. cell us C.header 0 (count s)) (w .exact) ∙ cell-same ys v (count-cell s) (rw (q .len) (t .holds)) (w .fits) in
-      let mine : (i k : ℕ) → i < v → k < 4 → cell zs (block s) i k ≡ cell ys (block s) i k =
-      λ i k h l. other (block s) i k (block-cell s i k (omega arith) l) (λ a _. header-not-block s (sym a)) in
-      let same : (j : ℕ) → j < v → row s (cell zs) j ≡ row s (cell ys) j =
+  -- the block changed, and then the counts
+  recounted-did : {ys zs : List ℕ} {l : List Row} (u v : ℕ) → Outside (base s) (base s + 16384) xs ys → Recounted s ys zs u v → u ≤ most-levels →
+      Ascends key (row s (cell ys)) u → live orders (row s (cell ys)) u ≡ l → v ≡ length l → Did s xs zs l
+  unfolding entries
+  recounted-did {ys} {zs} {l} u v q w few asc e n =
+      let mine : (i k : ℕ) → i < u → k < 4 → cell zs (block s) i k ≡ cell ys (block s) i k =
+      λ i k h m. w .kept (block s) i k (block-cell s i k (omega arith) m) (λ a _. header-not-block s (sym a), λ a _. header-not-block s (sym a)) in
+      let same : (j : ℕ) → j < u → row s (cell zs) j ≡ row s (cell ys) j =
       λ j h. λ z. record { key = mine j 0 h (omega arith) z; qty = mine j 1 h (omega arith) z; orders = mine j 2 h (omega arith) z } in
+      let list : entries s (cell zs) ≡ l = rw (w .used-is) (live-ext orders (row s (cell ys)) (row s (cell zs)) u same ∙ e) in
       record {
         table = record {
           holds = w .holds;
-          few = rw c few;
-          asc = rw c (ascends-ext key (row s (cell ys)) (row s (cell zs)) v (λ j h. ap key (same j h)) asc);
+          few = rw (w .used-is) few;
+          asc = rw (w .used-is) (ascends-ext key (row s (cell ys)) (row s (cell zs)) u (λ j h. ap key (same j h)) asc);
+          counted = w .size-is ∙ n ∙ ap length (sym list);
         };
-        list = rw c (live-ext (λ r. 1) (row s (cell ys)) (row s (cell zs)) v same ∙ e);
-        kept = λ b i k z ne nc. other b i k z nc ∙ elsewhere s q z ne;
+        list = list;
+        kept = λ b i k z ne no. w .kept b i k z no ∙ elsewhere s q z ne;
       }
 
-  pub without-did : {ys zs : List ℕ} (n b i : ℕ) → n ≡ size s (cell xs) → b ≡ base s → Closed b 32 n i xs ys → Set ys zs C.header 0 (count s) (n - 1) →
-      Did s xs zs (without key (row s (cell xs) i .key) (entries s (cell xs)))
-  unfolding entries
-  without-did {ys} n b i e h d w =
-      let c : Closed (base s) 32 n i xs ys = rw h at d in
-      let m : n ≡ n - 1 + 1 = omega (arith, c .inside) in
-      let g : Gap (row s (cell ys)) (row s (cell xs)) (n - 1) i = rw (rows-at s xs, rows-at s ys) at (closed-gap read-local (base s) (n - 1) m c) in
-      let a : Ascends key (row s (cell xs)) (n - 1 + 1) = rw (← m, e) (t .asc) in
-      counted-did (n - 1) (outside-wider (base s) (base s + 16384) (omega arith) (omega (arith, t .few)) (c .frame)) w (omega (arith, t .few))
-      (ascends-close key g a) (live-close (λ r. 1) key g a ∙ rw (← m, e))
+  module _ {ys : List ℕ} (i : ℕ) (r : Row) (h : i < used s (cell xs)) (f : Fit widths (values r)) (w : ys ≡ puts widths xs (base s + 32 * i) (values r)) where
+    row-out : Outside (base s + 32 * i) (base s + 32 * i + 32) xs ys
+    row-out = rw w (outside-puts (base s + 32 * i) (base s + 32 * i + 32) widths xs (base s + 32 * i) (values r) (omega arith) (omega arith))
 
-pub insert-did : (s : Side) {xs ys zs us : List ℕ} (n b i k v : ℕ) → Place s xs k i → k < modulus → v < modulus → n ≡ size s (cell xs) → b ≡ base s → Opened b 32 n i xs ys →
-    zs ≡ puts widths ys (base s + 32 * i) (values (opened k v)) → Set zs us C.header 0 (count s) (n + 1) → Did s xs us (insert key (opened k v) (entries s (cell xs)))
-unfolding entries read
-insert-did s {xs} {ys} {zs} n b i k v p kf vf e h d w u =
-    let o : Opened (base s) 32 n i xs ys = rw h at d in
-    let t = p .table in
-    let at : ℕ = base s + 32 * i in
-    let f : Outside at (at + 32) ys zs = rw w (outside-puts at (at + 32) widths ys at (values (opened k v)) (omega arith) (omega arith)) in
-    let long : 8 * cells ≤ length ys = omega (arith, o .frame .len, t .holds) in
-    let here : row s (cell zs) i ≡ opened k v =
-    sym (row-at s zs i) ∙ ap (λ vs. read vs at) w
-    ∙ ap made (gets-puts widths ys at (values (opened k v)) (omega arith) (omega (arith, o .inside, p .room, base-fits s))) in
-    let g : Gap (row s (cell xs)) (row s (cell zs)) n i = rw (rows-at s xs, rows-at s zs) at (opened-gap read-local (base s) o f) in
-    let a : Ascends key (row s (cell zs)) (n + 1) =
-    ascends-open key g (rw e (t .asc)) (λ j h. rw (ap key here) (p .sought .below j h))
-    (λ j h l. rw (ap key here) (between-above (t .asc) (p .sought) (λ b d. never (at-some s t (p .sought) b d) (p .absent)) j h (rw e at l))) in
-    counted-did s t (n + 1)
-    (outside-trans (outside-wider (base s) (base s + 16384) (omega arith) (omega (arith, p .room)) (o .frame))
-    (outside-wider (base s) (base s + 16384) (omega arith) (omega (arith, o .inside, p .room)) f))
-    u (omega (arith, p .room)) a (live-insert (λ r. 1) key g a (omega arith) ∙ ap (λ x. insert key x (live (λ r. 1) (row s (cell xs)) n)) here ∙ rw e)
-  where
-    never : {r : Row} {m : Option Row} → m ≡ some r → m ≡ none → ⊥
-    never p q = let z : _≡_ {A = ℕ} 0 1 = cc in omega (arith, z)
+    block-out : Outside (base s) (base s + 16384) xs ys
+    block-out = outside-wider (base s) (base s + 16384) (omega arith) (omega (arith, t .few)) row-out
+
+    row-here : row s (cell ys) i ≡ r
+    unfolding read
+    row-here =
+        sym (row-at s ys i) ∙ ap (λ zs. read zs (base s + 32 * i)) w ∙ ap made (gets-puts widths xs (base s + 32 * i) (values r) f (omega (arith, t .holds, t .few, base-fits s)))
+
+    row-only : Changed (row s (cell xs)) (row s (cell ys)) (used s (cell xs)) i
+    row-only = rw (rows-at s xs, rows-at s ys) at (row-changed read-local (base s) h row-out)
+
+    -- a level changes, and not its key
+    pub replace-did : 0 < row s (cell xs) i .orders → 0 < r .orders → r .key ≡ row s (cell xs) i .key → Did s xs ys (replace key r (entries s (cell xs)))
+    unfolding entries used size
+    replace-did old new e =
+        let c : word (cell ys) (used-cell s) ≡ word (cell xs) (used-cell s) = elsewhere s block-out (used-place s) (header-not-block s) in
+        let n : word (cell ys) (size-cell s) ≡ word (cell xs) (size-cell s) = elsewhere s block-out (size-place s) (header-not-block s) in
+        let same : row s (cell ys) i .key ≡ row s (cell xs) i .key = ap key row-here ∙ e in
+        let list : entries s (cell ys) ≡ replace key r (entries s (cell xs)) =
+        rw c
+        (live-replace orders key row-only (t .asc) same old (omega (arith, new, ap orders row-here)) ∙ ap (λ x. replace key x (entries s (cell xs))) row-here) in
+        record {
+          table = record {
+            holds = rw (block-out .len) (t .holds);
+            few = rw c (t .few);
+            asc = rw c (ascends-change key row-only same (t .asc));
+            counted = n ∙ t .counted ∙ sym (ap length list ∙ replace-length key r (entries s (cell xs)));
+          };
+          list = list;
+          kept = λ b j k z ne no. elsewhere s block-out z ne;
+        }
+
+    -- a level goes: its row stays, dead
+    pub struck-did : {zs : List ℕ} (u v : ℕ) → 0 < row s (cell xs) i .orders → r .orders ≡ 0 → r .key ≡ row s (cell xs) i .key →
+        u ≡ used s (cell xs) → v ≡ size s (cell xs) → Recounted s ys zs u (v - 1) → Did s xs zs (without key (r .key) (entries s (cell xs)))
+    unfolding entries
+    struck-did u v old dead e u-is v-is c =
+        let same : row s (cell ys) i .key ≡ row s (cell xs) i .key = ap key row-here ∙ e in
+        let gone : row s (cell ys) i .orders ≡ 0 = ap orders row-here ∙ dead in
+        let list : _≡_ {A = List Row} _ _ = live-strike orders key row-only (t .asc) gone ∙ ap (λ k. without key k (entries s (cell xs))) (sym e) in
+        recounted-did (used s (cell xs)) (size s (cell xs) - 1) block-out (rw (u-is, v-is) at c) (t .few) (ascends-change key row-only same (t .asc)) list
+        (omega (arith, t .counted, ap length list, live-struck orders key row-only (t .asc) old gone))
+
+never : {r : Row} {m : Option Row} → m ≡ some r → m ≡ none → ⊥
+never p q = let z : _≡_ {A = ℕ} 0 1 = cc in omega (arith, z)
+
+-- a level k comes, whose place is i: from i on the rows are live up to d
+module _ (s : Side) {xs : List ℕ} {k i d : ℕ} (p : Place s xs k i) (q : Next s xs i d) where
+  abbrev t : Table s xs
+  t = p .table
+
+  above : i < d → (j : ℕ) → i ≤ j → j < used s (cell xs) → k < row s (cell xs) j .key
+  above l = between-above (t .asc) (p .sought) (λ h e. never (at-some s t (p .sought) h e (q .live i (omega arith) l)) (p .absent))
+
+-- it is written at `at`, after rows have moved
+module _ (s : Side) (ys : List ℕ) {zs : List ℕ} (at k x : ℕ) (kf : k < modulus) (xf : x < modulus) (h : at < most-levels) (len : length ys ≡ 8 * cells)
+    (w : zs ≡ puts widths ys (base s + 32 * at) (values (opened k x))) where
+  new-out : Outside (base s + 32 * at) (base s + 32 * at + 32) ys zs
+  new-out = rw w (outside-puts (base s + 32 * at) (base s + 32 * at + 32) widths ys (base s + 32 * at) (values (opened k x)) (omega arith) (omega arith))
+
+  new-here : row s (cell zs) at ≡ opened k x
+  unfolding read
+  new-here =
+      sym (row-at s zs at) ∙ ap (λ vs. read vs (base s + 32 * at)) w
+      ∙ ap made (gets-puts widths ys (base s + 32 * at) (values (opened k x)) (kf, (xf, (omega arith, tt))) (omega (arith, base-fits s)))
+
+  new-other : (j : ℕ) → (j ≡ at → ⊥) → row s (cell zs) j ≡ row s (cell ys) j
+  new-other j ne = sym (row-at s zs j) ∙ row-other read-local (base s) at new-out j ne ∙ row-at s ys j
+
+module _ (s : Side) {xs : List ℕ} (ys : List ℕ) {zs : List ℕ} {k i d : ℕ} (p : Place s xs k i) (q : Next s xs i d) (r : d < most-levels) (x : ℕ) (kf : k < modulus) (xf : x < modulus)
+    (o : Opened (base s) 32 d i xs ys) (w : zs ≡ puts widths ys (base s + 32 * i) (values (opened k x))) where
+  up-len : length ys ≡ 8 * cells
+  up-len = o .frame .len ∙ p .table .holds
+
+  up-here : row s (cell zs) i ≡ opened k x
+  up-here = new-here s ys i k x kf xf (omega (arith, q .from)) up-len w
+
+  up-gap : Gap (row s (cell xs)) (row s (cell zs)) d i
+  up-gap = rw (rows-at s xs, rows-at s zs) at (opened-gap read-local (base s) o (new-out s ys i k x kf xf (omega (arith, q .from)) up-len w))
+
+  up-out : Outside (base s) (base s + 16384) xs zs
+  up-out =
+      outside-trans (outside-wider (base s) (base s + 16384) (omega arith) (omega arith) (o .frame))
+      (outside-wider (base s) (base s + 16384) (omega arith) (omega (arith, q .from)) (new-out s ys i k x kf xf (omega (arith, q .from)) up-len w))
+
+  up-same : (j : ℕ) → d < j → j < used s (cell xs) → row s (cell zs) j ≡ row s (cell xs) j
+  up-same j h l =
+      new-other s ys i k x kf xf (omega (arith, q .from)) up-len w j (λ e. omega (arith, q .from))
+      ∙ sym (row-at s ys j) ∙ local-outside read-local (base s + 32 * j) (o .frame) (inr (omega arith)) ∙ row-at s xs j
+
+  up-first : Ascends key (row s (cell zs)) (d + 1)
+  up-first =
+      ascends-open key up-gap (λ a b u v. p .table .asc a b u (omega (arith, q .to))) (λ j h. rw (ap key up-here) (p .sought .below j h))
+      (λ j h l. rw (ap key up-here) (above s p q (omega arith) j h (omega (arith, q .to))))
+
+  up-cross : d < used s (cell xs) → (a j : ℕ) → a < d + 1 → d + 1 ≤ j → j < used s (cell xs) → row s (cell zs) a .key < row s (cell xs) j .key
+  up-cross h a j l m n =
+      ⊎-elim
+      (λ (b : a < i). omega (arith, ap key (up-gap .before a b), p .table .asc a j (omega arith) n))
+      (λ (b : i ≤ a).
+      ⊎-elim
+      (λ (e : i ≡ a).
+      let f : row s (cell zs) a .key ≡ k = ap (λ y. row s (cell zs) y .key) (sym e) ∙ ap key up-here in
+      omega (arith, f, p .sought .above d (q .from) h, p .table .asc d j (omega arith) n))
+      (λ (c : i < a).
+      let e : a ≡ a - 1 + 1 = omega arith in
+      let f : row s (cell zs) a .key ≡ row s (cell xs) (a - 1) .key = ap (λ y. row s (cell zs) y .key) e ∙ ap key (up-gap .behind (a - 1) (omega arith) (omega arith)) in
+      omega (arith, f, p .table .asc (a - 1) j (omega arith) n))
+      (eq-or-lt-of-le b))
+      (lt-or-le a i)
+
+  up-did : {us : List ℕ} (n v : ℕ) → n ≡ used s (cell xs) → v ≡ size s (cell xs) → Recounted s zs us (grown n d) (v + 1) → Did s xs us (insert key (opened k x) (entries s (cell xs)))
+  unfolding entries
+  up-did n v n-is v-is c =
+      ⊎-elim
+      (λ (h : d < used s (cell xs)).
+      let asc : Ascends key (row s (cell zs)) (used s (cell xs)) =
+      ascends-join key (row s (cell xs)) (row s (cell zs)) (d + 1) (used s (cell xs)) up-first (p .table .asc) (λ j g l. up-same j (omega arith) l) (up-cross h) in
+      recounted-did s (p .table) (used s (cell xs)) (size s (cell xs) + 1) up-out (rw (n-is, v-is, lt-ltb d (used s (cell xs)) h) at c) (p .table .few) asc
+      (live-over orders key up-gap h (q .dead h) up-same asc new ∙ ap (λ y. insert key y (entries s (cell xs))) up-here) many)
+      (λ (h : used s (cell xs) ≤ d).
+      let e : d ≡ used s (cell xs) = omega (arith, q .to) in
+      recounted-did s (p .table) (d + 1) (size s (cell xs) + 1) up-out (rw (n-is, v-is, le-ltb d (used s (cell xs)) h) at c) (omega arith) up-first
+      (live-insert orders key up-gap up-first new ∙ ap₂ (λ (y : Row) m. insert key y (live orders (row s (cell xs)) m)) up-here e) many)
+      (lt-or-le d (used s (cell xs)))
+    where
+      new : 0 < row s (cell zs) i .orders
+      new = omega (arith, ap orders up-here)
+
+      many : size s (cell xs) + 1 ≡ length (insert key (opened k x) (entries s (cell xs)))
+      many = omega (arith, p .table .counted, insert-length key (opened k x) (entries s (cell xs)))
+
+module _ (s : Side) {xs : List ℕ} (ys : List ℕ) {zs : List ℕ} {k i d : ℕ} (p : Place s xs k i) (q : Next s xs i (used s (cell xs))) (h : d < i) (dead : row s (cell xs) d .orders ≡ 0) (x : ℕ)
+    (kf : k < modulus) (xf : x < modulus) (o : Closed (base s) 32 i d xs ys) (w : zs ≡ puts widths ys (base s + 32 * (i - 1)) (values (opened k x))) where
+  in-use : i ≤ used s (cell xs)
+  in-use = q .from
+
+  down-len : length ys ≡ 8 * cells
+  down-len = o .frame .len ∙ p .table .holds
+
+  few-rows : i - 1 < most-levels
+  few-rows = omega (arith, q .from, p .table .few)
+
+  down-here : row s (cell zs) (i - 1) ≡ opened k x
+  down-here = new-here s ys (i - 1) k x kf xf few-rows down-len w
+
+  down-other : (j : ℕ) → (j ≡ i - 1 → ⊥) → row s (cell zs) j ≡ row s (cell ys) j
+  down-other = new-other s ys (i - 1) k x kf xf few-rows down-len w
+
+  down-gap : Gap (row s (cell zs)) (row s (cell xs)) (i - 1) d
+  down-gap =
+      let m : i ≡ i - 1 + 1 = omega arith in
+      let g : Gap (row s (cell ys)) (row s (cell xs)) (i - 1) d = rw (rows-at s xs, rows-at s ys) at (closed-gap read-local (base s) (i - 1) m o) in
+      record {
+        inside = g .inside;
+        before = λ j l. g .before j l ∙ sym (down-other j (λ e. omega arith));
+        behind = λ j l b. g .behind j l b ∙ sym (down-other j (λ e. omega arith));
+      }
+
+  down-out : Outside (base s) (base s + 16384) xs zs
+  down-out =
+      outside-trans (outside-wider (base s) (base s + 16384) (omega arith) (omega (arith, few-rows)) (o .frame))
+      (outside-wider (base s) (base s + 16384) (omega arith) (omega (arith, few-rows)) (new-out s ys (i - 1) k x kf xf few-rows down-len w))
+
+  down-same : (j : ℕ) → i - 1 < j → j < used s (cell xs) → row s (cell zs) j ≡ row s (cell xs) j
+  down-same j b l =
+      down-other j (λ e. omega arith) ∙ sym (row-at s ys j) ∙ local-outside read-local (base s + 32 * j) (o .frame) (inr (omega arith)) ∙ row-at s xs j
+
+  -- a row before the new one was before its place
+  down-low : (j : ℕ) → j < i - 1 → (c : ℕ) → ((b : ℕ) → b < i → row s (cell xs) b .key < c) → row s (cell zs) j .key < c
+  down-low j l c below =
+      ⊎-elim
+      (λ (b : j < d). omega (arith, ap key (down-gap .before j b), below j (omega arith)))
+      (λ (b : d ≤ j). omega (arith, ap key (down-gap .behind j b l), below (j + 1) (omega arith)))
+      (lt-or-le j d)
+
+  down-first : Ascends key (row s (cell zs)) (i - 1 + 1)
+  down-first =
+      ascends-open key (gap-end key (row s (cell zs)) (row s (cell zs)) (i - 1) (λ j l. refl))
+      (ascends-close key down-gap (λ a b u v. p .table .asc a b u (omega (arith, in-use))))
+      (λ j l. rw (ap key down-here) (down-low j l k (p .sought .below)))
+      (λ j b l. absurd (omega arith))
+
+  down-asc : Ascends key (row s (cell zs)) (used s (cell xs))
+  down-asc =
+      ascends-join key (row s (cell xs)) (row s (cell zs)) (i - 1 + 1) (used s (cell xs)) down-first (p .table .asc) (λ j b l. down-same j (omega arith) l)
+      (λ a j l m n.
+      ⊎-elim
+      (λ (b : a < i - 1). down-low a b (row s (cell xs) j .key) (λ c e. p .table .asc c j (omega arith) n))
+      (λ (b : i - 1 ≤ a).
+      let e : a ≡ i - 1 = omega arith in
+      let f : row s (cell zs) a .key ≡ k = ap (λ y. row s (cell zs) y .key) e ∙ ap key down-here in
+      omega (arith, f, above s p q (omega arith) j (omega arith) n))
+      (lt-or-le a (i - 1)))
+
+  down-did : {us : List ℕ} (n v : ℕ) → n ≡ used s (cell xs) → v ≡ size s (cell xs) → Recounted s zs us n (v + 1) → Did s xs us (insert key (opened k x) (entries s (cell xs)))
+  unfolding entries
+  down-did n v n-is v-is c =
+      recounted-did s (p .table) (used s (cell xs)) (size s (cell xs) + 1) down-out (rw (n-is, v-is) at c) (p .table .few) down-asc
+      (live-under orders key down-gap (omega (arith, in-use)) dead down-same (p .table .asc) down-asc (omega (arith, ap orders down-here))
+      ∙ ap (λ y. insert key y (entries s (cell xs))) down-here)
+      (omega (arith, p .table .counted, insert-length key (opened k x) (entries s (cell xs))))
 
 -- ---- the functions, one law for each way
 
@@ -210,35 +364,58 @@ module _ (s : Side) (xs : List ℕ) where
       us ≡ puts widths xs (base s + 32 * i) (x ∷ y ∷ z ∷ [])
   write-is i b x y z e p q r = rw (r, q, p, e) refl
 
-  pub size-is : (n k : ℕ) → k ≡ count s → n ≡ cell xs C.header 0 k → n ≡ size s (cell xs)
+  pub used-is : (n k : ℕ) → k ≡ used-cell s → n ≡ cell xs C.header 0 k → n ≡ used s (cell xs)
+  unfolding used
+  used-is n k e p = p ∙ ap (cell xs C.header 0) e
+
+  pub size-is : (n k : ℕ) → k ≡ size-cell s → n ≡ cell xs C.header 0 k → n ≡ size s (cell xs)
   unfolding size
   size-is n k e p = p ∙ ap (cell xs C.header 0) e
 
-  pub set-size-is : {ys : List ℕ} (n k : ℕ) → k ≡ count s → Set xs ys C.header 0 k n → Set xs ys C.header 0 (count s) n
-  set-size-is n k e p = rw (← e) p
+  pub recount-is : {ys zs : List ℕ} (u v j k : ℕ) → Holds xs → j ≡ used-cell s → k ≡ size-cell s → Set xs ys C.header 0 j u → Set ys zs C.header 0 k v → Recounted s xs zs u v
+  unfolding used size
+  recount-is {ys} {zs} u v j k h e f p q =
+      let a : ys ≡ store xs C.header 0 (used-cell s) u = rw e at (p .exact) in
+      let b : zs ≡ store ys C.header 0 (size-cell s) v = rw f at (q .exact) in
+      record {
+        holds = q .holds;
+        used-is =
+            ap (λ us. cell us C.header 0 (used-cell s)) b ∙ cell-other ys v (size-place s) (used-place s) (λ _ _ e. apart s (sym e))
+            ∙ ap (λ us. cell us C.header 0 (used-cell s)) a ∙ cell-same xs u (used-place s) h (p .fits);
+        size-is = ap (λ us. cell us C.header 0 (size-cell s)) b ∙ cell-same ys v (size-place s) (p .holds) (q .fits);
+        kept = λ c i n z o.
+            ap (λ us. cell us c i n) b ∙ cell-other ys v (size-place s) z (λ x _ y. o .1 (sym x) (sym y))
+            ∙ ap (λ us. cell us c i n) a ∙ cell-other xs u (used-place s) z (λ x _ y. o .0 (sym x) (sym y));
+      }
 
-  pub sorted-at : (b n : ℕ) → Table s xs → n ≡ size s (cell xs) → b ≡ base s → Sorted b 32 n xs
+  pub sorted-at : (b n : ℕ) → Table s xs → n ≡ used s (cell xs) → b ≡ base s → Sorted b 32 n xs
   sorted-at b n t e h = rw h (sorted s xs t e)
 
-  pub sought-is : (b n k i : ℕ) → n ≡ size s (cell xs) → b ≡ base s → Between (keyAt b 32 xs) n k i i → Sought s xs k i
+  pub sought-is : (b n k i : ℕ) → n ≡ used s (cell xs) → b ≡ base s → Between (keyAt b 32 xs) n k i i → Sought s xs k i
   sought-is b n k i e h p = rw (← e) (subst (λ ks. Between ks n k i i) (keys-at s xs) (rw h at p))
 
 module _ (s : Side) {xs : List ℕ} (t : Table s xs) where
-  pub past-is : (k i n : ℕ) → Sought s xs k i → n ≡ size s (cell xs) → n ≤ i → look key k (entries s (cell xs)) ≡ none
-  past-is k i n b e h = at-none s t b (λ l q. omega arith)
+  pub past-is : (k i n : ℕ) → Sought s xs k i → n ≡ used s (cell xs) → n ≤ i → look key k (entries s (cell xs)) ≡ none
+  past-is k i n b e h = at-none s t b (λ l q. absurd (omega arith))
 
-  pub here-is : (k i n : ℕ) (r : Row) → Sought s xs k i → n ≡ size s (cell xs) → i < n → r ≡ row s (cell xs) i → r .key ≡ k → IsAt s xs i k true
-  here-is k i n r b e h q w = (omega arith, at-some s t b (omega arith) (ap key (sym q) ∙ w))
+  pub here-is : (k i n : ℕ) (r : Row) → Sought s xs k i → n ≡ used s (cell xs) → i < n → r ≡ row s (cell xs) i → r .key ≡ k → IsAt s xs i k (not (eqb (r .orders) 0))
+  here-is k i n r b e h q w =
+      ⊎-elim
+      (λ (z : r .orders ≡ 0). rw (eq-eqb (r .orders) 0 z) (at-none s t b (λ _ _. ap orders (sym q) ∙ z)))
+      (λ (z : r .orders ≡ 0 → ⊥).
+      let l : 0 < row s (cell xs) i .orders = omega (arith, z, ap orders q) in
+      rw (ne-eqb (r .orders) 0 z) (omega arith, at-some s t b (omega arith) (ap key (sym q) ∙ w) l, l))
+      (same? (r .orders) 0)
 
   pub not-here-is : (k i : ℕ) (r : Row) → Sought s xs k i → r ≡ row s (cell xs) i → (r .key ≡ k → ⊥) → look key k (entries s (cell xs)) ≡ none
-  not-here-is k i r b q w = at-none s t b (λ l e. w (ap key q ∙ e))
+  not-here-is k i r b q w = at-none s t b (λ l e. absurd (w (ap key q ∙ e)))
 
   -- whether a row is the first one whose key is not below k
-  pub low-is : (k i n : ℕ) (r : Row) → n ≡ size s (cell xs) → i < n → r ≡ row s (cell xs) i → r .key < k → IsFirst s xs k i false
+  pub low-is : (k i n : ℕ) (r : Row) → n ≡ used s (cell xs) → i < n → r ≡ row s (cell xs) i → r .key < k → IsFirst s xs k i false
   low-is k i n r e h q w b = omega (arith, b .above i (omega arith) (omega arith), ap key q)
 
-  module _ (k i : ℕ) (h : i ≤ size s (cell xs)) (a : i < size s (cell xs) → k ≤ row s (cell xs) i .key) where
-    above-is : (j : ℕ) → i ≤ j → j < size s (cell xs) → k ≤ row s (cell xs) j .key
+  module _ (k i : ℕ) (h : i ≤ used s (cell xs)) (a : i < used s (cell xs) → k ≤ row s (cell xs) i .key) where
+    above-is : (j : ℕ) → i ≤ j → j < used s (cell xs) → k ≤ row s (cell xs) j .key
     above-is j g l =
         ⊎-elim (λ (q : i < j). omega (arith, a (omega arith), t .asc i j q l))
         (λ q. let e : i ≡ j = omega arith in rw e at (a (omega arith))) (lt-or-le i j)
@@ -258,28 +435,34 @@ module _ (s : Side) {xs : List ℕ} (t : Table s xs) where
             ⊎-elim (λ (g : j < i - 1). omega (arith, t .asc j (i - 1) g (omega arith), w, ap key q))
             (λ g. let e : j ≡ i - 1 = omega arith in rw e (omega (arith, w, ap key q))) (lt-or-le j (i - 1))
 
-  pub join-is : {ys : List ℕ} (i v : ℕ) (r : Row) → i < size s (cell xs) → Joins v (row s (cell xs) i) → r ≡ row s (cell xs) i → r .key < modulus →
+  pub join-is : {ys : List ℕ} (i v : ℕ) (r : Row) → i < used s (cell xs) → 0 < row s (cell xs) i .orders → Joins v (row s (cell xs) i) → r ≡ row s (cell xs) i → r .key < modulus →
       ys ≡ puts widths xs (base s + 32 * i) (r .key ∷ (r .qty + v) ∷ (r .orders + 1) ∷ []) → Did s xs ys (replace key (one-more v (row s (cell xs) i)) (entries s (cell xs)))
-  join-is {ys} i v r h j e f w =
+  join-is {ys} i v r h l j e f w =
       let q = ap (λ (x : Row). x .qty) e in
       let o = ap (λ (x : Row). x .orders) e in
       subst (λ x. Did s xs ys (replace key (one-more v x) (entries s (cell xs)))) e
-      (replace-did s t i (one-more v r) h (f, (omega (arith, j .0), (omega (arith, j .1), tt))) (ap key e) w)
+      (replace-did s t i (one-more v r) h (f, (omega (arith, j .0), (omega (arith, j .1), tt))) w l (omega arith) (ap key e))
 
   -- the level is there, so it is in the row that was sought
   pub there : (P : Option Row → Type 0) (k i : ℕ) → Sought s xs k i → (P none → ⊥) → P (look key k (entries s (cell xs))) →
-      (i < size s (cell xs)) × (row s (cell xs) i .key ≡ k) × P (some (row s (cell xs) i))
+      (i < used s (cell xs)) × (row s (cell xs) i .key ≡ k) × (0 < row s (cell xs) i .orders) × P (some (row s (cell xs) i))
   there P k i b not p =
       ⊎-elim
-      (λ (h : i < size s (cell xs)).
+      (λ (h : i < used s (cell xs)).
       ⊎-elim
-      (λ (e : row s (cell xs) i .key ≡ k). (h, e, rw (at-some s t b h e) at p))
-      (λ ne. absurd (not (rw (at-none s t b (λ l e. ne e)) at p)))
+      (λ (e : row s (cell xs) i .key ≡ k).
+      ⊎-elim
+      (λ (z : row s (cell xs) i .orders ≡ 0). absurd (not (rw (at-none s t b (λ _ _. z)) at p)))
+      (λ (z : row s (cell xs) i .orders ≡ 0 → ⊥).
+      let l : 0 < row s (cell xs) i .orders = omega (arith, z) in
+      (h, e, l, rw (at-some s t b h e l) at p))
+      (same? (row s (cell xs) i .orders) 0))
+      (λ ne. absurd (not (rw (at-none s t b (λ l e. absurd (ne e))) at p)))
       (same? (row s (cell xs) i .key) k))
-      (λ h. absurd (not (rw (at-none s t b (λ l e. omega arith)) at p)))
-      (lt-or-le i (size s (cell xs)))
+      (λ h. absurd (not (rw (at-none s t b (λ l e. absurd (omega arith))) at p)))
+      (lt-or-le i (used s (cell xs)))
 
-  pub show-in : (k i v w : ℕ) → Sought s xs k i → CanShow v w (look key k (entries s (cell xs))) → (i < size s (cell xs)) × (row s (cell xs) i .key ≡ k) × CanShow v w (some (row s (cell xs) i))
+  pub show-in : (k i v w : ℕ) → Sought s xs k i → CanShow v w (look key k (entries s (cell xs))) → (i < used s (cell xs)) × (row s (cell xs) i .key ≡ k) × (0 < row s (cell xs) i .orders) × CanShow v w (some (row s (cell xs) i))
   show-in k i v w b p = there (CanShow v w) k i b (λ x. x) p
 
   pub show-is : {ys : List ℕ} (k i v w : ℕ) (r : Row) → CanShow v w (look key k (entries s (cell xs))) → Sought s xs k i → r ≡ row s (cell xs) i → r .key < modulus → r .qty < modulus → r .orders < modulus →
@@ -287,28 +470,27 @@ module _ (s : Side) {xs : List ℕ} (t : Table s xs) where
   show-is {ys} k i v w r p b e f c g u =
       let h = show-in k i v w b p in
       let q = ap (λ (x : Row). x .qty) e in
-      rw (at-some s t b (h .0) (h .1))
+      rw (at-some s t b (h .0) (h .1) (h .2))
       (subst (λ x. Did s xs ys (replace key (changed v w x) (entries s (cell xs)))) e
-      (replace-did s t i (changed v w r) (h .0) (f, (omega (arith, h .2 .1 (rw (← q) c)), (g, tt))) (ap key e) u))
+      (replace-did s t i (changed v w r) (h .0) (f, (omega (arith, h .3 .1 (rw (← q) c)), (g, tt))) u (h .2) (omega (arith, h .2, ap orders e)) (ap key e)))
 
-  pub remove-in : (k i v : ℕ) → Sought s xs k i → CanRemove v (look key k (entries s (cell xs))) → (i < size s (cell xs)) × (row s (cell xs) i .key ≡ k) × CanRemove v (some (row s (cell xs) i))
+  pub remove-in : (k i v : ℕ) → Sought s xs k i → CanRemove v (look key k (entries s (cell xs))) → (i < used s (cell xs)) × (row s (cell xs) i .key ≡ k) × (0 < row s (cell xs) i .orders) × CanRemove v (some (row s (cell xs) i))
   remove-in k i v b p = there (CanRemove v) k i b (λ x. x) p
 
   pub remove-last-is : {ys : List ℕ} (k i v : ℕ) (r : Row) → CanRemove v (look key k (entries s (cell xs))) → Sought s xs k i → r ≡ row s (cell xs) i → r .orders ≡ 1 →
-      Did s xs ys (without key (row s (cell xs) i .key) (entries s (cell xs))) → Did s xs ys (removed k v (entries s (cell xs)))
+      Did s xs ys (without key k (entries s (cell xs))) → Did s xs ys (removed k v (entries s (cell xs)))
   remove-last-is {ys} k i v r p b e one d =
       let h = remove-in k i v b p in
-      rw (at-some s t b (h .0) (h .1), eq-eqb (row s (cell xs) i .orders) 1 (ap (λ (x : Row). x .orders) (sym e) ∙ one))
-      (subst (λ n. Did s xs ys (without key n (entries s (cell xs)))) (h .1) d)
+      rw (at-some s t b (h .0) (h .1) (h .2), eq-eqb (row s (cell xs) i .orders) 1 (ap orders (sym e) ∙ one)) d
 
   pub remove-one-is : {ys : List ℕ} (k i v : ℕ) (r : Row) → CanRemove v (look key k (entries s (cell xs))) → Sought s xs k i → r ≡ row s (cell xs) i → (r .orders ≡ 1 → ⊥) →
       r .key < modulus → r .qty < modulus → r .orders < modulus →
       ys ≡ puts widths xs (base s + 32 * i) (r .key ∷ (r .qty - v) ∷ (r .orders - 1) ∷ []) → Did s xs ys (removed k v (entries s (cell xs)))
   remove-one-is {ys} k i v r p b e more f g o u =
       let h = remove-in k i v b p in
-      rw (at-some s t b (h .0) (h .1), ne-eqb (row s (cell xs) i .orders) 1 (λ q. more (ap (λ (x : Row). x .orders) e ∙ q)))
+      rw (at-some s t b (h .0) (h .1) (h .2), ne-eqb (row s (cell xs) i .orders) 1 (λ q. more (ap orders e ∙ q)))
       (subst (λ x. Did s xs ys (replace key (one-less v x) (entries s (cell xs)))) e
-      (replace-did s t i (one-less v r) (h .0) (f, (omega arith, (omega arith, tt))) (ap key e) u))
+      (replace-did s t i (one-less v r) (h .0) (f, (omega arith, (omega arith, tt))) u (h .2) (omega (arith, more, h .2, ap orders e)) (ap key e)))
 
   pub add-join-is : {ys : List ℕ} (k i v : ℕ) → look key k (entries s (cell xs)) ≡ some (row s (cell xs) i) → Did s xs ys (replace key (one-more v (row s (cell xs) i)) (entries s (cell xs))) →
       Did s xs ys (added k v (entries s (cell xs)))
@@ -320,7 +502,111 @@ module _ (s : Side) {xs : List ℕ} (t : Table s xs) where
   pub join-in : (k i n v : ℕ) → CanAdd n v (look key k (entries s (cell xs))) → IsAt s xs i k true → Joins v (row s (cell xs) i)
   join-in k i n v p a = rw (a .1) at p
 
+  -- ---- a level comes or goes
+
+  pub size-few : size s (cell xs) ≤ used s (cell xs)
+  unfolding entries
+  size-few = omega (arith, t .counted, live-few orders (row s (cell xs)) (used s (cell xs)))
+
+  pub take-out-is : {ys zs : List ℕ} (i k u v : ℕ) → i < used s (cell xs) → 0 < row s (cell xs) i .orders → k ≡ row s (cell xs) i .key → k < modulus →
+      u ≡ used s (cell xs) → v ≡ size s (cell xs) → ys ≡ puts widths xs (base s + 32 * i) (k ∷ 0 ∷ 0 ∷ []) → Recounted s ys zs u (v - 1) → Did s xs zs (without key k (entries s (cell xs)))
+  take-out-is i k u v h l e f u-is v-is w c =
+      struck-did s t i (record { key = k; qty = 0; orders = 0 }) h (f, (omega arith, (omega arith, tt))) w u v l refl e u-is v-is c
+
+  pub some-level : (i : ℕ) → i < used s (cell xs) → 0 < row s (cell xs) i .orders → 0 < size s (cell xs)
+  unfolding entries
+  some-level i h l = omega (arith, t .counted, live-some orders (row s (cell xs)) i (used s (cell xs)) h l)
+
+  -- where all rows are live there are as many levels
+  pub dead-below : (i : ℕ) → Next s xs i (used s (cell xs)) → size s (cell xs) < used s (cell xs) → ((j : ℕ) → j < i → 0 < row s (cell xs) j .orders) → ⊥
+  unfolding entries
+  dead-below i q h low =
+      let n = live-all orders (row s (cell xs)) (used s (cell xs)) (λ j l. ⊎-elim (low j) (λ g. q .live j g l) (lt-or-le j i)) in
+      omega (arith, t .counted, n)
+
   pub place-is : (k i v : ℕ) → CanAdd (size s (cell xs)) v (look key k (entries s (cell xs))) → Sought s xs k i → look key k (entries s (cell xs)) ≡ none → Place s xs k i
   place-is k i v p b a = record { table = t; room = rw a at p; sought = b; absent = a }
 
-pub ruleset laws = (read-is, write-is, size-is, set-size-is, sorted-at, sought-is, past-is, here-is, not-here-is, low-is, join-is, show-is, remove-last-is, remove-one-is, add-join-is, add-new-is, without-did, insert-did, arith)
+-- ---- the dead rows are looked for
+
+-- the rows from i up to d are live
+pub record Passed (s : Side) (xs : List ℕ) (i d : ℕ) : Type 0 where
+  pub from : i ≤ d
+  pub to : d ≤ used s (cell xs)
+  pub live : (j : ℕ) → i ≤ j → j < d → 0 < row s (cell xs) j .orders
+
+module _ (s : Side) (xs : List ℕ) where
+  pub none-passed : (i : ℕ) → i ≤ used s (cell xs) → Passed s xs i i
+  none-passed i h = record { from = omega arith; to = h; live = λ j a b. absurd (omega arith) }
+
+  pub one-passed : (i d n : ℕ) (r : Row) → Passed s xs i d → n ≡ used s (cell xs) → d < n → r ≡ row s (cell xs) d → (r .orders ≡ 0 → ⊥) → Passed s xs i (d + 1)
+  one-passed i d n r p n-is h e l =
+      record {
+        from = omega (arith, p .from);
+        to = omega arith;
+        live = λ j a b.
+            ⊎-elim (λ (q : j < d). p .live j a q)
+            (λ q. let w : j ≡ d = omega arith in let f : row s (cell xs) j .orders ≡ r .orders = ap (λ y. row s (cell xs) y .orders) w ∙ ap orders (sym e) in omega (arith, l, f))
+            (lt-or-le j d);
+      }
+
+  pub next-is : (i d n : ℕ) (r : Row) → Passed s xs i d → n ≡ used s (cell xs) → d < n → r ≡ row s (cell xs) d → r .orders ≡ 0 → Next s xs i d
+  next-is i d n r p n-is h e z = record { from = p .from; to = p .to; live = p .live; dead = λ _. ap orders (sym e) ∙ z }
+
+  pub next-none : (i d n : ℕ) → Passed s xs i d → n ≡ used s (cell xs) → n ≤ d → Next s xs i n
+  next-none i d n p n-is h =
+      let e : n ≡ d = omega (arith, p .to) in
+      record { from = omega (arith, p .from); to = omega arith; live = λ j a b. p .live j a (omega arith); dead = λ q. absurd (omega arith) }
+
+-- the rows from d up to i are live
+pub record Below (s : Side) (xs : List ℕ) (i d : ℕ) : Type 0 where
+  pub within : d ≤ i
+  pub live : (j : ℕ) → d ≤ j → j < i → 0 < row s (cell xs) j .orders
+
+module _ (s : Side) (xs : List ℕ) (i : ℕ) where
+  pub none-below : Below s xs i i
+  none-below = record { within = omega arith; live = λ j a b. absurd (omega arith) }
+
+  pub one-below : (d : ℕ) (r : Row) → Below s xs i d → 0 < d → r ≡ row s (cell xs) (d - 1) → (r .orders ≡ 0 → ⊥) → Below s xs i (d - 1)
+  one-below d r p h e l =
+      record {
+        within = omega (arith, p .within);
+        live = λ j a b.
+            ⊎-elim
+            (λ (q : j < d). let w : j ≡ d - 1 = omega arith in let f : row s (cell xs) j .orders ≡ r .orders = ap (λ y. row s (cell xs) y .orders) w ∙ ap orders (sym e) in omega (arith, l, f))
+            (λ q. p .live j q b)
+            (lt-or-le j d);
+      }
+
+  pub dead-is : (d : ℕ) (r : Row) → r ≡ row s (cell xs) d → r .orders ≡ 0 → row s (cell xs) d .orders ≡ 0
+  dead-is d r e z = ap orders (sym e) ∙ z
+
+  -- none is dead: then there are as many levels as rows
+  pub none-dead : {P : Type 0} (d : ℕ) → Table s xs → Next s xs i (used s (cell xs)) → size s (cell xs) < used s (cell xs) → Below s xs i d → d ≤ 0 → P
+  none-dead d t q h p z = absurd (dead-below s t i q h (λ j l. p .live j (omega arith) l))
+
+-- all rows are in use, and none from i on is dead
+module _ {s : Side} {xs : List ℕ} {k i d : ℕ} (p : Place s xs k i) (q : Next s xs i d) (h : most-levels ≤ d) where
+  pub full-next : Next s xs i (used s (cell xs))
+  full-next = let e : d ≡ used s (cell xs) = omega (arith, q .to, p .table .few) in subst (Next s xs i) e q
+
+  pub full-room : size s (cell xs) < used s (cell xs)
+  full-room = omega (arith, q .to, p .table .few, p .room)
+
+pub grown-in : (n d : ℕ) → d < n → n ≡ grown n d
+grown-in n d h = rw (lt-ltb d n h) refl
+
+pub grown-behind : (n d : ℕ) → n ≤ d → d + 1 ≡ grown n d
+grown-behind n d h = rw (le-ltb d n h) refl
+
+pub put-up-is : (s : Side) {xs : List ℕ} (ys : List ℕ) {zs us : List ℕ} (n g v b i d k x : ℕ) → Place s xs k i → Next s xs i d → d < most-levels → k < modulus → x < modulus →
+    n ≡ used s (cell xs) → v ≡ size s (cell xs) → b ≡ base s → Opened b 32 d i xs ys → zs ≡ puts widths ys (base s + 32 * i) (values (opened k x)) → g ≡ grown n d → Recounted s zs us g (v + 1) →
+    Did s xs us (insert key (opened k x) (entries s (cell xs)))
+put-up-is s ys n g v b i d k x p q r kf xf n-is v-is e o w g-is c = up-did s ys p q r x kf xf (rw e at o) w n v n-is v-is (rw g-is at c)
+
+pub put-down-is : (s : Side) {xs : List ℕ} (ys : List ℕ) {zs us : List ℕ} (n v b i d k x : ℕ) → Place s xs k i → Next s xs i (used s (cell xs)) → d < i → row s (cell xs) d .orders ≡ 0 → k < modulus → x < modulus →
+    n ≡ used s (cell xs) → v ≡ size s (cell xs) → b ≡ base s → Closed b 32 i d xs ys → zs ≡ puts widths ys (base s + 32 * (i - 1)) (values (opened k x)) → Recounted s zs us n (v + 1) →
+    Did s xs us (insert key (opened k x) (entries s (cell xs)))
+put-down-is s ys n v b i d k x p q h dead kf xf n-is v-is e o w c = down-did s ys p q h dead x kf xf (rw e at o) w n v n-is v-is c
+
+pub ruleset laws = (read-is, write-is, used-is, size-is, recount-is, sorted-at, sought-is, past-is, here-is, not-here-is, low-is, join-is, show-is, remove-last-is, remove-one-is, add-join-is, add-new-is, take-out-is, some-level, size-few, none-passed, one-passed, next-is, next-none, none-below, one-below, dead-is, grown-in, grown-behind, put-up-is, put-down-is, arith)

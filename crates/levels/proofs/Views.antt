@@ -6,6 +6,7 @@ use Prim.Native.Nat.{ℕ, _<_}
 use native.Mathlib.Omega.{arith}
 use borrow.Author.Tests.{eq-eqb, eqb-false}
 use lib.Dec.{eqb}
+use lib.ListN.{length}
 use Rattle.orderbook.specs.declared.Side.{Side}
 use Rattle.orderbook.specs.declared.Side.the-variants.{Buy, Sell}
 use Rattle.store.specs.Cells as C
@@ -14,12 +15,12 @@ use Rattle.store.specs.View.{Store, Same, Bounds, gateway}
 use Rattle.store.proofs.Frames.{gateway-same}
 use Rattle.table.proofs.Live.{live-ext, ascends-ext}
 use Rattle.levels.specs.declared.Row.{Row}
-use Rattle.levels.specs.Levels.{block, count, key, row, size, entries, Table, Did}
-use Rattle.levels.proofs.Laws.{count-cell, block-cell, header-not-block}
+use Rattle.levels.specs.Levels.{block, used-cell, size-cell, key, orders, row, used, size, entries, Other, Table, Did}
+use Rattle.levels.proofs.Laws.{used-place, size-place, block-cell, header-not-block}
 
 -- t with the side's levels of s
 abbrev mixed : Side → Store → Store → Store
-mixed z s t b i k = cond (eqb b (block z) || (eqb b C.header && eqb k (count z))) (s b i k) (t b i k)
+mixed z s t b i k = cond (eqb b (block z) || (eqb b C.header && (eqb k (used-cell z) || eqb k (size-cell z)))) (s b i k) (t b i k)
 
 unseen : (z : Side) (s t : Store) → gateway (mixed z s t) ≡ gateway t
 unseen Buy s t = refl
@@ -36,42 +37,72 @@ both true true p q = refl
 both true false p q = q
 both false b p q = p
 
+first : (a b : Bool) → a ≡ true → a || b ≡ true
+first true b p = refl
+first false true p = refl
+first false false p = p
+
+second : (a b : Bool) → b ≡ true → a || b ≡ true
+second true b p = refl
+second false b p = p
+
 module _ (z : Side) {xs ys : List ℕ} {l : List Row} (d : Did z xs ys l) where
   mixed-same : Same (cell xs) (mixed z (cell xs) (cell ys))
   mixed-same b i k c =
-      either (eqb b (block z)) (eqb b C.header) (eqb k (count z)) (cell xs b i k) (cell ys b i k)
-      (λ p q. sym (d .kept b i k c (eqb-false b (block z) p) (λ e f. true≢false (sym (both _ _ (eq-eqb b C.header e) (eq-eqb k (count z) f)) ∙ q))))
+      either (eqb b (block z)) (eqb b C.header) (eqb k (used-cell z) || eqb k (size-cell z)) (cell xs b i k) (cell ys b i k)
+      (λ p q.
+      sym
+      (d .kept b i k c (eqb-false b (block z) p)
+      (λ e f. true≢false (sym (both (eqb b C.header) (eqb k (used-cell z) || eqb k (size-cell z)) (eq-eqb b C.header e) (first (eqb k (used-cell z)) (eqb k (size-cell z)) (eq-eqb k (used-cell z) f))) ∙ q),
+       λ e f. true≢false (sym (both (eqb b C.header) (eqb k (used-cell z) || eqb k (size-cell z)) (eq-eqb b C.header e) (second (eqb k (used-cell z)) (eqb k (size-cell z)) (eq-eqb k (size-cell z) f))) ∙ q))))
 
   pub levels-view : Bounds (cell xs) → gateway (cell ys) ≡ gateway (cell xs)
   levels-view b = sym (gateway-same (cell xs) (mixed z (cell xs) (cell ys)) b mixed-same ∙ unseen z (cell xs) (cell ys))
 
 -- the other side's
-module _ (z w : Side) {xs ys : List ℕ} {l : List Row} (d : Did z xs ys l) (t : Table w xs) (nb : block w ≡ block z → ⊥) (nc : count w ≡ count z → ⊥) where
+module _ (z w : Side) {xs ys : List ℕ} {l : List Row} (d : Did z xs ys l) (t : Table w xs) (nb : block w ≡ block z → ⊥) (nu : Other z C.header (used-cell w)) (ns : Other z C.header (size-cell w)) where
+  used-kept : used w (cell ys) ≡ used w (cell xs)
+  unfolding used
+  used-kept = d .kept C.header 0 (used-cell w) (used-place w) (header-not-block z) nu
+
   size-kept : size w (cell ys) ≡ size w (cell xs)
   unfolding size
-  size-kept = d .kept C.header 0 (count w) (count-cell w) (header-not-block z) (λ _ e. nc e)
+  size-kept = d .kept C.header 0 (size-cell w) (size-place w) (header-not-block z) ns
 
-  row-kept : (j : ℕ) → j < size w (cell xs) → row w (cell ys) j ≡ row w (cell xs) j
+  row-kept : (j : ℕ) → j < used w (cell xs) → row w (cell ys) j ≡ row w (cell xs) j
   row-kept j h = λ i. record { key = at 0 (omega arith) i; qty = at 1 (omega arith) i; orders = at 2 (omega arith) i }
     where
       at : (k : ℕ) → k < 4 → cell ys (block w) j k ≡ cell xs (block w) j k
-      at k q = d .kept (block w) j k (block-cell w j k (omega (arith, t .few)) q) nb (λ e _. header-not-block w (sym e))
+      at k q = d .kept (block w) j k (block-cell w j k (omega (arith, t .few)) q) nb (λ e _. header-not-block w (sym e), λ e _. header-not-block w (sym e))
 
   other-entries : entries w (cell ys) ≡ entries w (cell xs)
   unfolding entries
-  other-entries = rw size-kept (live-ext (λ r. 1) (row w (cell xs)) (row w (cell ys)) (size w (cell xs)) row-kept)
+  other-entries = rw used-kept (live-ext orders (row w (cell xs)) (row w (cell ys)) (used w (cell xs)) row-kept)
 
   other-table : Table w ys
   other-table =
       record {
         holds = d .table .holds;
-        few = rw size-kept (t .few);
-        asc = rw size-kept (ascends-ext key (row w (cell xs)) (row w (cell ys)) (size w (cell xs)) (λ j h. ap key (row-kept j h)) (t .asc));
+        few = rw used-kept (t .few);
+        asc = rw used-kept (ascends-ext key (row w (cell xs)) (row w (cell ys)) (used w (cell xs)) (λ j h. ap key (row-kept j h)) (t .asc));
+        counted = size-kept ∙ t .counted ∙ sym (ap length other-entries);
       }
 
 -- a buy leaves the asks, a sell the bids
 pub asks-stay : {xs ys : List ℕ} {l : List Row} → Did Buy xs ys l → Table Sell xs → Table Sell ys × (entries Sell (cell ys) ≡ entries Sell (cell xs))
-asks-stay d t = (other-table Buy Sell d t (λ e. omega arith) (λ e. omega arith), other-entries Buy Sell d t (λ e. omega arith) (λ e. omega arith))
+asks-stay d t = (other-table Buy Sell d t (λ e. omega arith) asks-rows asks-many, other-entries Buy Sell d t (λ e. omega arith) asks-rows asks-many)
+  where
+    asks-rows : Other Buy C.header C.ask-rows
+    asks-rows = (λ _ e. omega arith, λ _ e. omega arith)
+
+    asks-many : Other Buy C.header C.ask-levels
+    asks-many = (λ _ e. omega arith, λ _ e. omega arith)
 
 pub bids-stay : {xs ys : List ℕ} {l : List Row} → Did Sell xs ys l → Table Buy xs → Table Buy ys × (entries Buy (cell ys) ≡ entries Buy (cell xs))
-bids-stay d t = (other-table Sell Buy d t (λ e. omega arith) (λ e. omega arith), other-entries Sell Buy d t (λ e. omega arith) (λ e. omega arith))
+bids-stay d t = (other-table Sell Buy d t (λ e. omega arith) bids-rows bids-many, other-entries Sell Buy d t (λ e. omega arith) bids-rows bids-many)
+  where
+    bids-rows : Other Sell C.header C.bid-rows
+    bids-rows = (λ _ e. omega arith, λ _ e. omega arith)
+
+    bids-many : Other Sell C.header C.bid-levels
+    bids-many = (λ _ e. omega arith, λ _ e. omega arith)

@@ -1,10 +1,12 @@
--- The stored levels of a side: rows ascending by key, and what each operation makes of their list.
+-- The stored levels of a side: rows ascending by key, and what each operation makes of their list. A row without orders is dead: it stands
+-- for no level, and is there to be taken by one.
 use mathlib.Core.Path.{_≡_}
 use mathlib.Core.Bool.{Bool, true, false, cond}
 use mathlib.Core.List.{List, [], _∷_, _++_}
 use mathlib.Core.Option.{Option, none, some}
 use Prim.Native.Nat.{ℕ, _+_, _-_, _≤_, _<_}
-use lib.Dec.{eqb}
+use lib.Dec.{eqb, ltb}
+use lib.ListN.{length}
 use lib.IntN.{ℤ}
 use Rattle.orderbook.specs.declared.Side.{Side}
 use Rattle.orderbook.specs.declared.Side.the-variants.{Buy, Sell}
@@ -27,10 +29,14 @@ abbrev pub block : Side → ℕ
 block Buy = C.bids
 block Sell = C.asks
 
--- the header's cell with their number
-abbrev pub count : Side → ℕ
-count Buy = C.bid-levels
-count Sell = C.ask-levels
+-- the header's cells: how many rows are in use, and how many levels there are
+abbrev pub used-cell : Side → ℕ
+used-cell Buy = C.bid-rows
+used-cell Sell = C.ask-rows
+
+abbrev pub size-cell : Side → ℕ
+size-cell Buy = C.bid-levels
+size-cell Sell = C.ask-levels
 
 -- the block's first byte
 abbrev pub base : Side → ℕ
@@ -44,12 +50,17 @@ abbrev pub row : Side → Store → ℕ → Row
 row s t i =
     record { key = t (block s) i C.level-price; qty = t (block s) i C.level-qty; orders = t (block s) i C.level-orders }
 
-unfoldable pub size : Side → Store → ℕ
-size s t = word t (count s)
+abbrev pub orders : Row → ℕ
+orders r = r .orders
 
--- no row is dead
+unfoldable pub used : Side → Store → ℕ
+used s t = word t (used-cell s)
+
+unfoldable pub size : Side → Store → ℕ
+size s t = word t (size-cell s)
+
 unfoldable pub entries : Side → Store → List Row
-entries s t = live (λ r. 1) (row s t) (size s t)
+entries s t = live orders (row s t) (used s t)
 
 -- ---- what they stand for
 
@@ -71,13 +82,24 @@ best Buy (r ∷ l) = best Buy l ++ (level r ∷ [])
 
 pub record Table (s : Side) (xs : List ℕ) : Type 0 where
   pub holds : Holds xs
-  pub few : size s (cell xs) ≤ most-levels
-  pub asc : Ascends key (row s (cell xs)) (size s (cell xs))
+  pub few : used s (cell xs) ≤ most-levels
+  pub asc : Ascends key (row s (cell xs)) (used s (cell xs))
+  pub counted : size s (cell xs) ≡ length (entries s (cell xs))
 
--- every cell but those of the side's block and its count is as before
+-- that cell of the header is none of the side's two
+abbrev pub Other : Side → ℕ → ℕ → Type 0
+Other s b k = (b ≡ C.header → k ≡ used-cell s → ⊥) × (b ≡ C.header → k ≡ size-cell s → ⊥)
+
+-- every cell but those of the side's block and its counts is as before
 abbrev pub Kept : Side → List ℕ → List ℕ → Type 0
-Kept s xs ys =
-    (b i k : ℕ) → Cell b i k → (b ≡ block s → ⊥) → (b ≡ C.header → k ≡ count s → ⊥) → cell ys b i k ≡ cell xs b i k
+Kept s xs ys = (b i k : ℕ) → Cell b i k → (b ≡ block s → ⊥) → Other s b k → cell ys b i k ≡ cell xs b i k
+
+-- the counts are u and v now, and nothing else has changed
+pub record Recounted (s : Side) (xs ys : List ℕ) (u v : ℕ) : Type 0 where
+  pub holds : Holds ys
+  pub used-is : used s (cell ys) ≡ u
+  pub size-is : size s (cell ys) ≡ v
+  pub kept : (b i k : ℕ) → Cell b i k → Other s b k → cell ys b i k ≡ cell xs b i k
 
 -- the side's rows are l now
 pub record Did (s : Side) (xs ys : List ℕ) (l : List Row) : Type 0 where
@@ -87,7 +109,7 @@ pub record Did (s : Side) (xs ys : List ℕ) (l : List Row) : Type 0 where
 
 -- i is the first row whose key is not below k
 abbrev pub Sought : Side → List ℕ → ℕ → ℕ → Type 0
-Sought s xs k i = Between (λ j. row s (cell xs) j .key) (size s (cell xs)) k i i
+Sought s xs k i = Between (λ j. row s (cell xs) j .key) (used s (cell xs)) k i i
 
 -- whether it is, by the answer
 abbrev pub IsFirst : Side → List ℕ → ℕ → ℕ → Bool → Type 0
@@ -96,7 +118,7 @@ IsFirst s xs k i false = (Sought s xs k i → ⊥)
 
 -- what is found of the level k at i, by the answer
 abbrev pub IsAt : Side → List ℕ → ℕ → ℕ → Bool → Type 0
-IsAt s xs i k true = (i < size s (cell xs)) × (look key k (entries s (cell xs)) ≡ some (row s (cell xs) i))
+IsAt s xs i k true = (i < used s (cell xs)) × (look key k (entries s (cell xs)) ≡ some (row s (cell xs) i)) × (0 < row s (cell xs) i .orders)
 IsAt s xs i k false = look key k (entries s (cell xs)) ≡ none
 
 -- what is found of the level k
@@ -110,6 +132,17 @@ pub record Place (s : Side) (xs : List ℕ) (k i : ℕ) : Type 0 where
   pub room : size s (cell xs) < most-levels
   pub sought : Sought s xs k i
   pub absent : look key k (entries s (cell xs)) ≡ none
+
+-- d is the first dead row from i on, or the number of rows in use
+pub record Next (s : Side) (xs : List ℕ) (i d : ℕ) : Type 0 where
+  pub from : i ≤ d
+  pub to : d ≤ used s (cell xs)
+  pub live : (j : ℕ) → i ≤ j → j < d → 0 < row s (cell xs) j .orders
+  pub dead : d < used s (cell xs) → row s (cell xs) d .orders ≡ 0
+
+-- how many rows are in use once the row d is
+abbrev pub grown : ℕ → ℕ → ℕ
+grown n d = cond (ltb d n) n (d + 1)
 
 -- ---- what the operations make of a list
 

@@ -1,8 +1,10 @@
-// The price levels of a side in their block: rows ascending by price, raised by 2^63. None is dead.
+// The price levels of a side in their block: rows ascending by price, raised by 2^63. A level whose last order has gone leaves its row, dead: it
+// comes back in it, or another price takes it. So rows seldom move.
 pub mod listed;
 
 use orderbook::Side;
 use store::cells;
+use store::limits;
 use table::Found;
 ghost use mathlib.Core.Path.{_≡_};
 ghost use Prim.Native.Nat.{_+_, _*_, _≤_, _<_};
@@ -10,7 +12,7 @@ ghost use Rattle.le.specs.Row.{puts};
 ghost use Rattle.gateway.specs.Limits.{most-levels};
 ghost use Rattle.table.specs.Live.{look, insert, replace, without};
 ghost use Rattle.store.specs.Cells as C;
-ghost use Rattle.store.specs.Layout.{first-byte, cell, Holds, Set};
+ghost use Rattle.store.specs.Layout.{first-byte, cell, Holds};
 ghost use Rattle.levels.specs.Levels as L;
 ghost use Rattle.levels.specs.Rows.{widths, values};
 
@@ -30,8 +32,17 @@ fn base_of(side: Side) -> usize
     }
 }
 
-fn count_of(side: Side) -> usize
-    ensures { λ r. ⌜ (r ≡ L.count side) × (r < 32) ⌝ }
+fn used_cell(side: Side) -> usize
+    ensures { λ r. ⌜ (r ≡ L.used-cell side) × (r < 32) ⌝ }
+{
+    match side {
+        Side::Buy => cells::BID_ROWS,
+        Side::Sell => cells::ASK_ROWS,
+    }
+}
+
+fn size_cell(side: Side) -> usize
+    ensures { λ r. ⌜ (r ≡ L.size-cell side) × (r < 32) ⌝ }
 {
     match side {
         Side::Buy => cells::BID_LEVELS,
@@ -39,19 +50,28 @@ fn count_of(side: Side) -> usize
     }
 }
 
+// How many rows are in use.
+fn used(m: &[u8], side: Side) -> usize
+    requires { ⌜ Holds (now m) ⌝ }
+    ensures { λ r. ⌜ r ≡ L.used side (cell (now (m .entry))) ⌝ }
+{
+    store::get(m, store::HEADER, 0, used_cell(side)) as usize
+}
+
 // How many levels there are.
 pub fn size(m: &[u8], side: Side) -> usize
     requires { ⌜ Holds (now m) ⌝ }
     ensures { λ r. ⌜ r ≡ L.size side (cell (now (m .entry))) ⌝ }
 {
-    store::get(m, store::HEADER, 0, count_of(side)) as usize
+    store::get(m, store::HEADER, 0, size_cell(side)) as usize
 }
 
-fn set_size(m: &mut [u8], side: Side, n: usize)
+fn recount(m: &mut [u8], side: Side, rows: usize, levels: usize)
     requires { ⌜ Holds (now m) ⌝ }
-    ensures { λ r. ⌜ Set (now (m .entry)) (now (m .exit)) C.header 0 (L.count side) n ⌝ }
+    ensures { λ r. ⌜ L.Recounted side (now (m .entry)) (now (m .exit)) rows levels ⌝ }
 {
-    store::set(m, store::HEADER, 0, count_of(side), n as u64);
+    store::set(m, store::HEADER, 0, used_cell(side), rows as u64);
+    store::set(m, store::HEADER, 0, size_cell(side), levels as u64);
 }
 
 pub fn read_row(m: &[u8], side: Side, i: usize) -> Row
@@ -85,7 +105,7 @@ fn is_first(m: &[u8], side: Side, i: usize, key: u64) -> bool
     requires { ⌜ L.Table side (now m) ⌝ }
     ensures { λ r. ⌜ L.IsFirst side (now (m .entry)) key i r ⌝ }
 {
-    let n = size(m, side);
+    let n = used(m, side);
     if n < i {
         return false;
     }
@@ -111,25 +131,26 @@ fn seek_near(m: &[u8], side: Side, key: u64, hint: usize) -> usize
     seek(m, side, key)
 }
 
-// The first level whose key is not below `key`.
+// The first row whose key is not below `key`.
 pub fn seek(m: &[u8], side: Side, key: u64) -> usize
     requires { ⌜ L.Table side (now m) ⌝ }
     ensures { λ r. ⌜ L.Sought side (now (m .entry)) key r ⌝ }
 {
-    let n = size(m, side);
+    let n = used(m, side);
     table::bound_by(m, base_of(side), 32, n, key, 3)
 }
 
-// Whether the row i is that level.
+// Whether the row i is the level of that key.
 pub fn is_at(m: &[u8], side: Side, i: usize, key: u64) -> bool
     requires { ⌜ L.Table side (now m) × L.Sought side (now m) key i ⌝ }
     ensures { λ r. ⌜ L.IsAt side (now (m .entry)) i key r ⌝ }
 {
-    if size(m, side) <= i {
+    if used(m, side) <= i {
         return false;
     }
-    if read_row(m, side, i).key == key {
-        return true;
+    let r = read_row(m, side, i);
+    if r.key == key {
+        return r.orders != 0;
     }
     false
 }
@@ -148,7 +169,7 @@ pub fn find(m: &[u8], side: Side, key: u64) -> Found
 
 // One order more at the level in the row i.
 fn join(m: &mut [u8], side: Side, i: usize, visible: u64)
-    requires { ⌜ L.Table side (now m) × (i < L.size side (cell (now m))) × L.Joins visible (L.row side (cell (now m)) i) ⌝ }
+    requires { ⌜ L.Table side (now m) × (i < L.used side (cell (now m))) × (0 < L.row side (cell (now m)) i .orders) × L.Joins visible (L.row side (cell (now m)) i) ⌝ }
     ensures { λ r. ⌜ L.Did side (now (m .entry)) (now (m .exit)) (replace L.key (L.one-more visible (L.row side (cell (now (m .entry))) i)) (L.entries side (cell (now (m .entry))))) ⌝ }
 {
     let r = read_row(m, side, i);
@@ -164,13 +185,52 @@ fn join(m: &mut [u8], side: Side, i: usize, visible: u64)
     );
 }
 
-// A level with one order, at the row i.
-fn put_in(m: &mut [u8], side: Side, i: usize, key: u64, visible: u64)
-    requires { ⌜ L.Place side (now m) key i ⌝ }
+// The first dead row from i on, or the number of rows in use.
+fn next_dead(m: &[u8], side: Side, i: usize) -> usize
+    requires { ⌜ L.Table side (now m) × (i ≤ L.used side (cell (now m))) ⌝ }
+    ensures { λ r. ⌜ L.Next side (now (m .entry)) i r ⌝ }
+{
+    let n = used(m, side);
+    let mut d = i;
+    while d < n {
+        if read_row(m, side, d).orders == 0 {
+            return d;
+        }
+        d += 1;
+    }
+    n
+}
+
+// The last dead row before i, where all rows from i on are live.
+fn last_dead(m: &[u8], side: Side, i: usize) -> usize
+    requires { ⌜ L.Table side (now m) × L.Next side (now m) i (L.used side (cell (now m))) × (L.size side (cell (now m)) < L.used side (cell (now m))) ⌝ }
+    ensures { λ r. ⌜ (r < i) × (L.row side (cell (now (m .entry))) r .orders ≡ 0) ⌝ }
+{
+    let mut d = i;
+    while 0 < d {
+        d -= 1;
+        if read_row(m, side, d).orders == 0 {
+            return d;
+        }
+    }
+    0
+}
+
+fn grown(n: usize, d: usize) -> usize
+    requires { ⌜ d < most-levels ⌝ }
+    ensures { λ r. ⌜ r ≡ L.grown n d ⌝ }
+{
+    if d < n { n } else { d + 1 }
+}
+
+// A level with one order, whose place is i: the rows from there on move up, over the dead row d or behind the last one.
+fn put_up(m: &mut [u8], side: Side, i: usize, d: usize, key: u64, visible: u64)
+    requires { ⌜ L.Place side (now m) key i × L.Next side (now m) i d × (d < most-levels) ⌝ }
     ensures { λ r. ⌜ L.Did side (now (m .entry)) (now (m .exit)) (insert L.key (L.opened key visible) (L.entries side (cell (now (m .entry))))) ⌝ }
 {
-    let n = size(m, side);
-    table::open_at(m, base_of(side), 32, n, i);
+    let n = used(m, side);
+    let k = size(m, side);
+    table::open_at(m, base_of(side), 32, d, i);
     write_row(
         m,
         side,
@@ -181,7 +241,41 @@ fn put_in(m: &mut [u8], side: Side, i: usize, key: u64, visible: u64)
             orders: 1,
         },
     );
-    set_size(m, side, n + 1);
+    recount(m, side, grown(n, d), k + 1);
+}
+
+// The same where the rows before it move down, over the dead row d.
+fn put_down(m: &mut [u8], side: Side, i: usize, d: usize, key: u64, visible: u64)
+    requires { ⌜ L.Place side (now m) key i × L.Next side (now m) i (L.used side (cell (now m))) × (d < i) × (L.row side (cell (now m)) d .orders ≡ 0) ⌝ }
+    ensures { λ r. ⌜ L.Did side (now (m .entry)) (now (m .exit)) (insert L.key (L.opened key visible) (L.entries side (cell (now (m .entry))))) ⌝ }
+{
+    let n = used(m, side);
+    let k = size(m, side);
+    table::close_at(m, base_of(side), 32, i, d);
+    write_row(
+        m,
+        side,
+        i - 1,
+        Row {
+            key: key,
+            qty: visible,
+            orders: 1,
+        },
+    );
+    recount(m, side, n, k + 1);
+}
+
+fn put_in(m: &mut [u8], side: Side, i: usize, key: u64, visible: u64)
+    requires { ⌜ L.Place side (now m) key i ⌝ }
+    ensures { λ r. ⌜ L.Did side (now (m .entry)) (now (m .exit)) (insert L.key (L.opened key visible) (L.entries side (cell (now (m .entry))))) ⌝ }
+{
+    let d = next_dead(m, side, i);
+    if d < limits::MOST_LEVELS {
+        put_up(m, side, i, d, key, visible);
+        return;
+    }
+    let e = last_dead(m, side, i);
+    put_down(m, side, i, e, key, visible);
 }
 
 // An order that shows `visible` comes. Its level's place is tried at `hint` first.
@@ -216,14 +310,24 @@ pub fn show(m: &mut [u8], side: Side, key: u64, before: u64, after: u64)
     );
 }
 
-// The level in the row i goes.
-fn take_out(m: &mut [u8], side: Side, i: usize)
-    requires { ⌜ L.Table side (now m) × (i < L.size side (cell (now m))) ⌝ }
-    ensures { λ r. ⌜ L.Did side (now (m .entry)) (now (m .exit)) (without L.key (L.row side (cell (now (m .entry))) i .key) (L.entries side (cell (now (m .entry))))) ⌝ }
+// The level in the row i goes: the row is dead.
+fn take_out(m: &mut [u8], side: Side, i: usize, key: u64)
+    requires { ⌜ L.Table side (now m) × (i < L.used side (cell (now m))) × (0 < L.row side (cell (now m)) i .orders) × (key ≡ L.row side (cell (now m)) i .key) ⌝ }
+    ensures { λ r. ⌜ L.Did side (now (m .entry)) (now (m .exit)) (without L.key key (L.entries side (cell (now (m .entry))))) ⌝ }
 {
-    let n = size(m, side);
-    table::close_at(m, base_of(side), 32, n, i);
-    set_size(m, side, n - 1);
+    let n = used(m, side);
+    let k = size(m, side);
+    write_row(
+        m,
+        side,
+        i,
+        Row {
+            key: key,
+            qty: 0,
+            orders: 0,
+        },
+    );
+    recount(m, side, n, k - 1);
 }
 
 // An order that showed `visible` goes.
@@ -234,7 +338,7 @@ pub fn remove(m: &mut [u8], side: Side, key: u64, visible: u64)
     let i = seek(m, side, key);
     let r = read_row(m, side, i);
     if r.orders == 1 {
-        take_out(m, side, i);
+        take_out(m, side, i, key);
         return;
     }
     write_row(

@@ -26,8 +26,8 @@ fn index_of(side: Side) -> usize
     }
 }
 
-// The row of the block with the level i of n, counted from the best.
-pub fn nth(side: Side, n: usize, i: usize) -> usize
+// The row i of n, counted from the best price.
+fn nth(side: Side, n: usize, i: usize) -> usize
     requires { ⌜ i < n ⌝ }
     ensures { λ r. ⌜ (r ≡ D.nth side n i) × (r < n) ⌝ }
 {
@@ -48,27 +48,32 @@ fn level_of(r: Row) -> Level
 }
 
 // The levels of a side, then zeros.
-fn best_first(m: &[u8], side: Side) -> [Level; 512]
-    requires { ⌜ Holds (now m) × (L.size side (cell (now m)) ≤ most-levels) ⌝ }
+pub fn best_first(m: &[u8], side: Side) -> [Level; 512]
+    requires { ⌜ L.Table side (now m) ⌝ }
     ensures { λ r. ⌜ D.Lists side (cell (now (m .entry))) r ⌝ }
 {
-    let n = crate::size(m, side);
+    let n = crate::used(m, side);
     let mut row = [Level {
         price: 0,
         qty: 0,
         orders: 0,
     }; 512];
     let mut i: usize = 0;
+    let mut k: usize = 0;
     while i < n {
-        row[i] = level_of(crate::read_row(m, side, nth(side, n, i)));
+        let r = crate::read_row(m, side, nth(side, n, i));
         i += 1;
+        if r.orders != 0 {
+            row[k] = level_of(r);
+            k += 1;
+        }
     }
     row
 }
 
 // The levels of both sides.
 pub fn listed(m: &[u8]) -> [[Level; 512]; 2]
-    requires { ⌜ Ready (now m) ⌝ }
+    requires { ⌜ ((z : Side) → L.Table z (now m)) ⌝ }
     ensures { λ r. ⌜ ((z : Side) → D.Lists z (cell (now (m .entry))) (D.side-of r z)) ⌝ }
 {
     let bids = best_first(m, Side::Buy);

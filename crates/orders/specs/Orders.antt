@@ -99,7 +99,7 @@ pub record Sees {A : Type 0} (k : ℕ) (f : Row → A) (number : A → ℕ) (s :
 
 -- a row's hint has the slot of its number modulo this
 abbrev pub hint-slots : ℕ
-hint-slots = 4096
+hint-slots = 16384
 
 -- the row that is tried first for the number n: where the order was, or what its hint says
 abbrev pub first-try : ℕ → Found → Store → ℕ

@@ -55,7 +55,7 @@ const STRIDE: usize = 128;
 // How many rows there are, and how many hints.
 const ROOM: u64 = 2_048;
 
-const HINT_SLOTS: u64 = 4_096;
+const HINT_SLOTS: u64 = 16_384;
 
 // The row that is tried first: the one where the order was, or the hint of its number.
 fn try_first(m: &[u8], number: u64, at: Found) -> usize

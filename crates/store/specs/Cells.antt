@@ -50,11 +50,11 @@ live-orders = 13
 abbrev pub resting-orders : ℕ
 resting-orders = 14
 
-abbrev pub bid-levels : ℕ
-bid-levels = 15
+abbrev pub bid-rows : ℕ
+bid-rows = 15
 
-abbrev pub ask-levels : ℕ
-ask-levels = 16
+abbrev pub ask-rows : ℕ
+ask-rows = 16
 
 abbrev pub trade-rows : ℕ
 trade-rows = 17
@@ -64,6 +64,12 @@ notice-rows = 18
 
 abbrev pub changed-rows : ℕ
 changed-rows = 19
+
+abbrev pub bid-levels : ℕ
+bid-levels = 20
+
+abbrev pub ask-levels : ℕ
+ask-levels = 21
 
 -- ---- by account number
 abbrev pub accounts : ℕ
@@ -238,7 +244,7 @@ order-visible = 13
 abbrev pub order-rest-leaves : ℕ
 order-rest-leaves = 14
 
--- ---- ascending by price
+-- ---- ascending by price; a level without orders is gone
 abbrev pub bids : ℕ
 bids = 6
 
@@ -295,7 +301,7 @@ changed-price = 1
 abbrev pub changed-link : ℕ
 changed-link = 2
 
--- ---- rows of orders, by number modulo 4,096; a hint may be wrong
+-- ---- rows of orders, by number modulo 16,384; a hint may be wrong
 abbrev pub hints : ℕ
 hints = 11
 

@@ -236,8 +236,8 @@ pub record Bounds (s : Store) : Type 0 where
   pub flights-fit : word s C.flying ≤ most-in-flight
   pub batch-fits : word s C.waiting ≤ most-in-batch
   pub orders-fit : word s C.order-rows ≤ order-room
-  pub bids-fit : word s C.bid-levels ≤ most-levels
-  pub asks-fit : word s C.ask-levels ≤ most-levels
+  pub bids-fit : word s C.bid-rows ≤ most-levels
+  pub asks-fit : word s C.ask-rows ≤ most-levels
   pub trades-fit : word s C.trade-rows ≤ most-trades
   pub notices-fit : word s C.notice-rows ≤ most-notices
   pub changed-fit : word s C.changed-rows ≤ most-changed

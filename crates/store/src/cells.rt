@@ -31,15 +31,19 @@ pub const LIVE_ORDERS: usize = 13;
 
 pub const RESTING_ORDERS: usize = 14;
 
-pub const BID_LEVELS: usize = 15;
+pub const BID_ROWS: usize = 15;
 
-pub const ASK_LEVELS: usize = 16;
+pub const ASK_ROWS: usize = 16;
 
 pub const TRADE_ROWS: usize = 17;
 
 pub const NOTICE_ROWS: usize = 18;
 
 pub const CHANGED_ROWS: usize = 19;
+
+pub const BID_LEVELS: usize = 20;
+
+pub const ASK_LEVELS: usize = 21;
 
 // by account number
 pub const ACCOUNT_EXISTS: usize = 0;
@@ -148,7 +152,7 @@ pub const ORDER_VISIBLE: usize = 13;
 
 pub const ORDER_REST_LEAVES: usize = 14;
 
-// ascending by price
+// ascending by price; a level without orders is gone
 pub const LEVEL_PRICE: usize = 0;
 
 pub const LEVEL_QTY: usize = 1;
@@ -179,7 +183,7 @@ pub const CHANGED_PRICE: usize = 1;
 // one more than the last row before it of the same slot
 pub const CHANGED_LINK: usize = 2;
 
-// rows of orders, by number modulo 4,096; a hint may be wrong
+// rows of orders, by number modulo 16,384; a hint may be wrong
 pub const HINT_ROW: usize = 0;
 
 // by a changed level's slot: one more than the newest row of the slot; it may be stale

@@ -2,10 +2,13 @@
 -- `look` make of it.
 -- Assumes nothing.
 use mathlib.Core.Path.{_≡_, refl, sym, ap, _∙_}
-use mathlib.Core.List.{List, [], _∷_, _++_, append-nil}
+use mathlib.Core.List.{List, [], _∷_, _++_, append-nil, append-assoc}
+use mathlib.Core.Bool.{Bool, true, false, cond}
 use mathlib.Core.Option.{none, some}
-use Prim.Native.Nat.{ℕ, zero, suc, _≤_, _<_}
+use Prim.Native.Nat.{ℕ, zero, suc, _+_, _≤_, _<_}
 use native.Mathlib.Omega.{arith}
+use lib.Dec.{ltb}
+use lib.ListN.{length, length-append}
 use borrow.Author.Tests.{eq-eqb, ne-eqb, lt-ltb, le-ltb}
 use Rattle.table.specs.Live.{pick, Each, without, look, insert, replace}
 
@@ -76,6 +79,27 @@ module _ {A : Type 0} (key : A → ℕ) where
   pub swap-same : {k : ℕ} {x p q : List A} → Swap k x x p q → q ≡ p
   swap-same s = s .to ∙ sym (s .from)
 
+  -- rows of larger keys behind both
+  pub swap-behind : {k : ℕ} {x y p q : List A} (t : List A) → Swap k x y p q → Each (λ r. k < key r) t → Swap k x y (p ++ t) (q ++ t)
+  swap-behind {k} {x} {y} {p} {q} t s e =
+      record {
+        low = s .low;
+        high = s .high ++ t;
+        from = ap (λ (l : List A). l ++ t) (s .from) ∙ behind x;
+        to = ap (λ (l : List A). l ++ t) (s .to) ∙ behind y;
+        less = s .less;
+        more = each-append (λ r. k < key r) (s .high) t (s .more) e;
+      }
+    where
+      behind : (v : List A) → (s .low ++ (v ++ s .high)) ++ t ≡ s .low ++ (v ++ (s .high ++ t))
+      behind v = append-assoc (s .low) (v ++ s .high) t ∙ ap (λ (l : List A). s .low ++ l) (append-assoc v (s .high) t)
+
+  pub swap-length : {k : ℕ} {x y p q : List A} → Swap k x y p q → length q + length x ≡ length p + length y
+  swap-length {k} {x} {y} s =
+      let a = ap length (s .to) ∙ length-append (s .low) (y ++ s .high) in
+      let b = ap length (s .from) ∙ length-append (s .low) (x ++ s .high) in
+      omega (arith, a, b, length-append y (s .high), length-append x (s .high))
+
   others-low : {k : ℕ} {x y p q : List A} (s : Swap k x y p q) → Each (λ r. key r ≡ k → ⊥) (s .low)
   others-low s = each-map (λ r h e. omega arith) (s .low) (s .less)
 
@@ -119,3 +143,19 @@ module _ {A : Type 0} (key : A → ℕ) where
       (ap (replace key r) (s .from)
       ∙ replace-other r (s .low) (o ∷ s .high) (others-low s)
       ∙ ap (λ (y : List A). s .low ++ y) (rw (eq-eqb (key o) (key r) h) (ap (λ (y : List A). r ∷ y) (replace-nowhere r (s .high) (others-high s)))))
+
+  -- ---- how many there are
+
+  pub insert-length : (r : A) (l : List A) → length (insert key r l) ≡ length l + 1
+  unfolding insert
+  insert-length r [] = refl
+  insert-length r (x ∷ l) = go (ltb (key r) (key x)) (insert-length r l)
+    where
+      go : (b : Bool) → length (insert key r l) ≡ length l + 1 → length (cond b (r ∷ x ∷ l) (x ∷ insert key r l)) ≡ length (x ∷ l) + 1
+      go true e = omega arith
+      go false e = omega (arith, e)
+
+  pub replace-length : (r : A) (l : List A) → length (replace key r l) ≡ length l
+  unfolding replace
+  replace-length r [] = refl
+  replace-length r (x ∷ l) = ap suc (replace-length r l)

@@ -8,9 +8,10 @@ use Prim.Native.Nat.{ℕ, zero, suc, _+_, _-_, _≤_, _<_}
 use native.Mathlib.Nat.{eq-or-lt-of-le, add-zero, add-suc, not-suc-le-zero}
 use native.Mathlib.Numerals.{add-one}
 use native.Mathlib.Omega.{arith}
+use lib.ListN.{length, length-append}
 use Rattle.le.proofs.Laws.{lt-or-le}
 use Rattle.table.specs.Live.{pick, Each, Gap, Changed, live, without, look, insert, replace, Ascends}
-use Rattle.table.proofs.Lists.{each-append, each-pick, look-here, look-nowhere, Swap, swap-sym, swap-same, swap-without, swap-insert, swap-replace}
+use Rattle.table.proofs.Lists.{each-append, each-pick, look-here, look-nowhere, Swap, swap-sym, swap-same, swap-behind, swap-length, swap-without, swap-insert, swap-replace}
 
 pub same? : (i j : ℕ) → (i ≡ j) ⊎ (i ≡ j → ⊥)
 same? i j =
@@ -70,6 +71,35 @@ module _ {A : Type 0} (mark : A → ℕ) where
       ∙ ap (λ (k : ℕ). live mark f k ++ live mark (λ j. f (i + 1 + j)) (n - (i + 1))) (add-one i)
       ∙ append-assoc (live mark f i) (pick (mark (f i)) (f i)) (live mark (λ j. f (i + 1 + j)) (n - (i + 1)))
 
+  split-at : (f : ℕ → A) (i n : ℕ) → i ≤ n → live mark f n ≡ live mark f i ++ live mark (λ j. f (i + j)) (n - i)
+  split-at f i n h = let e : n ≡ i + (n - i) = omega arith in ap (live mark f) e ∙ live-add f i (n - i)
+
+  -- ---- how many there are
+
+  pub live-few : (f : ℕ → A) (n : ℕ) → length (live mark f n) ≤ n
+  unfolding live
+  live-few f zero = omega arith
+  live-few f (suc n) =
+      omega (arith, live-few f n, length-append (live mark f n) (pick (mark (f n)) (f n)), pick-few (mark (f n)) (f n))
+    where
+      pick-few : (m : ℕ) (r : A) → length (pick m r) ≤ 1
+      pick-few zero r = omega arith
+      pick-few (suc m) r = omega arith
+
+  pub live-all : (f : ℕ → A) (n : ℕ) → ((j : ℕ) → j < n → 0 < mark (f j)) → length (live mark f n) ≡ n
+  unfolding live
+  live-all f zero h = refl
+  live-all f (suc n) h =
+      ap length (rw (add-one n) at (live-more f n (h n (omega arith))))
+      ∙ length-append (live mark f n) (f n ∷ []) ∙ add-one (length (live mark f n)) ∙ ap suc (live-all f n (λ j l. h j (omega arith)))
+
+  pub live-some : (f : ℕ → A) (i n : ℕ) → i < n → 0 < mark (f i) → 0 < length (live mark f n)
+  live-some f i n h m =
+      let e = ap length (split f i n h) in
+      let a = length-append (live mark f i) (pick (mark (f i)) (f i) ++ live mark (λ j. f (i + 1 + j)) (n - (i + 1))) in
+      let b = length-append (pick (mark (f i)) (f i)) (live mark (λ j. f (i + 1 + j)) (n - (i + 1))) in
+      omega (arith, e, a, b, ap length (pick-live (mark (f i)) (f i) m))
+
 module _ {A : Type 0} (mark key : A → ℕ) where
   pub gap-swap : {f g : ℕ → A} {n i : ℕ} → Gap f g n i → Ascends key g (n + 1)
       → Swap key (key (g i)) [] (pick (mark (g i)) (g i)) (live mark f n) (live mark g (n + 1))
@@ -126,6 +156,10 @@ module _ {A : Type 0} (mark key : A → ℕ) where
     live-strike d =
         swap-without key (rw (pick-dead (mark (g i)) (g i) d) at (change-swap p s)) (each-pick (λ r. key r ≡ key (f i)) (mark (f i)) (f i) (λ h. refl))
 
+    pub live-struck : 0 < mark (f i) → mark (g i) ≡ 0 → length (live mark g n) + 1 ≡ length (live mark f n)
+    live-struck a d =
+        let e = swap-length key (rw (pick-live (mark (f i)) (f i) a, pick-dead (mark (g i)) (g i) d) at (change-swap p s)) in omega (arith, e)
+
     pub live-replace : key (g i) ≡ key (f i) → 0 < mark (f i) → 0 < mark (g i) → live mark g n ≡ replace key (g i) (live mark f n)
     live-replace e a b =
         swap-replace key (f i) (g i) (sym e)
@@ -137,6 +171,49 @@ module _ {A : Type 0} (mark key : A → ℕ) where
 
     pub live-still : mark (f i) ≡ 0 → mark (g i) ≡ 0 → live mark g n ≡ live mark f n
     live-still a b = swap-same key (rw (pick-dead (mark (f i)) (f i) a, pick-dead (mark (g i)) (g i) b) at (change-swap p s))
+
+  -- ---- a row put in over a dead one
+
+  -- the rows from i on have moved up, to the dead row d
+  module _ {f g : ℕ → A} {n d i : ℕ} (p : Gap f g d i) (h : d < n) (dead : mark (f d) ≡ 0) (same : (j : ℕ) → d < j → j < n → g j ≡ f j) where
+    pub live-over : Ascends key g n → 0 < mark (g i) → live mark g n ≡ insert key (g i) (live mark f n)
+    live-over s m =
+        split-at mark g (d + 1) n (omega arith)
+        ∙ ap (λ (l : List A). live mark g (d + 1) ++ l) tails
+        ∙ swap-insert key (g i)
+        (swap-behind key (live mark (λ j. f (d + 1 + j)) (n - (d + 1)))
+        (rw (pick-live (mark (g i)) (g i) m) at (gap-swap p (λ a b u v. s a b u (omega arith))))
+        (each-live mark (λ r. key (g i) < key r) (λ j. f (d + 1 + j)) (n - (d + 1))
+        (λ j l q. rw (← same (d + 1 + j) (omega arith) (omega arith)) (s i (d + 1 + j) (omega (arith, p .inside)) (omega arith)))))
+        ∙ ap (insert key (g i)) (sym (split-at mark f (d + 1) n (omega arith) ∙ ap (λ (l : List A). l ++ live mark (λ j. f (d + 1 + j)) (n - (d + 1))) (live-dead mark f d dead)))
+      where
+        tails : live mark (λ j. g (d + 1 + j)) (n - (d + 1)) ≡ live mark (λ j. f (d + 1 + j)) (n - (d + 1))
+        tails = live-ext mark (λ j. f (d + 1 + j)) (λ j. g (d + 1 + j)) (n - (d + 1)) (λ j l. same (d + 1 + j) (omega arith) (omega arith))
+
+  -- the rows up to i have moved down, from behind the dead row e, and i is the new one
+  module _ {f g : ℕ → A} {n i e : ℕ} (p : Gap g f i e) (h : i < n) (dead : mark (f e) ≡ 0) (same : (j : ℕ) → i < j → j < n → g j ≡ f j) where
+    pub live-under : Ascends key f n → Ascends key g n → 0 < mark (g i) → live mark g n ≡ insert key (g i) (live mark f n)
+    live-under r s m =
+        split-at mark g (i + 1) n (omega arith)
+        ∙ ap₂ (λ (a b : List A). a ++ b) (live-more mark g i m) tails
+        ∙ swap-insert key (g i)
+        (record {
+          low = live mark g i;
+          high = live mark (λ j. f (i + 1 + j)) (n - (i + 1));
+          from = refl;
+          to = append-assoc (live mark g i) (g i ∷ []) (live mark (λ j. f (i + 1 + j)) (n - (i + 1)));
+          less = each-live mark (λ r. key r < key (g i)) g i (λ j l q. s j i l h);
+          more =
+              each-live mark (λ r. key (g i) < key r) (λ j. f (i + 1 + j)) (n - (i + 1))
+              (λ j l q. rw (← same (i + 1 + j) (omega arith) (omega arith)) (s i (i + 1 + j) (omega arith) (omega arith)));
+        })
+        ∙ ap (insert key (g i)) (sym (split-at mark f (i + 1) n (omega arith) ∙ ap (λ (l : List A). l ++ live mark (λ j. f (i + 1 + j)) (n - (i + 1))) heads))
+      where
+        tails : live mark (λ j. g (i + 1 + j)) (n - (i + 1)) ≡ live mark (λ j. f (i + 1 + j)) (n - (i + 1))
+        tails = live-ext mark (λ j. f (i + 1 + j)) (λ j. g (i + 1 + j)) (n - (i + 1)) (λ j l. same (i + 1 + j) (omega arith) (omega arith))
+
+        heads : live mark f (i + 1) ≡ live mark g i
+        heads = swap-same key (rw (pick-dead (mark (f e)) (f e) dead) at (gap-swap p (λ a b u v. r a b u (omega arith))))
 
   -- ---- a row looked up
 
@@ -197,6 +274,17 @@ module _ {A : Type 0} (key : A → ℕ) where
       (lt-or-le a i)))
       (eq-or-lt-of-le q))
       (lt-or-le b i)
+
+  -- the first m rows ascend, those behind them are those of f, and are above them
+  pub ascends-join : (f g : ℕ → A) (m n : ℕ) → Ascends key g m → Ascends key f n → ((j : ℕ) → m ≤ j → j < n → g j ≡ f j)
+      → ((i j : ℕ) → i < m → m ≤ j → j < n → key (g i) < key (f j)) → Ascends key g n
+  ascends-join f g m n a b same cross = λ i j h l.
+      ⊎-elim
+      (λ (q : j < m). a i j h q)
+      (λ (q : m ≤ j).
+      rw (same j q l)
+      (⊎-elim (λ (r : i < m). cross i j r q l) (λ (r : m ≤ i). rw (same i r (omega arith)) (b i j h l)) (lt-or-le i m)))
+      (lt-or-le j m)
 
   pub gap-end : (f g : ℕ → A) (n : ℕ) → ((j : ℕ) → j < n → g j ≡ f j) → Gap f g n n
   gap-end f g n h = record { inside = omega arith; before = h; behind = λ j a b. absurd (omega arith) }

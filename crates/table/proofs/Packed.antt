@@ -110,7 +110,7 @@ module _ {A : Type 0} (mark : A → ℕ) where
       (kept-map f ms n (λ j l. h j (omega arith)))
       (map-pick f (ms n) n ∙ ap (λ (m : ℕ). pick m (f n)) (sym (h n (omega arith))))
 
-  live-front : (g : ℕ → A) (n : ℕ) → live mark g (suc n) ≡ pick (mark (g 0)) (g 0) ++ live mark (λ j. g (suc j)) n
+  pub live-front : (g : ℕ → A) (n : ℕ) → live mark g (suc n) ≡ pick (mark (g 0)) (g 0) ++ live mark (λ j. g (suc j)) n
   unfolding live
   live-front g zero = sym (append-nil (pick (mark (g 0)) (g 0)))
   live-front g (suc n) =

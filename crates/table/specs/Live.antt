@@ -1,4 +1,4 @@
--- Rows with a key and a mark, over the type of a row. A row whose mark is 0 is dead. A table with no dead rows has the mark `λ r. 1`.
+-- Rows with a key and a mark, over the type of a row. A row whose mark is 0 is dead. All rows live is the mark `λ r. 1`.
 -- Assumes nothing.
 use mathlib.Core.Path.{_≡_}
 use mathlib.Core.Bool.{cond}

@@ -15,7 +15,7 @@ join-requires c κs =
     let k = a .before .before in
     let s = k .before .before .before in
     let h = rw (c .before .if1 .taken) at (a .is-at .ensures) in
-    (s .pre .0, h .0, join-in _ (s .pre .0) _ _ _ _ (s .pre .1) h)
+    (s .pre .0, h .0, h .2, join-in _ (s .pre .0) _ _ _ _ (s .pre .1) h)
 
 same-length : tie.Need-same-length
 same-length c = search needs

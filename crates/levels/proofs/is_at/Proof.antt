@@ -3,8 +3,8 @@ use Rattle.levels.proofs.Laws.{laws}
 use Rattle.levels.proofs.is_at.Statement.{statement}
 use Rattle.levels.proofs.is_at.Tie as tie
 
-size-requires : tie.Need-size-requires
-size-requires c κs = search needs
+used-requires : tie.Need-used-requires
+used-requires c κs = search needs
 
 returns : tie.Need-returns
 returns c = search laws
@@ -19,4 +19,4 @@ returns-3 : tie.Need-returns-3
 returns-3 c = search laws
 
 pub is-at-spec : {M : Type 1} → statement M
-is-at-spec = tie.close (tie.spec size-requires returns read-row-requires returns-2 returns-3)
+is-at-spec = tie.close (tie.spec used-requires returns read-row-requires returns-2 returns-3)

@@ -4,13 +4,13 @@ use Prim.Native.Nat.{_≤_, _<_}
 use native.Mathlib.Omega.{arith}
 use borrow.Author.Needs.{needs}
 use Rattle.store.specs.Layout.{cell}
-use Rattle.levels.specs.Levels.{key, row, size}
+use Rattle.levels.specs.Levels.{key, row, used}
 use Rattle.levels.proofs.Laws.{laws, first-is, after-is}
 use Rattle.levels.proofs.is_first.Statement.{statement}
 use Rattle.levels.proofs.is_first.Tie as tie
 
-size-requires : tie.Need-size-requires
-size-requires c κs = search needs
+used-requires : tie.Need-used-requires
+used-requires c κs = search needs
 
 returns : tie.Need-returns
 returns c = search needs
@@ -22,15 +22,15 @@ returns-2 : tie.Need-returns-2
 returns-2 c = search laws
 
 -- where there is a row i, its key is not below
-not-low : (c : tie.Joined2) → c .before .before .before .before .args .i < size (c .before .before .before .before .args .side) (cell (c .before .before .before .before .args .m .now)) → c .before .before .before .before .args .key ≤ row (c .before .before .before .before .args .side) (cell (c .before .before .before .before .args .m .now)) (c .before .before .before .before .args .i) .key
+not-low : (c : tie.Joined2) → c .before .before .before .before .args .i < used (c .before .before .before .before .args .side) (cell (c .before .before .before .before .args .m .now)) → c .before .before .before .before .args .key ≤ row (c .before .before .before .before .args .side) (cell (c .before .before .before .before .args .m .now)) (c .before .before .before .before .args .i) .key
 not-low c l =
-    ⊎-elim (λ w. omega (arith, w .3 .left, ap key (w .1 .ensures))) (λ w. omega (arith, w .left, c .before .before .size .ensures)) (c .if2 .came)
+    ⊎-elim (λ w. omega (arith, w .3 .left, ap key (w .1 .ensures))) (λ w. omega (arith, w .left, c .before .before .used .ensures)) (c .if2 .came)
 
 returns-3 : tie.Need-returns-3
 returns-3 c =
     let j = c .before in
     let n = j .before .before in
-    first-is _ (n .before .before .pre) _ _ (omega (arith, j .before .if1 .left, n .size .ensures)) (not-low j) (c .if4 .taken)
+    first-is _ (n .before .before .pre) _ _ (omega (arith, j .before .if1 .left, n .used .ensures)) (not-low j) (c .if4 .taken)
 
 sub-read-row : tie.Need-sub-read-row
 sub-read-row c = search needs
@@ -43,13 +43,13 @@ returns-4 c =
     let e = c .before .before in
     let j = e .before in
     let n = j .before .before in
-    after-is _ (n .before .before .pre) _ _ (omega (arith, j .before .if1 .left, n .size .ensures)) (not-low j) _ (e .if4 .left) (c .before .read-row2 .ensures)
+    after-is _ (n .before .before .pre) _ _ (omega (arith, j .before .if1 .left, n .used .ensures)) (not-low j) _ (e .if4 .left) (c .before .read-row2 .ensures)
 
 pub is-first-spec : {M : Type 1} → statement M
 is-first-spec =
     tie.close
     (tie.spec
-    size-requires
+    used-requires
     returns
     read-row-requires
     returns-2

@@ -10,10 +10,10 @@ read-row-requires : tie.Need-read-row-requires
 read-row-requires c κs = search needs
 
 add-t11 : tie.Need-add-t11
-add-t11 c = omega (arith, ap (λ (x : Row). x .qty) (c .before .before .read-row .ensures), c .before .before .before .before .before .pre .2 .0)
+add-t11 c = omega (arith, ap (λ (x : Row). x .qty) (c .before .before .read-row .ensures), c .before .before .before .before .before .pre .3 .0)
 
 add-t12 : tie.Need-add-t12
-add-t12 c = omega (arith, ap (λ (x : Row). x .orders) (c .before .before .before .read-row .ensures), c .before .before .before .before .before .before .pre .2 .1)
+add-t12 c = omega (arith, ap (λ (x : Row). x .orders) (c .before .before .before .read-row .ensures), c .before .before .before .before .before .before .pre .3 .1)
 
 write-row-requires : tie.Need-write-row-requires
 write-row-requires c κs = search needs

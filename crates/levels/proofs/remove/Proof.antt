@@ -1,5 +1,5 @@
 use borrow.Author.Needs.{needs}
-use mathlib.Core.Path.{ap}
+use mathlib.Core.Path.{sym, ap}
 use native.Mathlib.Omega.{arith}
 use Rattle.levels.specs.declared.Row.{Row}
 use Rattle.levels.proofs.Laws.{remove-in}
@@ -21,7 +21,8 @@ take-out-requires : tie.Need-take-out-requires
 take-out-requires c κs =
     let k = c .before .before .before .before .before in
     let s = k .before .before .before in
-    (s .pre .0, remove-in _ (s .pre .0) _ _ _ (k .seek .ensures) (s .pre .1) .0)
+    let h = remove-in _ (s .pre .0) _ _ _ (k .seek .ensures) (s .pre .1) in
+    (s .pre .0, h .0, h .2, sym (h .1))
 
 same-length : tie.Need-same-length
 same-length c = search needs
@@ -34,14 +35,14 @@ sub-t18 c =
     let r = c .before .before .before .before in
     let k = r .before .before in
     let s = k .before .before .before in
-    omega (arith, ap (λ (x : Row). x .qty) (r .read-row .ensures), remove-in _ (s .pre .0) _ _ _ (k .seek .ensures) (s .pre .1) .2 .0)
+    omega (arith, ap (λ (x : Row). x .qty) (r .read-row .ensures), remove-in _ (s .pre .0) _ _ _ (k .seek .ensures) (s .pre .1) .3 .0)
 
 sub-t19 : tie.Need-sub-t19
 sub-t19 c =
     let r = c .before .before .before .before .before in
     let k = r .before .before in
     let s = k .before .before .before in
-    omega (arith, ap (λ (x : Row). x .orders) (r .read-row .ensures), remove-in _ (s .pre .0) _ _ _ (k .seek .ensures) (s .pre .1) .2 .1)
+    omega (arith, ap (λ (x : Row). x .orders) (r .read-row .ensures), remove-in _ (s .pre .0) _ _ _ (k .seek .ensures) (s .pre .1) .3 .1)
 
 write-row-requires : tie.Need-write-row-requires
 write-row-requires c κs =

@@ -3,8 +3,8 @@ use Rattle.levels.proofs.Laws.{laws}
 use Rattle.levels.proofs.seek.Statement.{statement}
 use Rattle.levels.proofs.seek.Tie as tie
 
-size-requires : tie.Need-size-requires
-size-requires c κs = search needs
+used-requires : tie.Need-used-requires
+used-requires c κs = search needs
 
 base-of-requires : tie.Need-base-of-requires
 base-of-requires c κs = search needs
@@ -16,4 +16,4 @@ returns : tie.Need-returns
 returns c = search laws
 
 pub seek-spec : {M : Type 1} → statement M
-seek-spec = tie.close (tie.spec size-requires base-of-requires bound-by-requires returns)
+seek-spec = tie.close (tie.spec used-requires base-of-requires bound-by-requires returns)

@@ -22,7 +22,7 @@ sub-t15 c =
     let r = c .before .before in
     let k = r .before .before in
     let s = k .before .before .before in
-    omega (arith, ap (λ (x : Row). x .qty) (r .read-row .ensures), show-in _ (s .pre .0) _ _ _ _ (k .seek .ensures) (s .pre .1) .2 .0)
+    omega (arith, ap (λ (x : Row). x .qty) (r .read-row .ensures), show-in _ (s .pre .0) _ _ _ _ (k .seek .ensures) (s .pre .1) .3 .0)
 
 add-t16 : tie.Need-add-t16
 add-t16 c =
@@ -30,7 +30,7 @@ add-t16 c =
     let k = r .before .before in
     let s = k .before .before .before in
     let q = ap (λ (x : Row). x .qty) (r .read-row .ensures) in
-    omega (arith, show-in _ (s .pre .0) _ _ _ _ (k .seek .ensures) (s .pre .1) .2 .1 (omega (arith, q)))
+    omega (arith, show-in _ (s .pre .0) _ _ _ _ (k .seek .ensures) (s .pre .1) .3 .1 (omega (arith, q)))
 
 write-row-requires : tie.Need-write-row-requires
 write-row-requires c κs =

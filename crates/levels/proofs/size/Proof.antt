@@ -3,8 +3,8 @@ use Rattle.levels.proofs.Laws.{laws}
 use Rattle.levels.proofs.size.Statement.{statement}
 use Rattle.levels.proofs.size.Tie as tie
 
-count-of-requires : tie.Need-count-of-requires
-count-of-requires c κs = search needs
+size-cell-requires : tie.Need-size-cell-requires
+size-cell-requires c κs = search needs
 
 get-requires : tie.Need-get-requires
 get-requires c κs = search needs
@@ -13,4 +13,4 @@ returns : tie.Need-returns
 returns c = search laws
 
 pub size-spec : {M : Type 1} → statement M
-size-spec = tie.close (tie.spec count-of-requires get-requires returns)
+size-spec = tie.close (tie.spec size-cell-requires get-requires returns)

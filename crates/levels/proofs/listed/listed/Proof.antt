@@ -1,13 +1,14 @@
 use Rattle.store.specs.Layout.{cell}
-use Rattle.levels.proofs.Filled.{few, both-listed}
+use Rattle.orderbook.specs.declared.Side.the-variants.{Buy, Sell}
+use Rattle.levels.proofs.Filled.{both-listed}
 use Rattle.levels.proofs.listed.listed.Statement.{statement}
 use Rattle.levels.proofs.listed.listed.Tie as tie
 
 best-first-requires : tie.Need-best-first-requires
-best-first-requires c κs = let s = c .before in (s .pre .holds, few _ (s .pre .bounds))
+best-first-requires c κs = c .before .pre Buy
 
 best-first-requires-2 : tie.Need-best-first-requires-2
-best-first-requires-2 c κs = let s = c .before .before in (s .pre .holds, few _ (s .pre .bounds))
+best-first-requires-2 c κs = c .before .before .pre Sell
 
 returns : tie.Need-returns
 returns c =
