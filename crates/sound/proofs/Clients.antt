@@ -17,7 +17,7 @@ use Rattle.gateway.proofs.Base.{split}
 use Rattle.store.specs.Cells as C
 use Rattle.store.specs.View.{Store, word, write, flag, session}
 use Rattle.orders.proofs.Views.{bounds-from}
-use Rattle.levels.specs.Levels.{row, size}
+use Rattle.levels.specs.Levels.{row, used, size}
 use Rattle.clients.specs.Clients.{Limited, Linked}
 use Rattle.clients.specs.Clients as P
 use Rattle.pending.specs.Pending.{BatchFits}
@@ -26,7 +26,7 @@ use Rattle.clients.proofs.Rows.{write-cell, spares, cells-spare, cells-block}
 use Rattle.clients.proofs.Links.{linked-money, linked-bucket, linked-add-account, linked-connect, linked-cell, linked-log-in, linked-forget}
 use Rattle.clients.proofs.Limits.{limited-money, limited-bucket, limited-add-account, limited-connect, limited-session, limited-log-in, limited-forget}
 use Rattle.sound.specs.Sound.{Clients, Sound}
-use Rattle.sound.proofs.Kept.{sided, caches, sound-beside}
+use Rattle.sound.proofs.Kept.{sided, counts, caches, sound-beside}
 
 -- t is s but for accounts and sessions
 abbrev pub Elsewhere : Store → Store → Type 0
@@ -37,7 +37,7 @@ module _ {s t : Store} (e : Elsewhere s t) (d : Sound s) where
   words k = e C.header 0 k (λ q. omega arith) (λ q. omega arith)
 
   pub sound-clients : ((a : ℕ) → a < owner-slots → caches t a ≡ caches s a) → Clients t → Sound t
-  unfolding size
+  unfolding used size
   sound-clients c f =
       sound-beside
       (record {
@@ -48,9 +48,9 @@ module _ {s t : Store} (e : Elsewhere s t) (d : Sound s) where
               resting-are = words C.resting-orders;
               cells = λ j k l m. e C.orders j k (λ q. omega arith) (λ q. omega arith);
             };
-        sizes = sided (λ z. size z t ≡ size z s) (words C.bid-levels) (words C.ask-levels);
+        sizes = sided (λ z. counts z t ≡ counts z s) (λ i. (words C.bid-rows i, words C.bid-levels i)) (λ i. (words C.ask-rows i, words C.ask-levels i));
         levels-are =
-            sided (λ z. (j : ℕ) → j < size z s → row z t j ≡ row z s j)
+            sided (λ z. (j : ℕ) → j < used z s → row z t j ≡ row z s j)
             (λ j l i. record { key = bid j C.level-price i; qty = bid j C.level-qty i; orders = bid j C.level-orders i })
             (λ j l i. record { key = ask j C.level-price i; qty = ask j C.level-qty i; orders = ask j C.level-orders i });
       })

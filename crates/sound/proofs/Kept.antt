@@ -3,6 +3,7 @@ use mathlib.Core.Path.{_≡_, refl, sym, ap, _∙_}
 use mathlib.Core.List.{List}
 use Prim.Native.Nat.{ℕ, _≤_, _<_}
 use native.Mathlib.Omega.{arith}
+use lib.ListN.{length}
 use Rattle.orderbook.specs.declared.Side.{Side}
 use Rattle.orderbook.specs.declared.Side.the-variants.{Buy, Sell}
 use Rattle.words.specs.Words.{wrap}
@@ -25,8 +26,8 @@ use Rattle.store.proofs.Frames.{Agree, order-same, gateway-same}
 use Rattle.orders.proofs.Views.{Keeps, live-kept, resting-kept, ordered-kept, same-keeps, bounds-same}
 use Rattle.orders.specs.Orders.{Ordered, make-room}
 use Rattle.orders.proofs.Room.{make-room-other}
-use Rattle.levels.specs.Levels.{block, count, key, row, size, entries, best}
-use Rattle.levels.proofs.Laws.{count-cell, block-cell}
+use Rattle.levels.specs.Levels.{block, used-cell, size-cell, key, orders, row, used, size, entries, best}
+use Rattle.levels.proofs.Laws.{used-place, size-place, block-cell}
 use Rattle.sound.specs.Sound.{Stored, held-cell, Held, Levels, Clients, Tables, Sound, Becomes}
 
 -- for each side
@@ -67,12 +68,19 @@ numbered-kept e w h j l = let m = rw (e .rows-are) at l in rw (e .cells j C.orde
 
 -- ---- the levels
 
-pub levels-kept : {s t : Store} (z : Side) → size z t ≡ size z s → ((j : ℕ) → j < size z s → row z t j ≡ row z s j) → depth t .resting ≡ depth s .resting → Levels z s → Levels z t
+-- how many rows are in use, and how many levels there are
+abbrev pub counts : Side → Store → ℕ × ℕ
+counts z s = (used z s, size z s)
+
+pub levels-kept : {s t : Store} (z : Side) → counts z t ≡ counts z s → ((j : ℕ) → j < used z s → row z t j ≡ row z s j) → depth t .resting ≡ depth s .resting → Levels z s → Levels z t
 unfolding entries
 levels-kept {s} {t} z n r e d =
+    let rows : used z t ≡ used z s = ap (λ x. x .0) n in
+    let list : entries z t ≡ entries z s = rw rows (live-ext orders (row z s) (row z t) (used z s) r) in
     record {
-      rising = rw n (ascends-ext key (row z s) (row z t) (size z s) (λ j h. ap key (r j h)) (d .rising));
-      are = ap (best z) (rw n (live-ext (λ r. 1) (row z s) (row z t) (size z s) r)) ∙ d .are ∙ sym (ap (Depth.levels z) e);
+      rising = rw rows (ascends-ext key (row z s) (row z t) (used z s) (λ j h. ap key (r j h)) (d .rising));
+      are = ap (best z) list ∙ d .are ∙ sym (ap (Depth.levels z) e);
+      counted = ap (λ x. x .1) n ∙ d .counted ∙ sym (ap length list);
     }
 
 -- ---- accounts, sessions and the batch
@@ -119,8 +127,8 @@ chained-room s o =
 
 pub record Beside (s t : Store) : Type 0 where
   pub keeps : Keeps s t
-  pub sizes : (z : Side) → size z t ≡ size z s
-  pub levels-are : (z : Side) (j : ℕ) → j < size z s → row z t j ≡ row z s j
+  pub sizes : (z : Side) → counts z t ≡ counts z s
+  pub levels-are : (z : Side) (j : ℕ) → j < used z s → row z t j ≡ row z s j
 
 -- the words that may grow: in bounds, and the last number; and the chains of changed levels
 pub record Grown (s t : Store) : Type 0 where
@@ -155,16 +163,16 @@ module _ (s t : Store) (e : Same s t) (d : Sound s) where
   word-same : (k : ℕ) → k < 32 → word t k ≡ word s k
   word-same k l = sym (e C.header 0 k (header-cell k l))
 
-  size-same : (z : Side) → size z t ≡ size z s
-  unfolding size
-  size-same z = sym (e C.header 0 (count z) (count-cell z))
+  size-same : (z : Side) → counts z t ≡ counts z s
+  unfolding used size
+  size-same z = λ i. (sym (e C.header 0 (used-cell z) (used-place z)) i, sym (e C.header 0 (size-cell z) (size-place z)) i)
 
-  few : (z : Side) → size z s ≤ most-levels
-  unfolding size
+  few : (z : Side) → used z s ≤ most-levels
+  unfolding used
   few Buy = bounds .bids-fit
   few Sell = bounds .asks-fit
 
-  row-same : (z : Side) (j : ℕ) → j < size z s → row z t j ≡ row z s j
+  row-same : (z : Side) (j : ℕ) → j < used z s → row z t j ≡ row z s j
   row-same z j h = λ i. record { key = at 0 (omega arith) i; qty = at 1 (omega arith) i; orders = at 2 (omega arith) i }
     where
       at : (k : ℕ) → k < 4 → t (block z) j k ≡ s (block z) j k

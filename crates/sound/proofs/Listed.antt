@@ -6,9 +6,9 @@ use Rattle.orderbook.specs.declared.Side.{Side}
 use Rattle.gateway.specs.Depth as Depth
 use Rattle.store.specs.View.{Store, depth}
 use Rattle.levels.specs.declared.listed.Level.{Level}
-use Rattle.levels.specs.Levels.{size}
+use Rattle.levels.specs.Levels.{size, entries}
 use Rattle.levels.specs.Listed.{seen, Lists}
-use Rattle.levels.proofs.Filled.{best-size}
+use Rattle.levels.proofs.Best.{best-length}
 use Rattle.sound.specs.Sound.{Levels, Sound}
 use Rattle.sound.proofs.Kept.{sided}
 
@@ -20,4 +20,4 @@ module _ {s : Store} (d : Sound s) (z : Side) where
   lists-levels l p = p .levels ∙ levels-are .are
 
   pub size-levels : size z s ≡ length (Depth.levels z (depth s .resting))
-  size-levels = sym (best-size z s) ∙ ap length (levels-are .are)
+  size-levels = levels-are .counted ∙ sym (best-length z (entries z s)) ∙ ap length (levels-are .are)

@@ -7,7 +7,7 @@ use Rattle.gateway.specs.Limits.{most-notices, most-trades, most-in-flight, mos
 use Rattle.gateway.specs.Rest.{account-of}
 use Rattle.store.specs.Cells as C
 use Rattle.store.specs.View.{Row, Store, word, fill, session, Bounds}
-use Rattle.levels.specs.Levels.{row, size}
+use Rattle.levels.specs.Levels.{row, used, size}
 use Rattle.store.proofs.Rows.{fill-elsewhere}
 use Rattle.clients.proofs.Links.{linked-ext}
 use Rattle.clients.proofs.Limits.{limited-ext}
@@ -15,7 +15,7 @@ use Rattle.pending.specs.Pending as P
 use Rattle.pending.proofs.Commands.{batch-fits}
 use Rattle.pending.proofs.Chain.{chains, chained-kept, chained-same, chained-none, chained-pushed}
 use Rattle.sound.specs.Sound.{Clients, Sound}
-use Rattle.sound.proofs.Kept.{sided, Grown, sound-beside}
+use Rattle.sound.proofs.Kept.{sided, counts, Grown, sound-beside}
 
 -- accounts, sessions, orders and levels are those of s
 pub record Untouched (s t : Store) : Type 0 where
@@ -27,8 +27,10 @@ pub record Untouched (s t : Store) : Type 0 where
   pub rows-are : word t C.order-rows ≡ word s C.order-rows
   pub live-are : word t C.live-orders ≡ word s C.live-orders
   pub resting-are : word t C.resting-orders ≡ word s C.resting-orders
-  pub bid-sizes : word t C.bid-levels ≡ word s C.bid-levels
-  pub ask-sizes : word t C.ask-levels ≡ word s C.ask-levels
+  pub bid-rows-are : word t C.bid-rows ≡ word s C.bid-rows
+  pub ask-rows-are : word t C.ask-rows ≡ word s C.ask-rows
+  pub bid-levels-are : word t C.bid-levels ≡ word s C.bid-levels
+  pub ask-levels-are : word t C.ask-levels ≡ word s C.ask-levels
 
 module _ {s t : Store} (e : Untouched s t) (g : Grown s t) (f : P.BatchFits t) where
   clients-there : Clients s → Clients t
@@ -40,14 +42,14 @@ module _ {s t : Store} (e : Untouched s t) (g : Grown s t) (f : P.BatchFits t) w
       }
 
   pub sound-untouched : Sound s → Sound t
-  unfolding size
+  unfolding used size
   sound-untouched =
       sound-beside
       (record {
         keeps = record { rows-are = e .rows-are; live-are = e .live-are; resting-are = e .resting-are; cells = λ j k l m. e .orders j k };
-        sizes = sided (λ z. size z t ≡ size z s) (e .bid-sizes) (e .ask-sizes);
+        sizes = sided (λ z. counts z t ≡ counts z s) (λ i. (e .bid-rows-are i, e .bid-levels-are i)) (λ i. (e .ask-rows-are i, e .ask-levels-are i));
         levels-are =
-            sided (λ z. (j : ℕ) → j < size z s → row z t j ≡ row z s j)
+            sided (λ z. (j : ℕ) → j < used z s → row z t j ≡ row z s j)
             (λ j l i. record { key = e .bids j C.level-price i; qty = e .bids j C.level-qty i; orders = e .bids j C.level-orders i })
             (λ j l i. record { key = e .asks j C.level-price i; qty = e .asks j C.level-qty i; orders = e .asks j C.level-orders i });
       })
@@ -107,8 +109,10 @@ module _ (s : Store) (d : Sound s) where
         rows-are = words C.order-rows;
         live-are = words C.live-orders;
         resting-are = words C.resting-orders;
-        bid-sizes = words C.bid-levels;
-        ask-sizes = words C.ask-levels;
+        bid-rows-are = words C.bid-rows;
+        ask-rows-are = words C.ask-rows;
+        bid-levels-are = words C.bid-levels;
+        ask-levels-are = words C.ask-levels;
       })
       (record {
         bounds =
@@ -117,8 +121,8 @@ module _ (s : Store) (d : Sound s) where
               flights-fit = rw (words C.flying) (b .flights-fit);
               batch-fits = omega arith;
               orders-fit = rw (words C.order-rows) (b .orders-fit);
-              bids-fit = rw (words C.bid-levels) (b .bids-fit);
-              asks-fit = rw (words C.ask-levels) (b .asks-fit);
+              bids-fit = rw (words C.bid-rows) (b .bids-fit);
+              asks-fit = rw (words C.ask-rows) (b .asks-fit);
               trades-fit = rw (words C.trade-rows) (b .trades-fit);
               notices-fit = rw (words C.notice-rows) (b .notices-fit);
               changed-fit = rw (words C.changed-rows) (b .changed-fit);

@@ -2,6 +2,7 @@
 use Prim.Native.Nat.{ℕ, _≤_, _<_}
 use mathlib.Core.Path.{_≡_}
 use mathlib.Core.List.{List}
+use lib.ListN.{length}
 use Rattle.orderbook.specs.declared.Side.{Side}
 use Rattle.orderbook.specs.declared.Side.the-variants.{Buy, Sell}
 use Rattle.words.specs.Words.{int, wrap}
@@ -16,7 +17,7 @@ use Rattle.store.specs.View.{Row, Store, word, order, ledger, depth, gateway}
 use Rattle.pending.specs.Pending.{BatchFits, Chained}
 use Rattle.clients.specs.Clients.{Limited, Linked}
 use Rattle.orders.specs.Orders.{Ordered}
-use Rattle.levels.specs.Levels.{key, row, size, entries, best}
+use Rattle.levels.specs.Levels.{key, row, used, size, entries, best}
 
 -- ---- what is counted from the live orders
 
@@ -38,8 +39,9 @@ pub record Held (s : Store) : Type 0 where
 
 -- ---- what is counted from the resting orders: each level's quantity and number of orders, and the number of levels
 pub record Levels (z : Side) (s : Store) : Type 0 where
-  pub rising : Ascends key (row z s) (size z s)
+  pub rising : Ascends key (row z s) (used z s)
   pub are : best z (entries z s) ≡ Depth.levels z (depth s .resting)
+  pub counted : size z s ≡ length (entries z s)
 
 -- ---- accounts, sessions and the batch
 
