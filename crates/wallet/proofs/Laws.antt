@@ -2,16 +2,19 @@
 use mathlib.Core.Path.{_≡_, sym, _∙_, ap}
 use mathlib.Core.Bool.{Bool, true, false}
 use mathlib.Core.Option.{none, some, Option·getD, Option·map}
-use Prim.Native.Nat.{ℕ}
-use lib.IntN.{_+ℤ_, _-ℤ_}
+use Prim.Native.Nat.{ℕ, _-_}
+use native.Mathlib.Omega.{arith}
+use lib.IntN.{ℤ, pos, _+ℤ_, _-ℤ_, _*ℤ_}
 use lib.Signed.{leZ}
 use borrow.Author.Needs.{needs}
 use Rattle.orderbook.specs.declared.Side.{Side}
+use Rattle.orderbook.specs.declared.Side.the-variants.{Buy, Sell}
 use Rattle.protocol.specs.declared.Balance.{Balance}
 use Rattle.words.specs.declared.Amount.{Amount}
 use Rattle.words.specs.declared.Amount.the-variants.{Fits, TooBig}
-use Rattle.words.specs.Words.{int, amount, fit}
-use Rattle.words.proofs.Int.{int-zero}
+use Rattle.words.specs.Words.{half, int, amount, fit, clamp}
+use Rattle.words.proofs.Int.{int-zero, int-most, low}
+use Rattle.wallet.specs.declared.Wallet.{Wallet}
 use Rattle.wallet.specs.Wallet as W
 
 pub covered : (side : Side) (b : Balance) (a o h : ℕ) (r : Bool) → int o ≡ W.owned-on side b → int h ≡ W.held-on side b → r ≡ leZ (int a) (int o -ℤ int h) → r ≡ W.covers side (int a) b
@@ -32,4 +35,20 @@ at-price side p price leaves r a t e f = rw t (f ∙ (λ i. Option·getD (e i) (
 pub no-price : (side : Side) (p : Bool) (price leaves : ℕ) → p ≡ false → int 0 ≡ W.held side (W.price-of p (int price)) leaves
 no-price side p price leaves t = rw t int-zero
 
-pub ruleset laws = (needs, covered, holds, overflows, at-price, no-price)
+itself : (q : ℕ) → int 1 *ℤ pos q ≡ pos q
+itself q = ap (λ (z : ℤ). z *ℤ pos q) (low 1 (omega arith)) ∙ ap pos (omega arith)
+
+pub hold-is : (side : Side) (price leaves p : ℕ) (a : Amount) → p ≡ W.pick side price 1 → amount a ≡ W.cost (int p) leaves → amount a ≡ W.hold-of side (int price) leaves
+hold-is Buy price leaves p a e f = f ∙ ap (λ (w : ℕ). W.cost (int w) leaves) e
+hold-is Sell price leaves p a e f = f ∙ ap (λ (w : ℕ). W.cost (int w) leaves) e ∙ ap fit (itself leaves)
+
+-- the picks and sums of a settling, the last ones first
+pub settles : (side : Side) (w : Wallet) (price qty cash position given taken from spent to won paid lots : ℕ) (a l : Amount) → cash ≡ W.pick side given taken → position ≡ W.pick side taken given →
+    int taken ≡ clamp (int to +ℤ int won) → won ≡ W.pick side lots paid → to ≡ W.pick side (w .position) (w .cash) →
+    int given ≡ clamp (int from -ℤ int spent) → spent ≡ W.pick side paid lots → from ≡ W.pick side (w .cash) (w .position) →
+    int lots ≡ Option·getD (amount l) (int (half - 1)) → amount l ≡ fit (pos qty) → int paid ≡ Option·getD (amount a) (int (half - 1)) → amount a ≡ W.cost (int price) qty →
+    W.with-funds (record { cash = int cash; position = int position }) (W.balance-of w) ≡ W.settled side (int price) qty (W.balance-of w)
+settles Buy w price qty cash position given taken from spent to won paid lots a l e1 e2 e3 e4 e5 e6 e7 e8 e9 e10 e11 e12 = cc int-most
+settles Sell w price qty cash position given taken from spent to won paid lots a l e1 e2 e3 e4 e5 e6 e7 e8 e9 e10 e11 e12 = cc int-most
+
+pub ruleset laws = (needs, covered, holds, overflows, at-price, no-price, hold-is, settles)

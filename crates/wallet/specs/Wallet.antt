@@ -16,6 +16,11 @@ use Rattle.wallet.specs.declared.Changed as C
 abbrev pub cost : ℤ → ℕ → Option ℤ
 cost price qty = fit (price *ℤ pos qty)
 
+-- the one of the side
+abbrev pub pick : Side → ℕ → ℕ → ℕ
+pick Buy buy sell = buy
+pick Sell buy sell = sell
+
 -- what an order at a price holds, if it fits: cash for a buy, lots for a sell
 abbrev pub hold-of : Side → ℤ → ℕ → Option ℤ
 hold-of Buy price leaves = cost price leaves

@@ -34,6 +34,16 @@ fn unwrap_or(a: Amount, other: u64) -> u64
     }
 }
 
+// By the side. A choice between two numbers, not a jump: the side cannot be foreseen.
+fn pick(side: Side, buy: u64, sell: u64) -> u64
+    ensures { λ r. ⌜ r ≡ W.pick side buy sell ⌝ }
+{
+    match side {
+        Side::Buy => buy,
+        Side::Sell => sell,
+    }
+}
+
 // What a live order holds: nothing without a price, or where the amount does not fit.
 pub fn held(side: Side, priced: bool, price: u64, leaves: u64) -> u64
     ensures { λ r. ⌜ int r ≡ W.held side (W.price-of priced (int price)) leaves ⌝ }
@@ -80,10 +90,8 @@ impl Wallet {
     pub fn hold_of(side: Side, price: u64, leaves: u64) -> Amount
         ensures { λ r. ⌜ amount r ≡ W.hold-of side (int price) leaves ⌝ }
     {
-        match side {
-            Side::Buy => cost(price, leaves),
-            Side::Sell => words::positive(leaves),
-        }
+        // A lot at price 1 is itself.
+        cost(pick(side, price, 1), leaves)
     }
 
     fn owned_on(self, side: Side) -> u64
@@ -140,37 +148,26 @@ impl Wallet {
         }
     }
 
-    fn bought(self, amount: u64, lots: u64) -> Wallet
-        ensures { λ r. ⌜ W.balance-of r ≡ W.with-funds (W.bought (int amount) (int lots) (W.funds (W.balance-of self))) (W.balance-of self) ⌝ }
-    {
-        Wallet {
-            cash: words::saturating_sub(self.cash, amount),
-            position: words::saturating_add(self.position, lots),
-            cash_held: self.cash_held,
-            position_held: self.position_held,
-        }
-    }
-
-    fn sold(self, amount: u64, lots: u64) -> Wallet
-        ensures { λ r. ⌜ W.balance-of r ≡ W.with-funds (W.sold (int amount) (int lots) (W.funds (W.balance-of self))) (W.balance-of self) ⌝ }
-    {
-        Wallet {
-            cash: words::saturating_add(self.cash, amount),
-            position: words::saturating_sub(self.position, lots),
-            cash_held: self.cash_held,
-            position_held: self.position_held,
-        }
-    }
-
     // Settles a trade of qty lots at price by an order of side.
     pub fn settle(self, side: Side, price: u64, qty: u64) -> Wallet
         ensures { λ r. ⌜ W.balance-of r ≡ W.settled side (int price) qty (W.balance-of self) ⌝ }
     {
         let amount = unwrap_or(cost(price, qty), words::MOST);
         let lots = unwrap_or(words::positive(qty), words::MOST);
-        match side {
-            Side::Buy => self.bought(amount, lots),
-            Side::Sell => self.sold(amount, lots),
+        // A buy gives cash for lots, a sell lots for cash.
+        let given = words::saturating_sub(
+            pick(side, self.cash, self.position),
+            pick(side, amount, lots),
+        );
+        let taken = words::saturating_add(
+            pick(side, self.position, self.cash),
+            pick(side, lots, amount),
+        );
+        Wallet {
+            cash: pick(side, given, taken),
+            position: pick(side, taken, given),
+            cash_held: self.cash_held,
+            position_held: self.position_held,
         }
     }
 

@@ -1,5 +1,5 @@
 use borrow.Author.Needs.{needs}
-use Rattle.words.proofs.Int.{int-most}
+use Rattle.wallet.proofs.Laws.{laws}
 use Rattle.wallet.proofs.Wallet.settle.Statement.{statement}
 use Rattle.wallet.proofs.Wallet.settle.Tie as tie
 
@@ -15,23 +15,32 @@ positive-requires c κs = search needs
 unwrap-or-requires-2 : tie.Need-unwrap-or-requires-2
 unwrap-or-requires-2 c κs = search needs
 
-enum-told : tie.Need-enum-told
-enum-told c = search needs
+pick-requires : tie.Need-pick-requires
+pick-requires c κs = search needs
 
-bought-requires : tie.Need-bought-requires
-bought-requires c κs = search needs
+pick-requires-2 : tie.Need-pick-requires-2
+pick-requires-2 c κs = search needs
 
-enum-told-2 : tie.Need-enum-told-2
-enum-told-2 c = search needs
+saturating-sub-requires : tie.Need-saturating-sub-requires
+saturating-sub-requires c κs = search needs
 
-sold-requires : tie.Need-sold-requires
-sold-requires c κs = search needs
+pick-requires-3 : tie.Need-pick-requires-3
+pick-requires-3 c κs = search needs
+
+pick-requires-4 : tie.Need-pick-requires-4
+pick-requires-4 c κs = search needs
+
+saturating-add-requires : tie.Need-saturating-add-requires
+saturating-add-requires c κs = search needs
+
+pick-requires-5 : tie.Need-pick-requires-5
+pick-requires-5 c κs = search needs
+
+pick-requires-6 : tie.Need-pick-requires-6
+pick-requires-6 c κs = search needs
 
 returns : tie.Need-returns
-returns c = rw (c .before .enum-told .given .1) (cc int-most)
-
-returns-2 : tie.Need-returns-2
-returns-2 c = rw (c .before .enum-told2 .given .1) (cc int-most)
+returns c = search laws
 
 pub settle-spec : {M : Type 1} → statement M
 settle-spec =
@@ -41,9 +50,12 @@ settle-spec =
     unwrap-or-requires
     positive-requires
     unwrap-or-requires-2
-    enum-told
-    bought-requires
-    enum-told-2
-    sold-requires
-    returns
-    returns-2)
+    pick-requires
+    pick-requires-2
+    saturating-sub-requires
+    pick-requires-3
+    pick-requires-4
+    saturating-add-requires
+    pick-requires-5
+    pick-requires-6
+    returns)
