@@ -1,6 +1,6 @@
 -- Codes 7 and 5 as the code judges them are the definitions' tests. Assumes nothing.
 use mathlib.Core.Path.{_≡_, refl, sym, ap, ap₂, _∙_}
-use mathlib.Core.Bool.{Bool, true, false, cond, not, _&&_, and-eq-true-iff}
+use mathlib.Core.Bool.{Bool, true, false, cond, not, _&&_, _||_, and-eq-true-iff}
 use mathlib.Core.List.{List}
 use Prim.Native.Nat.{ℕ, _+_}
 use native.Mathlib.Omega.{arith}
@@ -39,17 +39,14 @@ module _ (s t : Shift) where
 -- ---- code 7
 
 module _ {xs : List ℕ} (b : Between xs) (s : Shift) (o : Owned s (ledger (cell xs))) where
-  pub fits-none : s .funded ≡ false → true ≡ shift-fits s (ledger (cell xs))
-  fits-none f = sym (rw f refl)
-
   exact : s .funded ≡ true → (z : Side) → int (cell xs C.accounts (s .account) (held-cell z)) ≡ held (s .account) z (ledger (cell xs) .orders)
   exact f = held-exact (cell xs) (s .account) (b .state .sound .held) (b .ok .core-is .holds) (o .inside) (o .has-wallet f)
 
-  pub fits-some : s .funded ≡ true → (z : Side) → z ≡ side (s .side) → (r : Bool) → r ≡ fits (int (cell xs C.accounts (s .account) (held-cell z)) -ℤ int (s .old) +ℤ int (s .new)) →
-      r ≡ shift-fits s (ledger (cell xs))
-  fits-some f z e r h =
-      h ∙ ap (λ v. fits (v -ℤ int (s .old) +ℤ int (s .new))) (exact f z ∙ ap (λ w. held (s .account) w (ledger (cell xs) .orders)) e)
-      ∙ sym (ap (λ (c : Bool). cond c (fits (held (s .account) (side (s .side)) (ledger (cell xs) .orders) -ℤ int (s .old) +ℤ int (s .new))) true) f)
+  pub fits-is : (z : Side) → z ≡ side (s .side) → (r : Bool) → r ≡ fits (int (cell xs C.accounts (s .account) (held-cell z)) -ℤ int (s .old) +ℤ int (s .new)) →
+      not (s .funded) || r ≡ shift-fits s (ledger (cell xs))
+  fits-is z e r h =
+      split (λ b. not b || r ≡ cond b (fits (held (s .account) (side (s .side)) (ledger (cell xs) .orders) -ℤ int (s .old) +ℤ int (s .new))) true) (s .funded)
+      (λ f. h ∙ ap (λ v. fits (v -ℤ int (s .old) +ℤ int (s .new))) (exact f z ∙ ap (λ w. held (s .account) w (ledger (cell xs) .orders)) e)) (λ f. refl)
 
   module _ (t : Shift) (one : Bool) (one-is : one ≡ is-one s t) where
     pub pair-one : one ≡ true → (z : Side) → z ≡ side (s .side) → (r : Bool) →
@@ -83,4 +80,4 @@ module _ {xs : List ℕ} (b : Between xs) (s : Shift) (o : Owned s (ledger (cell
 pub few-is : (s : Store) (k n : ℕ) → n ≡ word s C.notice-rows → leb (k + n) most-notices ≡ leb (k + word s C.notice-rows) most-notices
 few-is s k n e = ap (λ m. leb (k + m) most-notices) e
 
-pub ruleset judging = (one-by-side, other-account, second-without, first-without, fits-none, fits-some, pair-one, pair-second, pair-first, few-is, arith)
+pub ruleset judging = (one-by-side, other-account, second-without, first-without, fits-is, pair-one, pair-second, pair-first, few-is, arith)

@@ -119,16 +119,14 @@ pub fn weigh(m: &[u8], id: u64, at: Found, x: Move) -> Shift
     nothing()
 }
 
-// Code 7: the total that the order is a part of.
+// Code 7: the total that the order is a part of. It is computed without a wallet too, where it does not count: a jump on that cannot be foreseen.
 pub fn fits(m: &[u8], s: Shift) -> bool
     requires { ⌜ Between (now m) × P.Owned s (ledger (cell (now m))) ⌝ }
     ensures { λ r. ⌜ r ≡ P.shift-fits s (ledger (cell (now (m .entry)))) ⌝ }
 {
-    if s.funded {
-        let side = store::side_of(s.side);
-        return live::total_fits(m, s.account as usize, side, s.old, s.new);
-    }
-    true
+    let side = store::side_of(s.side);
+    let ok = live::total_fits(m, s.account as usize, side, s.old, s.new);
+    !s.funded | ok
 }
 
 // Both are parts of one total.

@@ -12,8 +12,5 @@ total-fits-requires c κs = search needs
 returns : tie.Need-returns
 returns c = search judging
 
-returns-2 : tie.Need-returns-2
-returns-2 c = search needs
-
 pub fits-spec : {M : Type 1} → statement M
-fits-spec = tie.close (tie.spec side-of-requires total-fits-requires returns returns-2)
+fits-spec = tie.close (tie.spec side-of-requires total-fits-requires returns)
