@@ -1,10 +1,9 @@
 -- Codes 7 and 5 as the code judges them are the definitions' tests. Assumes nothing.
 use mathlib.Core.Path.{_≡_, refl, sym, ap, ap₂, _∙_}
-use mathlib.Core.Bool.{Bool, true, false, cond, not, _&&_, _||_, and-eq-true-iff}
+use mathlib.Core.Bool.{Bool, true, false, cond, not, _&&_, _||_, and-assoc, and-eq-true-iff}
 use mathlib.Core.List.{List}
 use Prim.Native.Nat.{ℕ, _+_}
 use native.Mathlib.Omega.{arith}
-use borrow.Author.Tests.{eq-eqb, ne-eqb}
 use lib.Dec.{eqb, leb}
 use lib.IntN.{ℤ, _+ℤ_, _-ℤ_}
 use Rattle.orderbook.specs.declared.Side.{Side}
@@ -23,18 +22,8 @@ use Rattle.holds.specs.Holds.{Owned, shift-fits, is-one, pair-fits}
 
 -- ---- both are parts of one total
 
-module _ (s t : Shift) where
-  pub one-by-side : (r : Bool) → s .funded ≡ true → t .funded ≡ true → s .account ≡ t .account → r ≡ same-side (side (s .side)) (side (t .side)) → r ≡ is-one s t
-  one-by-side r f g e h = h ∙ sym (rw (f, g, eq-eqb (s .account) (t .account) e) refl)
-
-  pub other-account : s .funded ≡ true → t .funded ≡ true → (s .account ≡ t .account → ⊥) → false ≡ is-one s t
-  other-account f g e = sym (rw (f, g, ne-eqb (s .account) (t .account) e) refl)
-
-  pub second-without : s .funded ≡ true → t .funded ≡ false → false ≡ is-one s t
-  second-without f g = sym (rw (f, g) refl)
-
-  pub first-without : s .funded ≡ false → false ≡ is-one s t
-  first-without f = sym (rw f refl)
+pub all-four : (s t : Shift) (r : Bool) → r ≡ same-side (side (s .side)) (side (t .side)) → s .funded && t .funded && eqb (s .account) (t .account) && r ≡ is-one s t
+all-four s t r h = simp (h, and-assoc)
 
 -- ---- code 7
 
@@ -80,4 +69,4 @@ module _ {xs : List ℕ} (b : Between xs) (s : Shift) (o : Owned s (ledger (cell
 pub few-is : (s : Store) (k n : ℕ) → n ≡ word s C.notice-rows → leb (k + n) most-notices ≡ leb (k + word s C.notice-rows) most-notices
 few-is s k n e = ap (λ m. leb (k + m) most-notices) e
 
-pub ruleset judging = (one-by-side, other-account, second-without, first-without, fits-is, pair-one, pair-second, pair-first, few-is, arith)
+pub ruleset judging = (all-four, fits-is, pair-one, pair-second, pair-first, few-is, arith)

@@ -129,18 +129,12 @@ pub fn fits(m: &[u8], s: Shift) -> bool
     !s.funded | ok
 }
 
-// Both are parts of one total.
+// Both are parts of one total. No jump here either.
 fn is_one(s: Shift, t: Shift) -> bool
     ensures { λ r. ⌜ r ≡ P.is-one s t ⌝ }
 {
-    if s.funded {
-        if t.funded {
-            if s.account == t.account {
-                return pending::changed::same_side(s.side, t.side);
-            }
-        }
-    }
-    false
+    let same_side = pending::changed::same_side(s.side, t.side);
+    s.funded & t.funded & (s.account == t.account) & same_side
 }
 
 // Code 7 for two orders: one total that both are parts of is judged once, whatever either change alone gives.

@@ -9,14 +9,5 @@ same-side-requires c κs = search needs
 returns : tie.Need-returns
 returns c = search judging
 
-returns-2 : tie.Need-returns-2
-returns-2 c = search judging
-
-returns-3 : tie.Need-returns-3
-returns-3 c = search needs
-
-returns-4 : tie.Need-returns-4
-returns-4 c = search needs
-
 pub is-one-spec : {M : Type 1} → statement M
-is-one-spec = tie.close (tie.spec same-side-requires returns returns-2 returns-3 returns-4)
+is-one-spec = tie.close (tie.spec same-side-requires returns)
