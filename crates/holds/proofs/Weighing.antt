@@ -71,9 +71,6 @@ count-same b x old new n f h e = h ∙ sym (ap₂ (λ c d. cond c (cond d (settl
 pub count-other : (b : Bool) (x : Move) (old new n : ℕ) → b ≡ true → n ≡ settles x → old < modulus → new < modulus → (old ≡ new → ⊥) → n + 1 ≡ cond b (notice-count x old new) 0
 count-other b x old new n f h l m e = ap (λ k. k + 1) h ∙ sym (ap₂ (λ c d. cond c (cond d (settles x) (settles x + 1)) 0) f (differs old new l m e))
 
-pub count-none : (b : Bool) (x : Move) (old new : ℕ) → b ≡ false → 0 ≡ cond b (notice-count x old new) 0
-count-none b x old new f = sym (ap (λ c. cond c (notice-count x old new) 0) f)
-
 -- ---- a row
 
 pub row-weighed : (x : Move) (o : Live) (s : Store) (b : Bool) (h k : ℕ) → h ≡ hold-after-word x o → b ≡ is-some (wallet (s C.accounts (o .account))) → k ≡ cond b (notice-count x (o .hold) h) 0 →
@@ -184,4 +181,4 @@ module _ (xs : List ℕ) (st : State xs) (n : ℕ) (at : Found) (sees : Sees C.o
           old-is : int (s C.orders i C.order-hold) ≡ order-hold was
           old-is = st .sound .held .rows i (there .row .0) (there .row .2) .hold-is
 
-pub ruleset weighing = (after-fill, after-leaves, after-reprice, after-retire, settles-as, count-same, count-other, count-none, row-weighed, weighs-nothing, row-small, owner-small, live-at, weighs-row, arith)
+pub ruleset weighing = (after-fill, after-leaves, after-reprice, after-retire, settles-as, count-same, count-other, row-weighed, weighs-nothing, row-small, owner-small, live-at, weighs-row, arith)

@@ -67,14 +67,9 @@ fn settles(x: Move) -> u64
 fn count_notices(funded: bool, x: Move, old: u64, new: u64) -> u64
     ensures { λ r. ⌜ r ≡ cond funded (P.notice-count x old new) 0 ⌝ }
 {
-    if funded {
-        let n = settles(x);
-        if old == new {
-            return n;
-        }
-        return n + 1;
-    }
-    0
+    let n = settles(x);
+    let notices = if old == new { n } else { n + 1 };
+    if funded { notices } else { 0 }
 }
 
 fn nothing() -> Shift

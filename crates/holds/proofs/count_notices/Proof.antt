@@ -1,6 +1,7 @@
+use mathlib.Core.Logic.{⊎-elim}
+use mathlib.Core.Path.{_∙_}
 use native.Mathlib.Omega.{arith}
-use Rattle.holds.proofs.Weighing.{settles-small}
-use Rattle.holds.proofs.Weighing.{weighing}
+use Rattle.holds.proofs.Weighing.{settles-small, weighing}
 use borrow.Author.Needs.{needs}
 use Rattle.holds.proofs.count_notices.Statement.{statement}
 use Rattle.holds.proofs.count_notices.Tie as tie
@@ -8,17 +9,14 @@ use Rattle.holds.proofs.count_notices.Tie as tie
 settles-requires : tie.Need-settles-requires
 settles-requires c κs = search needs
 
-returns : tie.Need-returns
-returns c = search weighing
+add-notices : tie.Need-add-notices
+add-notices c = record { fits = omega (arith, c .before .settles .ensures, settles-small (c .before .before .args .x)) }
 
-add-result : tie.Need-add-result
-add-result c = record { fits = omega (arith, c .before .settles .ensures, settles-small (c .before .before .before .args .x)) }
+returns : tie.Need-returns
+returns c = ⊎-elim (λ w. w .1 ∙ search weighing) (λ w. w .1 ∙ search weighing) (c .before .if1 .came)
 
 returns-2 : tie.Need-returns-2
-returns-2 c = search weighing
-
-returns-3 : tie.Need-returns-3
-returns-3 c = search weighing
+returns-2 c = search needs
 
 pub count-notices-spec : {M : Type 1} → statement M
-count-notices-spec = tie.close (tie.spec settles-requires returns add-result returns-2 returns-3)
+count-notices-spec = tie.close (tie.spec settles-requires add-notices returns returns-2)
