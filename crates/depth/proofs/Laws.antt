@@ -8,27 +8,27 @@ use borrow.Author.Tests.{le-leb, lt-leb}
 use lib.ListN.{length, getD, take, length-map}
 use lib.Seq.{take-suc, take-all, length-take-le}
 use Rattle.orderbook.specs.declared.Side.{Side}
-use Rattle.words.specs.Words.{int, half, _⊖_, modulus}
+use Rattle.words.specs.Words.{int, modulus}
 use Rattle.gateway.specs.Limits.{most-levels}
 use Rattle.gateway.specs.Depth as D
 use Rattle.gateway.specs.Entry.{unless, levels-are}
 use Rattle.gateway.specs.Calls.{call, plan, depth-levels}
 use Rattle.store.specs.Layout.{cell}
-use Rattle.store.specs.View.{listed, gateway}
-use Rattle.store.proofs.Listed.{listed-at}
-use Rattle.levels.specs.declared.Row.{Row}
+use Rattle.store.specs.View.{gateway}
+use Rattle.levels.specs.declared.listed.Level.{Level}
 use Rattle.levels.specs.Levels as L
-use Rattle.levels.specs.Listed.{nth}
-use Rattle.levels.proofs.Filled.{best-nth, few}
+use Rattle.levels.specs.Listed as Listed
+use Rattle.levels.specs.Listed.{seen, Lists}
+use Rattle.levels.proofs.Laws.{size-few}
 use Rattle.rows.specs.Rows.{put-row, put-rows}
 use Rattle.rows.proofs.Laws.{rows-one, rows-append}
 use Rattle.mailbox.proofs.Rows.{word-is}
-use Rattle.sound.specs.Sound.{State, Levels}
-use Rattle.sound.proofs.Kept.{sided}
-use Rattle.sound.proofs.Listed.{size-levels}
+use Rattle.sound.specs.Sound.{State}
+use Rattle.sound.proofs.Listed.{side-table, size-levels, listed-level}
 use Rattle.outcome.specs.Between.{Between}
 use Rattle.outcome.specs.Parts.{rest-of}
-use Rattle.outcome.specs.Answers.{Lists, level-row}
+use Rattle.outcome.specs.Answers as Answers
+use Rattle.outcome.specs.Answers.{level-row}
 use Rattle.outcome.proofs.Calls.{lists-short, lists-done}
 use Rattle.depth.specs.Levels.{side-levels, nothing, level-at}
 
@@ -36,31 +36,13 @@ use Rattle.depth.specs.Levels.{side-levels, nothing, level-at}
 
 module _ {xs : List ℕ} (st : State xs) (z : Side) where
   pub side-few : L.size z (cell xs) ≤ most-levels
-  side-few = few z (st .sound .tables .ordered .bounds)
+  side-few = let t = side-table st z in omega (arith, size-few z t, t .few)
 
-  listed-levels : side-levels z (rest-of xs) ≡ listed (λ j. L.level (L.row z (cell xs) (nth z (L.size z (cell xs)) j))) (L.size z (cell xs))
-  unfolding L.entries
-  listed-levels =
-      sym (sided (λ w. Levels w (cell xs)) (st .sound .tables .bids) (st .sound .tables .asks) z .are) ∙ best-nth z (L.row z (cell xs)) (L.size z (cell xs))
+  pub listed-at : (row : List Level) → Lists z (cell xs) row → (n j : ℕ) → n ≡ L.size z (cell xs) → j < n → seen (getD row j Listed.nothing) ≡ level-at z (rest-of xs) j
+  listed-at row p n j e l = listed-level (st .sound) z row p j (omega arith)
 
-  -- the level j, counted from the best
-  pub nth-level : (n j k : ℕ) (r : Row) → n ≡ L.size z (cell xs) → j < n → k ≡ nth z n j → r ≡ L.row z (cell xs) k → level-at z (rest-of xs) j ≡ L.level r
-  nth-level n j k r e l h q =
-      ap (λ (ls : List D.Level). getD ls j nothing) listed-levels
-      ∙ listed-at (λ i. L.level (L.row z (cell xs) (nth z (L.size z (cell xs)) i))) (L.size z (cell xs)) j nothing (rw (← e) l)
-      ∙ ap (λ i. L.level (L.row z (cell xs) (nth z i j))) (sym e) ∙ ap (λ i. L.level (L.row z (cell xs) i)) (sym h) ∙ ap L.level (sym q)
-
-  pub row-small : (n k : ℕ) → n ≡ L.size z (cell xs) → k < n → k < most-levels
-  row-small n k e l = omega (arith, side-few)
-
-  pub row-is : (n j k : ℕ) (r : Row) (p : ℕ) → n ≡ L.size z (cell xs) → j < n → k ≡ nth z n j → r ≡ L.row z (cell xs) k → p < modulus → int p ≡ r .key ⊖ half →
-      (p ∷ r .qty ∷ r .orders ∷ []) ≡ level-row (level-at z (rest-of xs) j)
-  row-is n j k r p e l h q f g =
-      ap (λ v. v ∷ r .qty ∷ r .orders ∷ []) (word-is p (r .key ⊖ half) f g) ∙ ap level-row (sym (nth-level n j k r e l h q))
-
-  pub level-put : (out end : List ℕ) (n j k : ℕ) (r : Row) (p : ℕ) → n ≡ L.size z (cell xs) → j < n → k ≡ nth z n j → r ≡ L.row z (cell xs) k → p < modulus → int p ≡ r .key ⊖ half →
-      end ≡ put-row out (24 * j) (p ∷ r .qty ∷ r .orders ∷ []) → end ≡ put-row out (24 * j) (level-row (level-at z (rest-of xs) j))
-  level-put out end n j k r p e l h q f g t = t ∙ ap (put-row out (24 * j)) (row-is n j k r p e l h q f g)
+pub level-put : (out end : List ℕ) (j p : ℕ) (l : Level) → p < modulus → int p ≡ l .price → end ≡ put-row out (24 * j) (p ∷ l .qty ∷ l .orders ∷ []) → end ≡ put-row out (24 * j) (level-row (seen l))
+level-put out end j p l f g t = t ∙ ap (λ v. put-row out (24 * j) (v ∷ l .qty ∷ l .orders ∷ [])) (word-is p (l .price) f g)
 
 -- ---- the first j of them
 
@@ -93,15 +75,15 @@ module _ (xs out : List ℕ) (z : Side) (n : ℕ) (b : Between xs) (n-is : n ≡
   count : n ≡ length ls
   count = n-is ∙ size-levels (b .state .sound) z
 
-  pub levels-short : length out / 24 < n → Lists 24 (call (gateway (cell xs)) (depth-levels z (length out / 24))) (record { code = 6; count = 0 }) xs xs out out
+  pub levels-short : length out / 24 < n → Answers.Lists 24 (call (gateway (cell xs)) (depth-levels z (length out / 24))) (record { code = 6; count = 0 }) xs xs out out
   unfolding plan unless
   levels-short l = lists-short xs out (depth-levels z (length out / 24)) tt b 24 (rw (lt-leb (length ls) (length out / 24) (omega (arith, count))) refl)
 
   pub levels-done : (end : List ℕ) → n ≤ length out / 24 → end ≡ put-rows 24 0 (map level-row ls) out →
-      Lists 24 (call (gateway (cell xs)) (depth-levels z (length out / 24))) (record { code = 0; count = n }) xs xs out end
+      Answers.Lists 24 (call (gateway (cell xs)) (depth-levels z (length out / 24))) (record { code = 0; count = n }) xs xs out end
   unfolding plan unless
   levels-done end l h =
       lists-done xs out (depth-levels z (length out / 24)) tt b 24 (levels-are ls) (rest-of xs) n (rw (le-leb (length ls) (length out / 24) (omega (arith, count))) refl)
       (count ∙ sym (length-map ls level-row)) (record { state = b .state; gateway-is = refl }) h
 
-pub ruleset laws = (row-small, level-put, levels-short, levels-done, arith)
+pub ruleset laws = (level-put, side-table, levels-short, levels-done, arith)

@@ -1,14 +1,16 @@
 // The price levels of a side, best price first, in a lent list: `depth_levels` of exchange.rs.
+use levels::listed::Level;
 use orderbook::Side;
 use outcome::Reply;
 ghost use mathlib.Core.Path.{_≡_};
 ghost use mathlib.Core.List.{map};
-ghost use Prim.Native.Nat.{_+_, _*_, _/_, _≤_, _<_};
+ghost use Prim.Native.Nat.{_+_, _*_, _/_, _≤_};
 ghost use lib.ListN.{length};
 ghost use Rattle.gateway.specs.Calls.{call, depth-levels};
 ghost use Rattle.store.specs.Layout.{cell};
 ghost use Rattle.store.specs.View.{gateway};
 ghost use Rattle.levels.specs.Levels as L;
+ghost use Rattle.levels.specs.Listed.{seen};
 ghost use Rattle.rows.specs.Rows.{put-row, put-rows};
 ghost use Rattle.sound.specs.Sound.{State};
 ghost use Rattle.outcome.specs.Between.{Between};
@@ -19,23 +21,25 @@ ghost use Rattle.depth.specs.Levels as P;
 // The bytes of a level's row: price, quantity, number of orders.
 pub const ROW: usize = 24;
 
-// The level j of n, counted from the best, in place j.
-fn put_level(m: &[u8], side: Side, n: usize, j: usize, out: &mut [u8])
-    requires { ⌜ State (now m) × (n ≡ L.size side (cell (now m))) × (j < n) × (24 * j + 24 ≤ length (now out)) ⌝ }
-    ensures { λ r. ⌜ now (out .exit) ≡ put-row (now (out .entry)) (24 * j) (level-row (P.level-at side (rest-of (now (m .entry))) j)) ⌝ }
+// A level in place j.
+fn put_level(l: Level, j: usize, out: &mut [u8])
+    requires { ⌜ 24 * j + 24 ≤ length (now out) ⌝ }
+    ensures { λ r. ⌜ now (out .exit) ≡ put-row (now (out .entry)) (24 * j) (level-row (seen l)) ⌝ }
 {
-    let l = levels::read_row(m, side, levels::listed::nth(side, n, j));
-    let price = words::lowered(l.key);
+    let price = words::of_i64(l.price);
     rows::put(out, ROW * j, &[price, l.qty, l.orders]);
 }
 
+// All of them, which are n.
 fn put_levels(m: &[u8], side: Side, n: usize, out: &mut [u8])
     requires { ⌜ State (now m) × (n ≡ L.size side (cell (now m))) × (n ≤ length (now out) / 24) ⌝ }
     ensures { λ r. ⌜ now (out .exit) ≡ put-rows 24 0 (map level-row (P.side-levels side (rest-of (now (m .entry))))) (now (out .entry)) ⌝ }
 {
+    let row = levels::listed::best_first(m, side);
     let mut j: usize = 0;
     while j < n {
-        put_level(m, side, n, j, out);
+        let l = row[j];
+        put_level(l, j, out);
         j += 1;
     }
 }

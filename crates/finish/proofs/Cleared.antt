@@ -26,7 +26,7 @@ use Rattle.store.proofs.Rows.{same-write, then-set, then-fill, is-itself}
 use Rattle.orders.specs.Orders.{either, Flags}
 use Rattle.orders.proofs.Shown.{shown, shown-ext, shown-dead}
 use Rattle.orders.proofs.Views.{with-lists}
-use Rattle.levels.specs.Levels.{size, entries}
+use Rattle.levels.specs.Levels.{used, size, entries}
 use Rattle.pending.proofs.Chain.{chained-none}
 use Rattle.sound.specs.Sound.{Stored, Sound, State, Becomes}
 use Rattle.sound.proofs.Kept.{clients-kept, becomes}
@@ -80,10 +80,10 @@ more-unrested s ys zs i l p q =
     record { holds = q .holds; same = λ b j k c. q .same b j k c ∙ same-unrest i (cell ys) (unrested i s) l (p .same) b j k c ∙ one-more s i b j k }
 
 pub cleared-is : (xs : List ℕ) {ys zs us : List ℕ} (n last : ℕ) → n ≡ word (cell xs) C.order-rows → last ≡ word (cell xs) C.last → Is ys (unrested n (cell xs)) →
-    Is zs (fill C.header 0 C.resting-orders (0 ∷ 0 ∷ 0 ∷ 0 ∷ 0 ∷ 0 ∷ []) (cell ys)) → Is us (fill C.header 0 C.delivered (last ∷ last ∷ []) (cell zs)) → Is us (cleared (cell xs))
+    Is zs (fill C.header 0 C.resting-orders (0 ∷ 0 ∷ 0 ∷ 0 ∷ 0 ∷ 0 ∷ 0 ∷ 0 ∷ []) (cell ys)) → Is us (fill C.header 0 C.delivered (last ∷ last ∷ []) (cell zs)) → Is us (cleared (cell xs))
 unfolding cleared
 cleared-is xs n last n-is last-is p q r =
-    rw (← n-is, ← last-is) (then-fill C.header 0 C.delivered (last ∷ last ∷ []) (then-fill C.header 0 C.resting-orders (0 ∷ 0 ∷ 0 ∷ 0 ∷ 0 ∷ 0 ∷ []) p q) r)
+    rw (← n-is, ← last-is) (then-fill C.header 0 C.delivered (last ∷ last ∷ []) (then-fill C.header 0 C.resting-orders (0 ∷ 0 ∷ 0 ∷ 0 ∷ 0 ∷ 0 ∷ 0 ∷ 0 ∷ []) p q) r)
 
 -- ---- the gateway
 
@@ -157,7 +157,7 @@ module _ (s : Store) where
     bounds = let c = d .tables .ordered .bounds in search arith
 
     pub cleared-sound : Sound t
-    unfolding cleared unrested fill size entries live
+    unfolding cleared unrested fill used size entries live
     cleared-sound =
         record {
           tables =
@@ -176,8 +176,8 @@ module _ (s : Store) where
                             resting-count = sym (ap length resting-none);
                           };
                     };
-                bids = record { rising = λ i j h l. absurd (not-suc-le-zero l); are = sym (ap (D.levels Buy) resting-none) };
-                asks = record { rising = λ i j h l. absurd (not-suc-le-zero l); are = sym (ap (D.levels Sell) resting-none) };
+                bids = record { rising = λ i j h l. absurd (not-suc-le-zero l); are = sym (ap (D.levels Buy) resting-none); counted = refl };
+                asks = record { rising = λ i j h l. absurd (not-suc-le-zero l); are = sym (ap (D.levels Sell) resting-none); counted = refl };
                 live-few = d .tables .live-few;
                 resting-few = omega arith;
                 numbered = λ j h. rw (number-same j h) (d .tables .numbered j h);

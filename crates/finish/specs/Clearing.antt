@@ -24,7 +24,7 @@ unrested n s b i k = cond (eqb b C.orders && ltb i n) (off (s b i) k) (s b i k)
 unfoldable pub cleared : Store → Store
 cleared s =
     fill C.header 0 C.delivered (word s C.last ∷ word s C.last ∷ [])
-    (fill C.header 0 C.resting-orders (0 ∷ 0 ∷ 0 ∷ 0 ∷ 0 ∷ 0 ∷ []) (unrested (word s C.order-rows) s))
+    (fill C.header 0 C.resting-orders (0 ∷ 0 ∷ 0 ∷ 0 ∷ 0 ∷ 0 ∷ 0 ∷ 0 ∷ []) (unrested (word s C.order-rows) s))
 
 -- an entry of a listing agrees with the live orders, and its number is listed once
 abbrev pub agrees-once : List Listed → List Order → Listed → Bool

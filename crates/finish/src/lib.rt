@@ -123,7 +123,7 @@ fn unrest_rows(m: &mut [u8], n: usize)
     }
 }
 
-// The six counts from the resting orders to the changed levels are 0.
+// The eight counts from the resting orders to the levels are 0.
 fn clear(m: &mut [u8])
     requires { ⌜ Ready (now m) ⌝ }
     ensures { λ r. ⌜ Is (now (m .exit)) (P.cleared (cell (now (m .entry)))) ⌝ }
@@ -136,7 +136,7 @@ fn clear(m: &mut [u8])
         store::HEADER,
         0,
         cells::RESTING_ORDERS,
-        &[0, 0, 0, 0, 0, 0],
+        &[0, 0, 0, 0, 0, 0, 0, 0],
     );
     store::fill(m, store::HEADER, 0, cells::DELIVERED, &[last, last]);
 }

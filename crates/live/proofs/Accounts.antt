@@ -16,7 +16,7 @@ use Rattle.gateway.specs.Ledger.{Order, hold, order-hold, same-side, held, open
 use Rattle.store.specs.Cells as C
 use Rattle.store.specs.View.{Store, write, side, maybe-price, account, gateway}
 use Rattle.orders.proofs.Views.{bounds-from}
-use Rattle.levels.specs.Levels.{size, row}
+use Rattle.levels.specs.Levels.{used, size, row}
 use Rattle.clients.proofs.Views.{cache-view}
 use Rattle.pending.proofs.Chain.{chained-same}
 use Rattle.sound.specs.Sound.{held-cell, Clients, Tables}
@@ -36,13 +36,13 @@ open-view a v s = cache-view a C.account-open-orders v s (rw (eq-eqb a a refl) r
 
 -- the tables are elsewhere
 pub tables-write : (a k v : ℕ) (s : Store) → Tables s → Tables (write C.accounts a k v s)
-unfolding size
+unfolding used size
 tables-write a k v s d =
     tables-beside
     (record {
       keeps = record { rows-are = refl; live-are = refl; resting-are = refl; cells = λ j k l m. refl };
       sizes = λ z. refl;
-      levels-are = sided (λ z. (j : ℕ) → j < size z s → row z (write C.accounts a k v s) j ≡ row z s j) (λ j l. refl) (λ j l. refl);
+      levels-are = sided (λ z. (j : ℕ) → j < used z s → row z (write C.accounts a k v s) j ≡ row z s j) (λ j l. refl) (λ j l. refl);
     })
     (record { bounds = bounds-from s (write C.accounts a k v s) (λ k l x y z. refl) (d .ordered .bounds .orders-fit) (d .ordered .bounds); last-is = omega arith; run = d .run; chained = chained-same refl (d .chained) })
     d

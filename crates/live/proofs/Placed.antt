@@ -18,11 +18,11 @@ use Rattle.orders.specs.Orders.{order-of}
 use Rattle.orders.specs.Orders as Orders
 use Rattle.orders.proofs.Views.{Touched, Did, new-row, append-touched, append-view}
 use Rattle.orders.proofs.Room.{make-room-view, make-room-room, make-room-each, make-room-other}
-use Rattle.levels.specs.Levels.{block, size, row}
+use Rattle.levels.specs.Levels.{block, used, size, row}
 use Rattle.pending.specs.Pending.{Chained}
 use Rattle.pending.proofs.Chain.{chained-same}
 use Rattle.sound.specs.Sound.{Stored, held-cell, Clients, Tables, Sound}
-use Rattle.sound.proofs.Kept.{levels-kept, clients-kept, clients-write, clients-room, chained-room}
+use Rattle.sound.proofs.Kept.{level-counts, levels-kept, clients-kept, clients-write, clients-room, chained-room}
 use Rattle.sound.proofs.Totals.{Swapped, Counts, held-swapped}
 use Rattle.live.specs.Live.{CanPlace, with-ledger, holding, placing, shift, place}
 use Rattle.live.proofs.Accounts.{shift-view, open-view, tables-write, tables-shift, clients-shift, shift-counts, open-counts, hold-is, held-one, open-one}
@@ -90,10 +90,10 @@ module _ (s : Store) (d : Sound s) (n : ℕ) (o : Live) (can : CanPlace n o s) w
   same-levels Buy j k = make-room-other s (d .tables .ordered) C.bids j k (λ e. omega arith) (λ e. omega arith) (λ e f. omega arith)
   same-levels Sell j k = make-room-other s (d .tables .ordered) C.asks j k (λ e. omega arith) (λ e. omega arith) (λ e f. omega arith)
 
-  same-sizes : (z : Side) → size z grown ≡ size z s
-  unfolding Orders.append fill size
-  same-sizes Buy = word-kept C.bid-levels (λ e. omega arith)
-  same-sizes Sell = word-kept C.ask-levels (λ e. omega arith)
+  same-sizes : (z : Side) → level-counts z grown ≡ level-counts z s
+  unfolding Orders.append fill used size
+  same-sizes Buy = λ i. (word-kept C.bid-rows (λ e. omega arith) i, word-kept C.bid-levels (λ e. omega arith) i)
+  same-sizes Sell = λ i. (word-kept C.ask-rows (λ e. omega arith) i, word-kept C.ask-levels (λ e. omega arith) i)
 
   same-rows : (z : Side) (j : ℕ) → row z grown j ≡ row z s j
   same-rows z j = λ i. record { key = same-levels z j C.level-price i; qty = same-levels z j C.level-qty i; orders = same-levels z j C.level-orders i }

@@ -20,10 +20,10 @@ use Rattle.orders.specs.Orders.{Ordered, live-row, strike}
 use Rattle.orders.specs.Orders as Orders
 use Rattle.orders.proofs.Views as Lists
 use Rattle.orders.proofs.Views.{Touched, Did, put-cells, revised, revise-touched, retire-touched, live-parts}
-use Rattle.levels.specs.Levels.{size, row}
+use Rattle.levels.specs.Levels.{used, size, row}
 use Rattle.pending.proofs.Chain.{chains, chained-same}
 use Rattle.sound.specs.Sound.{Stored, Clients, Tables, Sound}
-use Rattle.sound.proofs.Kept.{sided, levels-kept, clients-kept, clients-write}
+use Rattle.sound.proofs.Kept.{sided, level-counts, levels-kept, clients-kept, clients-write}
 use Rattle.sound.proofs.Totals.{Swapped, Counts, open-parts, held-swapped}
 use Rattle.live.specs.Live.{with-ledger, hold-word, shift, revise, retire}
 use Rattle.live.proofs.Accounts.{shift-view, open-view, tables-write, tables-shift, clients-shift, shift-counts, open-counts, hold-is, held-one, open-one}
@@ -37,7 +37,7 @@ one-is (suc n) x h k = refl
 -- what the tables need where one row changes and no order rests otherwise
 module _ {s u : Store} (i : ℕ) (r : Row) (c : Touched i r s u) (d : Tables s) (g : Ordered u) (rows-are : word u C.order-rows ≡ word s C.order-rows) (number-is : r C.order-number ≡ s C.orders i C.order-number)
     (live-is : word u C.live-orders ≤ word s C.live-orders) (resting-is : word u C.resting-orders ≡ word s C.resting-orders) (rest : depth u .resting ≡ depth s .resting)
-    (sizes : (z : Side) → size z u ≡ size z s) (rows : (z : Side) (j : ℕ) → row z u j ≡ row z s j) (same : chains u ≡ chains s) where
+    (sizes : (z : Side) → level-counts z u ≡ level-counts z s) (rows : (z : Side) (j : ℕ) → row z u j ≡ row z s j) (same : chains u ≡ chains s) where
   word-kept : (k : ℕ) → (k ≡ C.order-rows → ⊥) → (k ≡ C.live-orders → ⊥) → (k ≡ C.resting-orders → ⊥) → word u k ≡ word s k
   word-kept = c .words
 
@@ -131,7 +131,7 @@ module _ (s : Store) (d : Sound s) (i : ℕ) (l : i < word s C.order-rows) (m : 
     revise-view f e = shift-view (was C.order-account) (side (was C.order-side)) (was C.order-hold) h u ∙ does f e .view
 
     tables-revised : Tables t
-    unfolding revise fill size
+    unfolding revise fill used size
     tables-revised =
         let g = does (revised c p v) refl in
         tables-shift _ _ _ _ u
@@ -192,12 +192,12 @@ module _ (s : Store) (d : Sound s) (i : ℕ) (l : i < word s C.order-rows) (m : 
   retire-view = shift-view _ _ _ _ _ ∙ open-view _ _ struck ∙ Lists.retire-view s i (d .tables .ordered) l m .view
 
   tables-retired : Tables ended
-  unfolding retire strike size
+  unfolding retire strike used size
   tables-retired =
       let g = Lists.retire-view s i (d .tables .ordered) l m in
       tables-shift _ _ _ _ _
       (tables-write _ _ _ struck
-      (tables-row i ended-row (retire-touched s i (d .tables .ordered) l) (d .tables) (g .ordered) refl refl (omega arith) refl (ap (λ x. x .rest .depth .resting) (g .view)) (sided (λ z. size z struck ≡ size z s) refl refl) (sided (λ z. (j : ℕ) → row z struck j ≡ row z s j) (λ j. refl) (λ j. refl)) refl))
+      (tables-row i ended-row (retire-touched s i (d .tables .ordered) l) (d .tables) (g .ordered) refl refl (omega arith) refl (ap (λ x. x .rest .depth .resting) (g .view)) (sided (λ z. level-counts z struck ≡ level-counts z s) refl refl) (sided (λ z. (j : ℕ) → row z struck j ≡ row z s j) (λ j. refl) (λ j. refl)) refl))
 
   clients-retired : Clients ended
   unfolding retire strike

@@ -23,7 +23,7 @@ use Rattle.levels.specs.Levels as L
 use Rattle.levels.proofs.Best.{level-of}
 use Rattle.sound.specs.Sound.{State}
 use Rattle.marketdata.specs.Marketdata.{IsLevel, Placed}
-use Rattle.marketdata.proofs.Steps.{side-table}
+use Rattle.sound.proofs.Listed.{side-table}
 use Rattle.marketdata.proofs.Resting.{level-stored}
 
 -- a price has one key

@@ -31,7 +31,8 @@ use Rattle.orders.specs.Orders.{number-at, resting-of}
 use Rattle.pending.specs.Pending.{key}
 use Rattle.gateway.proofs.AtPrice.{level-fits, few-parts}
 use Rattle.gateway.proofs.Depths.{lesser-le}
-use Rattle.marketdata.proofs.Steps.{side-table, remember-sound}
+use Rattle.marketdata.proofs.Steps.{remember-sound}
+use Rattle.sound.proofs.Listed.{side-table}
 use Rattle.marketdata.proofs.Resting.{level-can, gone-can, gone-done, show-can, showed-can, showed-done}
 use Rattle.marketdata.proofs.Rests.{add-can, rest-can, rest-done}
 

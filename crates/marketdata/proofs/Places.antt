@@ -21,9 +21,9 @@ use Rattle.orders.specs.Orders.{Ordered, Sorted, Sees, opened, open-row, make-r
 use Rattle.orders.proofs.Views.{Did, Keeps, same-keeps, resting-at}
 use Rattle.orders.proofs.Room.{make-room-view, make-room-room, make-room-each, make-room-other}
 use Rattle.orders.proofs.Opened.{open-row-view, open-row-each, open-row-here}
-use Rattle.levels.specs.Levels.{block, row, size}
+use Rattle.levels.specs.Levels.{block, row, used, size}
 use Rattle.sound.specs.Sound.{Stored, Sound, State, Becomes}
-use Rattle.sound.proofs.Kept.{sided, becomes, clients-room, chained-room}
+use Rattle.sound.proofs.Kept.{sided, level-counts, becomes, clients-room, chained-room}
 use Rattle.marketdata.specs.Marketdata.{Free, CanOpen, Missing, Bears, Sought, Opens}
 use Rattle.marketdata.proofs.Steps.{beyond-same, Beyond, Rows, follows-itself, orders-step}
 
@@ -88,13 +88,13 @@ module _ {xs : List ℕ} (s : State xs) (n : ℕ) (c : CanOpen n (cell xs)) (mis
   account-kept a k = make-room-other (cell xs) ordered C.accounts a k (λ e. omega arith) (λ e. omega arith) (λ e f. omega arith)
 
   made-beyond : Beyond (cell xs) u
-  unfolding size
+  unfolding used size
   made-beyond =
       record {
         live-are = word-kept C.live-orders (λ e. omega arith);
         last-is = word-kept C.last (λ e. omega arith);
         flying-is = word-kept C.flying (λ e. omega arith);
-        sizes = sided (λ z. size z u ≡ size z (cell xs)) (word-kept C.bid-levels (λ e. omega arith)) (word-kept C.ask-levels (λ e. omega arith));
+        sizes = sided (λ z. level-counts z u ≡ level-counts z (cell xs)) (λ i. (word-kept C.bid-rows (λ e. omega arith) i, word-kept C.bid-levels (λ e. omega arith) i)) (λ i. (word-kept C.ask-rows (λ e. omega arith) i, word-kept C.ask-levels (λ e. omega arith) i));
         levels-are = λ z j. λ i. record { key = level-kept z j C.level-price i; qty = level-kept z j C.level-qty i; orders = level-kept z j C.level-orders i };
         caches-are = λ a. λ i. (account-kept a C.account-cash-held i, account-kept a C.account-position-held i, account-kept a C.account-open-orders i);
         clients-are = clients-room (cell xs) ordered;

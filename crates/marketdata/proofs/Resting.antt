@@ -31,7 +31,8 @@ use Rattle.sound.specs.Sound.{State, Becomes}
 use Rattle.sound.proofs.Kept.{becomes}
 use Rattle.marketdata.specs.Marketdata.{with-depth, with-resting}
 use Rattle.gateway.proofs.AtPrice.{same-mine, reshown-at}
-use Rattle.marketdata.proofs.Steps.{beyond-same, Follows, Beyond, Rows, side-levels, side-table, keeps, levels-step, rows-touched, orders-step}
+use Rattle.marketdata.proofs.Steps.{beyond-same, Follows, Beyond, Rows, side-levels, keeps, levels-step, rows-touched, orders-step}
+use Rattle.sound.proofs.Listed.{side-table}
 use Rattle.gateway.specs.Table.{Rises}
 use Rattle.words.specs.Words.{modulus}
 

@@ -22,13 +22,14 @@ use Rattle.orders.proofs.Views.{Did, rest-touched, rest-view}
 use Rattle.levels.specs.declared.Row as LRow
 use Rattle.levels.specs.Levels.{size, entries, price, added, CanAdd}
 use Rattle.levels.specs.Levels as L
-use Rattle.levels.proofs.Best.{level-of, best-length}
-use Rattle.levels.proofs.Depth.{entries-length, add-view}
+use Rattle.levels.proofs.Best.{level-of}
+use Rattle.levels.proofs.Depth.{add-view}
 use Rattle.sound.specs.Sound.{State, Becomes}
 use Rattle.marketdata.specs.Marketdata.{with-depth, with-resting, Judged}
 use Rattle.orders.specs.Orders.{resting-of}
 use Rattle.gateway.proofs.AtPrice.{same-mine, level-fits, joined-at, joined-length, levels-orders, few-levels, few-parts}
-use Rattle.marketdata.proofs.Steps.{beyond-same, Follows, Beyond, side-levels, side-table, levels-step, rows-touched}
+use Rattle.marketdata.proofs.Steps.{beyond-same, Follows, Beyond, side-levels, levels-step, rows-touched}
+use Rattle.sound.proofs.Listed.{side-table, size-levels}
 use Rattle.marketdata.proofs.Resting.{list-kept, inside-kept, cell-kept, row-done, level-stored, other-side}
 
 module _ {xs : List ℕ} (s : State xs) (n : ℕ) (o : Resting) (judged : Judged (D.add (resting-of n o) (depth (cell xs)))) (k : ℕ) (e : int (o .price) ≡ price k) where
@@ -61,10 +62,6 @@ module _ {xs : List ℕ} (s : State xs) (n : ℕ) (o : Resting) (judged : Judged
   level-is : D.level-in (r .price) (D.levels z os) ≡ level-of k found
   level-is = ap (λ p. D.level-in p (D.levels z os)) e ∙ level-stored s z k
 
-  -- as many levels as stored rows
-  levels-stored : length (D.levels z os) ≡ size z (cell xs)
-  levels-stored = ap length (sym (side-levels (s .sound .tables) z .are)) ∙ best-length z (entries z (cell xs)) ∙ entries-length z (cell xs)
-
   -- no more orders than the table may have
   orders-few : length os ≤ most-orders
   orders-few = omega (arith, s .sound .tables .ordered .counted .resting-count, s .sound .tables .resting-few)
@@ -80,7 +77,7 @@ module _ {xs : List ℕ} (s : State xs) (n : ℕ) (o : Resting) (judged : Judged
             few .1,
             ap length joins-levels,
             joined-length z (r .price) (r .visible) (D.levels z os) (levels-peopled z os) (ap (λ y. y .orders) q),
-            levels-stored,
+            size-levels (s .sound) z,
           )
       go (some x) q = (
         omega (

@@ -26,7 +26,7 @@ use Rattle.orders.specs.declared.Live.{Live}
 use Rattle.orders.specs.Orders.{Ordered, live-row, order-of}
 use Rattle.orders.proofs.Views.{Touched, Did, Keeps, same-rows, ordered-kept}
 use Rattle.levels.specs.declared.Row as LRow
-use Rattle.levels.specs.Levels.{block, count, row, size, entries, best, Table}
+use Rattle.levels.specs.Levels.{block, row, used, size, entries, best, Table}
 use Rattle.levels.specs.Levels as L
 use Rattle.levels.proofs.Laws.{header-not-block}
 use Rattle.levels.proofs.Depth.{Holding}
@@ -35,7 +35,8 @@ use Rattle.clients.proofs.Links.{two-cells}
 use Rattle.pending.specs.Pending as Pending
 use Rattle.pending.proofs.Chain.{chains, chained-kept, chained-same}
 use Rattle.sound.specs.Sound.{Stored, Held, Levels, Clients, Tables, Sound, State}
-use Rattle.sound.proofs.Kept.{sided, caches, total-same, held-kept, numbered-kept, marks, clients-kept}
+use Rattle.sound.proofs.Listed.{side-table}
+use Rattle.sound.proofs.Kept.{sided, level-counts, caches, total-same, held-kept, numbered-kept, marks, clients-kept}
 use Rattle.sound.proofs.Waiting.{push-level-sound}
 use Rattle.marketdata.specs.Marketdata.{Roomy, remembering}
 use Rattle.pending.specs.Pending.{key}
@@ -43,7 +44,8 @@ use Rattle.pending.specs.Pending.{key}
 -- the state is sound, but its levels are those of the orders rs
 pub record Follows (rs : List Resting) (s : Store) : Type 0 where
   pub ordered : Ordered s
-  pub rising : (z : Side) → Ascends L.key (row z s) (size z s)
+  pub rising : (z : Side) → Ascends L.key (row z s) (used z s)
+  pub counted : (z : Side) → size z s ≡ length (entries z s)
   pub are : (z : Side) → best z (entries z s) ≡ D.levels z rs
   pub live-few : word s C.live-orders ≤ most-orders
   pub resting-few : word s C.resting-orders ≤ most-orders
@@ -62,6 +64,7 @@ follows-itself d =
     record {
       ordered = t .ordered;
       rising = λ z. side-levels t z .rising;
+      counted = λ z. side-levels t z .counted;
       are = λ z. side-levels t z .are;
       live-few = t .live-few;
       resting-few = t .resting-few;
@@ -72,20 +75,11 @@ follows-itself d =
       clients = d .clients;
     }
 
-pub side-table : {xs : List ℕ} → State xs → (z : Side) → Table z xs
-unfolding size
-side-table {xs} s z =
-    record {
-      holds = s .holds;
-      few = sided (λ z. size z (cell xs) ≤ most-levels) (s .sound .tables .ordered .bounds .bids-fit) (s .sound .tables .ordered .bounds .asks-fit) z;
-      asc = side-levels (s .sound .tables) z .rising;
-    }
-
 -- ---- the levels of a side change
 
-not-count : (z : Side) {k : ℕ} → (k ≡ C.bid-levels → ⊥) → (k ≡ C.ask-levels → ⊥) → k ≡ count z → ⊥
-not-count Buy b a e = b e
-not-count Sell b a e = a e
+not-count : (z : Side) {k : ℕ} → k < C.bid-levels → (k ≡ C.bid-rows → ⊥) → (k ≡ C.ask-rows → ⊥) → L.Other z C.header k
+not-count Buy h b a = (λ _ e. b e, λ _ e. omega arith)
+not-count Sell h b a = (λ _ e. a e, λ _ e. omega arith)
 
 not-block : (z : Side) {b : ℕ} → b < C.bids → b ≡ block z → ⊥
 not-block Buy h e = omega arith
@@ -99,8 +93,8 @@ module _ (z : Side) {xs ys : List ℕ} {l : List LRow.Row} (d : L.Did z xs ys l)
   abbrev was : Tables (cell xs)
   was = s .sound .tables
 
-  word-kept : (k : ℕ) → k < 32 → (k ≡ C.bid-levels → ⊥) → (k ≡ C.ask-levels → ⊥) → word (cell ys) k ≡ word (cell xs) k
-  word-kept k q b a = d .kept C.header 0 k (header-cell k q) (header-not-block z) (λ _. not-count z b a)
+  word-kept : (k : ℕ) → k < C.bid-levels → (k ≡ C.bid-rows → ⊥) → (k ≡ C.ask-rows → ⊥) → word (cell ys) k ≡ word (cell xs) k
+  word-kept k q b a = d .kept C.header 0 k (header-cell k (omega arith)) (header-not-block z) (not-count z q b a)
 
   pub keeps : Keeps (cell xs) (cell ys)
   keeps =
@@ -108,14 +102,14 @@ module _ (z : Side) {xs ys : List ℕ} {l : List LRow.Row} (d : L.Did z xs ys l)
         rows-are = word-kept C.order-rows (omega arith) (λ e. omega arith) (λ e. omega arith);
         live-are = word-kept C.live-orders (omega arith) (λ e. omega arith) (λ e. omega arith);
         resting-are = word-kept C.resting-orders (omega arith) (λ e. omega arith) (λ e. omega arith);
-        cells = λ j k h q. d .kept C.orders j k (order-cell j k (omega (arith, was .ordered .bounds .orders-fit)) q) (not-block z (omega arith)) (λ e. absurd (omega arith));
+        cells = λ j k h q. d .kept C.orders j k (order-cell j k (omega (arith, was .ordered .bounds .orders-fit)) q) (not-block z (omega arith)) (λ e. absurd (omega arith), λ e. absurd (omega arith));
       }
 
   caches-kept : (a : ℕ) → a < owner-slots → caches (cell ys) a ≡ caches (cell xs) a
   caches-kept a h = λ i. (at C.account-cash-held (omega arith) i, at C.account-position-held (omega arith) i, at C.account-open-orders (omega arith) i)
     where
       at : (k : ℕ) → k < 16 → cell ys C.accounts a k ≡ cell xs C.accounts a k
-      at k q = d .kept C.accounts a k (account-cell a k h q) (not-block z (omega arith)) (λ e. absurd (omega arith))
+      at k q = d .kept C.accounts a k (account-cell a k h q) (not-block z (omega arith)) (λ e. absurd (omega arith), λ e. absurd (omega arith))
 
   clients-stay : Clients (cell ys)
   clients-stay =
@@ -123,20 +117,20 @@ module _ (z : Side) {xs ys : List ℕ} {l : List LRow.Row} (d : L.Did z xs ys l)
       (λ i h. two-cells (cell ys C.sessions i) (cell xs C.sessions i) (session i C.session-connected h (omega arith)) (session i C.session-account h (omega arith)))
       (λ a h i. (account a C.account-session h (omega arith) i, account a C.account-max-open h (omega arith) i, account a C.account-rate h (omega arith) i))
       (word-kept C.waiting (omega arith) (λ e. omega arith) (λ e. omega arith))
-      (λ j h. d .kept C.batch j C.command-owner (command-cell j C.command-owner (omega (arith, was .ordered .bounds .batch-fits)) (omega arith)) (not-block z (omega arith)) (λ e. absurd (omega arith)))
+      (λ j h. d .kept C.batch j C.command-owner (command-cell j C.command-owner (omega (arith, was .ordered .bounds .batch-fits)) (omega arith)) (not-block z (omega arith)) (λ e. absurd (omega arith), λ e. absurd (omega arith)))
       (s .sound .clients)
     where
       session : (i k : ℕ) → i < session-slots → k < 8 → cell ys C.sessions i k ≡ cell xs C.sessions i k
-      session i k h q = d .kept C.sessions i k (session-cell i k h q) (not-block z (omega arith)) (λ e. absurd (omega arith))
+      session i k h q = d .kept C.sessions i k (session-cell i k h q) (not-block z (omega arith)) (λ e. absurd (omega arith), λ e. absurd (omega arith))
 
       account : (a k : ℕ) → a < owner-slots → k < 16 → cell ys C.accounts a k ≡ cell xs C.accounts a k
-      account a k h q = d .kept C.accounts a k (account-cell a k h q) (not-block z (omega arith)) (λ e. absurd (omega arith))
+      account a k h q = d .kept C.accounts a k (account-cell a k h q) (not-block z (omega arith)) (λ e. absurd (omega arith), λ e. absurd (omega arith))
 
   chained-stay : Pending.Chained (cell ys)
   chained-stay =
       chained-kept (cell xs) (cell ys) (word-kept C.changed-rows (omega arith) (λ e. omega arith) (λ e. omega arith))
-      (λ j k h q. d .kept C.changed j k (changed-cell j k (omega (arith, was .ordered .bounds .changed-fit)) q) (not-side z (omega arith)) (λ e. absurd (omega arith)))
-      (λ k h. d .kept C.tops k C.top-row (top-cell k C.top-row h (omega arith)) (not-side z (omega arith)) (λ e. absurd (omega arith)))
+      (λ j k h q. d .kept C.changed j k (changed-cell j k (omega (arith, was .ordered .bounds .changed-fit)) q) (not-side z (omega arith)) (λ e. absurd (omega arith), λ e. absurd (omega arith)))
+      (λ k h. d .kept C.tops k C.top-row (top-cell k C.top-row h (omega arith)) (not-side z (omega arith)) (λ e. absurd (omega arith), λ e. absurd (omega arith)))
       (was .chained)
 
   module _ (rs : List Resting) (mine : Holding z ys rs) (other : (w : Side) → same-side w z ≡ false → D.levels w rs ≡ D.levels w (depth (cell xs) .resting)) where
@@ -150,7 +144,7 @@ module _ (z : Side) {xs ys : List ℕ} {l : List LRow.Row} (d : L.Did z xs ys l)
         go Sell d h o Sell = (d .table, h)
 
     bounds : Bounds (cell ys)
-    unfolding size
+    unfolding used
     bounds =
         let b = was .ordered .bounds in
         record {
@@ -171,6 +165,7 @@ module _ (z : Side) {xs ys : List ℕ} {l : List LRow.Row} (d : L.Did z xs ys l)
         record {
           ordered = ordered-kept keeps bounds (was .ordered);
           rising = λ w. both w .0 .asc;
+          counted = λ w. both w .0 .counted;
           are = λ w. both w .1;
           live-few = rw (keeps .live-are) (was .live-few);
           resting-few = rw (keeps .resting-are) (was .resting-few);
@@ -199,25 +194,25 @@ pub record Beyond (s t : Store) : Type 0 where
   pub live-are : word t C.live-orders ≡ word s C.live-orders
   pub last-is : word t C.last ≡ word s C.last
   pub flying-is : word t C.flying ≡ word s C.flying
-  pub sizes : (z : Side) → size z t ≡ size z s
+  pub sizes : (z : Side) → level-counts z t ≡ level-counts z s
   pub levels-are : (z : Side) (j : ℕ) → row z t j ≡ row z s j
   pub caches-are : (a : ℕ) → caches t a ≡ caches s a
   pub clients-are : Clients s → Clients t
   pub chained-are : Pending.Chained s → Pending.Chained t
 
 -- the words and rows of that
-abbrev pub outside : Store → ℕ × ℕ × ℕ × ℕ × ℕ × (ℕ → Row) × (ℕ → Row) × (ℕ → Row) × (ℕ → Row) × (ℕ → Row) × ℕ × (ℕ × (ℕ → Row) × (ℕ → Row))
+abbrev pub outside : Store → ℕ × ℕ × ℕ × (ℕ × ℕ) × (ℕ × ℕ) × (ℕ → Row) × (ℕ → Row) × (ℕ → Row) × (ℕ → Row) × (ℕ → Row) × ℕ × (ℕ × (ℕ → Row) × (ℕ → Row))
 outside s =
-    (word s C.live-orders, word s C.last, word s C.flying, word s C.bid-levels, word s C.ask-levels, s C.bids, s C.asks, s C.accounts, s C.sessions, s C.batch, word s C.waiting, chains s)
+    (word s C.live-orders, word s C.last, word s C.flying, (word s C.bid-rows, word s C.bid-levels), (word s C.ask-rows, word s C.ask-levels), s C.bids, s C.asks, s C.accounts, s C.sessions, s C.batch, word s C.waiting, chains s)
 
 pub beyond-same : (s t : Store) → outside t ≡ outside s → Beyond s t
-unfolding size
+unfolding used size
 beyond-same s t e =
     record {
       live-are = ap (λ x. x .0) e;
       last-is = ap (λ x. x .1) e;
       flying-is = ap (λ x. x .2) e;
-      sizes = sided (λ z. size z t ≡ size z s) (ap (λ x. x .3) e) (ap (λ x. x .4) e);
+      sizes = sided (λ z. level-counts z t ≡ level-counts z s) (ap (λ x. x .3) e) (ap (λ x. x .4) e);
       levels-are = sided (λ z. (j : ℕ) → row z t j ≡ row z s j) (λ j. ap (λ x. level (x .5 j)) e) (λ j. ap (λ x. level (x .6 j)) e);
       caches-are = λ a. ap (λ x. (x .7 a C.account-cash-held, x .7 a C.account-position-held, x .7 a C.account-open-orders)) e;
       clients-are =
@@ -245,12 +240,12 @@ module _ {rs : List Resting} {s t : Store} (f : Follows rs s) (d : Did s t (ledg
   side-is : (z : Side) → Levels z t
   unfolding entries
   side-is z =
-      let n = b .sizes z in
+      let n : used z t ≡ used z s = ap (λ x. x .0) (b .sizes z) in
+      let list : entries z t ≡ entries z s = rw n (live-ext L.orders (row z s) (row z t) (used z s) (λ j h. b .levels-are z j)) in
       record {
-        rising = rw n (ascends-ext L.key (row z s) (row z t) (size z s) (λ j h. ap L.key (b .levels-are z j)) (f .rising z));
-        are =
-            ap (best z) (rw n (live-ext (λ x. 1) (row z s) (row z t) (size z s) (λ j h. b .levels-are z j))) ∙ f .are z
-            ∙ sym (ap (λ g. D.levels z (g .rest .depth .resting)) (d .view));
+        rising = rw n (ascends-ext L.key (row z s) (row z t) (used z s) (λ j h. ap L.key (b .levels-are z j)) (f .rising z));
+        are = ap (best z) list ∙ f .are z ∙ sym (ap (λ g. D.levels z (g .rest .depth .resting)) (d .view));
+        counted = ap (λ x. x .1) (b .sizes z) ∙ f .counted z ∙ sym (ap length list);
       }
 
   live-same : ledger t .orders ≡ ledger s .orders

@@ -69,10 +69,10 @@ numbered-kept e w h j l = let m = rw (e .rows-are) at l in rw (e .cells j C.orde
 -- ---- the levels
 
 -- how many rows are in use, and how many levels there are
-abbrev pub counts : Side → Store → ℕ × ℕ
-counts z s = (used z s, size z s)
+abbrev pub level-counts : Side → Store → ℕ × ℕ
+level-counts z s = (used z s, size z s)
 
-pub levels-kept : {s t : Store} (z : Side) → counts z t ≡ counts z s → ((j : ℕ) → j < used z s → row z t j ≡ row z s j) → depth t .resting ≡ depth s .resting → Levels z s → Levels z t
+pub levels-kept : {s t : Store} (z : Side) → level-counts z t ≡ level-counts z s → ((j : ℕ) → j < used z s → row z t j ≡ row z s j) → depth t .resting ≡ depth s .resting → Levels z s → Levels z t
 unfolding entries
 levels-kept {s} {t} z n r e d =
     let rows : used z t ≡ used z s = ap (λ x. x .0) n in
@@ -127,7 +127,7 @@ chained-room s o =
 
 pub record Beside (s t : Store) : Type 0 where
   pub keeps : Keeps s t
-  pub sizes : (z : Side) → counts z t ≡ counts z s
+  pub sizes : (z : Side) → level-counts z t ≡ level-counts z s
   pub levels-are : (z : Side) (j : ℕ) → j < used z s → row z t j ≡ row z s j
 
 -- the words that may grow: in bounds, and the last number; and the chains of changed levels
@@ -163,7 +163,7 @@ module _ (s t : Store) (e : Same s t) (d : Sound s) where
   word-same : (k : ℕ) → k < 32 → word t k ≡ word s k
   word-same k l = sym (e C.header 0 k (header-cell k l))
 
-  size-same : (z : Side) → counts z t ≡ counts z s
+  size-same : (z : Side) → level-counts z t ≡ level-counts z s
   unfolding used size
   size-same z = λ i. (sym (e C.header 0 (used-cell z) (used-place z)) i, sym (e C.header 0 (size-cell z) (size-place z)) i)
 

@@ -1,16 +1,31 @@
 -- The levels by value are those of the definitions. Assumes nothing.
 use mathlib.Core.Path.{_≡_, sym, ap, _∙_}
 use mathlib.Core.List.{List, map}
-use lib.ListN.{length, take}
+use Prim.Native.Nat.{ℕ, _≤_, _<_}
+use lib.ListN.{length, take, getD}
 use Rattle.orderbook.specs.declared.Side.{Side}
 use Rattle.gateway.specs.Depth as Depth
+use Rattle.gateway.specs.Limits.{most-levels}
+use Rattle.store.specs.Layout.{cell}
 use Rattle.store.specs.View.{Store, depth}
 use Rattle.levels.specs.declared.listed.Level.{Level}
-use Rattle.levels.specs.Levels.{size, entries}
-use Rattle.levels.specs.Listed.{seen, Lists}
+use Rattle.levels.specs.Levels.{used, size, entries, Table}
+use Rattle.levels.specs.Listed.{nothing, seen, Lists}
 use Rattle.levels.proofs.Best.{best-length}
-use Rattle.sound.specs.Sound.{Levels, Sound}
+use Rattle.levels.proofs.Filled.{level-is}
+use Rattle.sound.specs.Sound.{Levels, Sound, State}
 use Rattle.sound.proofs.Kept.{sided}
+
+pub side-table : {xs : List ℕ} → State xs → (z : Side) → Table z xs
+unfolding used
+side-table {xs} s z =
+    let t = sided (λ z. Levels z (cell xs)) (s .sound .tables .bids) (s .sound .tables .asks) z in
+    record {
+      holds = s .holds;
+      few = sided (λ z. used z (cell xs) ≤ most-levels) (s .sound .tables .ordered .bounds .bids-fit) (s .sound .tables .ordered .bounds .asks-fit) z;
+      asc = t .rising;
+      counted = t .counted;
+    }
 
 module _ {s : Store} (d : Sound s) (z : Side) where
   levels-are : Levels z s
@@ -21,3 +36,7 @@ module _ {s : Store} (d : Sound s) (z : Side) where
 
   pub size-levels : size z s ≡ length (Depth.levels z (depth s .resting))
   size-levels = levels-are .counted ∙ sym (best-length z (entries z s)) ∙ ap length (levels-are .are)
+
+  -- the element j is the level j
+  pub listed-level : (l : List Level) → Lists z s l → (j : ℕ) → j < size z s → seen (getD l j nothing) ≡ getD (Depth.levels z (depth s .resting)) j (seen nothing)
+  listed-level l p j h = level-is z s l p j h ∙ ap (λ ls. getD ls j (seen nothing)) (levels-are .are)

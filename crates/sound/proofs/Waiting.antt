@@ -15,7 +15,7 @@ use Rattle.pending.specs.Pending as P
 use Rattle.pending.proofs.Commands.{batch-fits}
 use Rattle.pending.proofs.Chain.{chains, chained-kept, chained-same, chained-none, chained-pushed}
 use Rattle.sound.specs.Sound.{Clients, Sound}
-use Rattle.sound.proofs.Kept.{sided, counts, Grown, sound-beside}
+use Rattle.sound.proofs.Kept.{sided, level-counts, Grown, sound-beside}
 
 -- accounts, sessions, orders and levels are those of s
 pub record Untouched (s t : Store) : Type 0 where
@@ -47,7 +47,7 @@ module _ {s t : Store} (e : Untouched s t) (g : Grown s t) (f : P.BatchFits t) w
       sound-beside
       (record {
         keeps = record { rows-are = e .rows-are; live-are = e .live-are; resting-are = e .resting-are; cells = λ j k l m. e .orders j k };
-        sizes = sided (λ z. counts z t ≡ counts z s) (λ i. (e .bid-rows-are i, e .bid-levels-are i)) (λ i. (e .ask-rows-are i, e .ask-levels-are i));
+        sizes = sided (λ z. level-counts z t ≡ level-counts z s) (λ i. (e .bid-rows-are i, e .bid-levels-are i)) (λ i. (e .ask-rows-are i, e .ask-levels-are i));
         levels-are =
             sided (λ z. (j : ℕ) → j < used z s → row z t j ≡ row z s j)
             (λ j l i. record { key = e .bids j C.level-price i; qty = e .bids j C.level-qty i; orders = e .bids j C.level-orders i })

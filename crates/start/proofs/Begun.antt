@@ -30,7 +30,7 @@ use Rattle.store.specs.View.{Store, word, fill, listed, gateway, zeros, Is}
 use Rattle.store.proofs.Places.{header-cell}
 use Rattle.store.proofs.Rows.{then-fill}
 use Rattle.table.specs.Live.{live}
-use Rattle.levels.specs.Levels.{size, entries}
+use Rattle.levels.specs.Levels.{used, size, entries}
 use Rattle.clients.specs.Clients as Clients
 use Rattle.clients.proofs.Rows.{cells-block}
 use Rattle.clients.proofs.Links.{linked-ext, linked-zeros}
@@ -95,7 +95,7 @@ module _ (limit last : ℕ) (t : Timing) (few : limit ≤ owner-slots) where
   begun-view = cells-view ∙ (λ z. shape (nobody funds-in z) (nobody bucket-of z) (listed-same {A = Option Account} none limit z))
 
   pub begun-sound : Sound s
-  unfolding fill size entries live wrap
+  unfolding fill used size entries live wrap
   begun-sound =
       record {
         tables =
@@ -106,8 +106,8 @@ module _ (limit last : ℕ) (t : Timing) (few : limit ≤ owner-slots) where
                     sorted = record { ascends = λ i j h l. absurd (not-suc-le-zero l); flags = λ j l. absurd (not-suc-le-zero l) };
                     counted = record { live-count = refl; resting-count = refl };
                   };
-              bids = record { rising = λ i j h l. absurd (not-suc-le-zero l); are = refl };
-              asks = record { rising = λ i j h l. absurd (not-suc-le-zero l); are = refl };
+              bids = record { rising = λ i j h l. absurd (not-suc-le-zero l); are = refl; counted = refl };
+              asks = record { rising = λ i j h l. absurd (not-suc-le-zero l); are = refl; counted = refl };
               live-few = omega arith;
               resting-few = omega arith;
               numbered = λ j l. absurd (not-suc-le-zero l);
