@@ -5,8 +5,8 @@ use Prim.Native.Nat.{ℕ, _+_, _*_, _/_, _≤_, _<_}
 use native.Mathlib.Numerals.{add-one}
 use native.Mathlib.Omega.{arith}
 use borrow.Author.Tests.{le-leb, lt-leb}
-use lib.ListN.{length, getD, take, length-map}
-use lib.Seq.{take-suc, take-all, length-take-le}
+use lib.ListN.{length, getD, take, length-map, List·getD-map}
+use lib.Seq.{take-suc, take-all, length-take-le, getD-take}
 use Rattle.orderbook.specs.declared.Side.{Side}
 use Rattle.words.specs.Words.{int, modulus}
 use Rattle.gateway.specs.Limits.{most-levels}
@@ -24,13 +24,13 @@ use Rattle.rows.specs.Rows.{put-row, put-rows}
 use Rattle.rows.proofs.Laws.{rows-one, rows-append}
 use Rattle.mailbox.proofs.Rows.{word-is}
 use Rattle.sound.specs.Sound.{State}
-use Rattle.sound.proofs.Listed.{side-table, size-levels, listed-level}
+use Rattle.sound.proofs.Listed.{side-table, size-levels, lists-levels}
 use Rattle.outcome.specs.Between.{Between}
 use Rattle.outcome.specs.Parts.{rest-of}
 use Rattle.outcome.specs.Answers as Answers
 use Rattle.outcome.specs.Answers.{level-row}
 use Rattle.outcome.proofs.Calls.{lists-short, lists-done}
-use Rattle.depth.specs.Levels.{side-levels, nothing, level-at}
+use Rattle.depth.specs.Levels.{side-levels, nothing}
 
 -- ---- one level
 
@@ -38,8 +38,15 @@ module _ {xs : List ℕ} (st : State xs) (z : Side) where
   pub side-few : L.size z (cell xs) ≤ most-levels
   side-few = let t = side-table st z in omega (arith, size-few z t, t .few)
 
-  pub listed-at : (row : List Level) → Lists z (cell xs) row → (n j : ℕ) → n ≡ L.size z (cell xs) → j < n → seen (getD row j Listed.nothing) ≡ level-at z (rest-of xs) j
-  listed-at row p n j e l = listed-level (st .sound) z row p j (omega arith)
+  module _ (row : List Level) (p : Lists z (cell xs) row) (n : ℕ) (e : n ≡ L.size z (cell xs)) where
+    pub listed-all : map seen (take n row) ≡ side-levels z (rest-of xs)
+    listed-all = ap (λ k. map seen (take k row)) e ∙ lists-levels (st .sound) z row p
+
+    pub listed-long : length (map seen (take n row)) ≡ n
+    listed-long = ap length listed-all ∙ sym (e ∙ size-levels (st .sound) z)
+
+pub listed-at : (row : List Level) (n j : ℕ) → j < n → getD (map seen (take n row)) j nothing ≡ seen (getD row j Listed.nothing)
+listed-at row n j l = List·getD-map seen (take n row) j Listed.nothing ∙ ap seen (getD-take n row j Listed.nothing l)
 
 pub level-put : (out end : List ℕ) (j p : ℕ) (l : Level) → p < modulus → int p ≡ l .price → end ≡ put-row out (24 * j) (p ∷ l .qty ∷ l .orders ∷ []) → end ≡ put-row out (24 * j) (level-row (seen l))
 level-put out end j p l f g t = t ∙ ap (λ v. put-row out (24 * j) (v ∷ l .qty ∷ l .orders ∷ [])) (word-is p (l .price) f g)
