@@ -3,13 +3,12 @@ use mathlib.Core.Path.{_≡_, refl, sym, ap, subst, _∙_}
 use mathlib.Core.List.{List, [], _∷_, _++_, map}
 use Prim.Native.Nat.{ℕ, _+_, _≤_, _<_}
 use native.Mathlib.Omega.{arith}
-use lib.ListN.{length, length-append, length-map}
+use lib.ListN.{length, length-append, length-map, getD}
 use lib.IntN.{ℤ}
 use Rattle.orderbook.specs.declared.Side.{Side}
 use Rattle.orderbook.specs.declared.Side.the-variants.{Buy, Sell}
 use Rattle.protocol.specs.declared.Outbound.the-variants as Out
 use Rattle.protocol.specs.declared.LevelUpdate.{LevelUpdate}
-use Rattle.words.specs.Words.{int, half, _⊖_}
 use Rattle.gateway.specs.Limits.{session-slots, most-orders}
 use Rattle.gateway.specs.Depth as D
 use Rattle.gateway.specs.Rest as Rest
@@ -21,45 +20,51 @@ use Rattle.store.specs.Layout.{cell}
 use Rattle.store.specs.View.{word, depth, gateway, Is}
 use Rattle.clients.specs.Clients as Clients
 use Rattle.clients.proofs.Views.{subscribed-view}
-use Rattle.levels.specs.declared.Row.{Row}
+use Rattle.levels.specs.declared.listed.Level.{Level}
 use Rattle.levels.specs.Levels as L
-use Rattle.levels.specs.Listed.{nth}
+use Rattle.levels.specs.Listed as Listed
+use Rattle.levels.specs.Listed.{seen, Lists}
 use Rattle.sound.specs.Sound.{State, Becomes}
 use Rattle.sound.proofs.Kept.{becomes}
 use Rattle.sound.proofs.Clients.{session-sound}
-use Rattle.sound.proofs.Listed.{size-levels}
+use Rattle.sound.proofs.Listed.{size-levels, listed-level}
 use Rattle.mailbox.specs.Mailbox.{places}
 use Rattle.outcome.specs.Parts.{with-rest, rest-of, Sends, steps, Stepped}
 use Rattle.outcome.proofs.Walk.{stamped-rest, sends-more}
 use Rattle.outcome.proofs.Steps.{steps-each, each-one}
 use Rattle.depth.specs.Levels.{side-levels, nothing, level-at}
-use Rattle.depth.proofs.Laws.{side-few, nth-level}
+use Rattle.depth.proofs.Laws.{side-few}
 use Rattle.feed.specs.Feed.{Told}
 use Rattle.feed.proofs.Stamps.{sends-kept, sends-room}
-use Rattle.subscribe.specs.Subscribe.{level-step, levels-to, level-count, first-to}
+use Rattle.subscribe.specs.Subscribe.{level-step, one-level, levels-to, level-count, first-to}
 use Rattle.subscribe.proofs.Few.{level-few}
 
 -- ---- one level
 
-module _ {xs : List ℕ} (st : State xs) (z : Side) (n j k : ℕ) (r : Row) (n-is : n ≡ L.size z (cell xs)) (l : j < n) (k-is : k ≡ nth z n j) (r-is : r ≡ L.row z (cell xs) k) where
-  level-is : level-at z (rest-of xs) j ≡ L.level r
-  level-is = nth-level st z n j k r n-is l k-is r-is
+pub update-is : (xs : List ℕ) (z : Side) (l : Level) (seq : ℕ) → seq ≡ word (cell xs) C.delivered → (p : ℤ) → p ≡ l .price →
+    record { seq = seq; side = z; price = p; qty = l .qty; orders = l .orders } ≡ update-of (rest-of xs .delivered) z (seen l)
+update-is xs z l seq e p q = λ i. record { seq = e i; side = z; price = q i; qty = l .qty; orders = l .orders }
 
-  pub orders-few : r .orders ≤ most-orders
+pub level-sends : (xs : List ℕ) {ys : List ℕ} (out : List ℕ) {end : List ℕ} (i s : ℕ) (z : Side) (l : D.Level) (u : LevelUpdate) → u ≡ update-of (rest-of xs .delivered) z l →
+    Sends i (send s (Out.LevelUpdate u) ∷ []) (λ x. x) xs ys out end → Told (one-level s z l) i (i + 1) xs ys out end
+level-sends xs {ys} out {end} i s z l u e h = record { next-is = refl; sends = subst (λ (v : LevelUpdate). Sends i (send s (Out.LevelUpdate v) ∷ []) (λ x. x) xs ys out end) e h }
+
+-- the level j, from the list by value
+module _ {xs : List ℕ} (st : State xs) (z : Side) (row : List Level) (p : Lists z (cell xs) row) (n j : ℕ) (e : n ≡ L.size z (cell xs)) (h : j < n) where
+  level-is : seen (getD row j Listed.nothing) ≡ level-at z (rest-of xs) j
+  level-is = listed-level (st .sound) z row p j (omega arith)
+
+  pub orders-few : getD row j Listed.nothing .orders ≤ most-orders
   orders-few =
-      let os = rest-of xs .depth .resting in
-      let h = level-few z os j nothing (omega (arith, size-levels (st .sound) z)) in
-      omega (arith, h, ap (λ (q : D.Level). q .orders) level-is, st .sound .tables .ordered .counted .resting-count, st .sound .tables .resting-few)
+      let few = level-few z (rest-of xs .depth .resting) j nothing (omega (arith, size-levels (st .sound) z)) in
+      omega (arith, few, ap (λ (q : D.Level). q .orders) level-is, st .sound .tables .ordered .counted .resting-count, st .sound .tables .resting-few)
 
-  pub update-is : (seq : ℕ) → seq ≡ word (cell xs) C.delivered → (w : ℕ) → int w ≡ r .key ⊖ half → (p : ℤ) → p ≡ int w →
-      record { seq = seq; side = z; price = p; qty = r .qty; orders = r .orders } ≡ update-of (rest-of xs .delivered) z (level-at z (rest-of xs) j)
-  update-is seq e w f p q =
-      let g = q ∙ f in
-      (λ i. record { seq = e i; side = z; price = g i; qty = r .qty; orders = r .orders }) ∙ ap (update-of (rest-of xs .delivered) z) (sym level-is)
-
-pub level-sends : (xs : List ℕ) {ys : List ℕ} (out : List ℕ) {end : List ℕ} (i s : ℕ) (z : Side) (j : ℕ) (u : LevelUpdate) → u ≡ update-of (rest-of xs .delivered) z (level-at z (rest-of xs) j) →
-    Sends i (send s (Out.LevelUpdate u) ∷ []) (λ x. x) xs ys out end → Stepped (level-step s z) i j (i + 1) xs ys out end
-level-sends xs {ys} out {end} i s z j u e h = record { next-is = refl; sends = subst (λ (v : LevelUpdate). Sends i (send s (Out.LevelUpdate v) ∷ []) (λ x. x) xs ys out end) e h }
+  -- it is sent from a state whose sessions alone have changed
+  pub level-steps : {mid ys out fin end : List ℕ} (i to m next : ℕ) (ms : List Mail) → Sends i ms (λ x. x) xs mid out fin → Told (one-level to z (seen (getD row j Listed.nothing))) m next mid ys fin end →
+      Stepped (level-step to z) m j next mid ys fin end
+  level-steps {mid} {ys} {out} {fin} {end} i to m next ms t w =
+      let same : level-at z (rest-of mid) j ≡ level-at z (rest-of xs) j = sends-kept (λ (r : Rest). level-at z r j) (λ zs r. refl) xs i ms t in
+      record { next-is = w .next-is; sends = subst (λ (l : D.Level). Sends m (level-to to (rest-of mid .delivered) z l ∷ []) (λ x. x) mid ys fin end) (level-is ∙ sym same) (w .sends) }
 
 -- ---- a side
 
@@ -136,4 +141,4 @@ module _ (xs : List ℕ) (s : ℕ) (out : List ℕ) (i : ℕ) where
 pub subscribed-becomes : {xs ys : List ℕ} → State xs → (s : ℕ) → s < session-slots → Is ys (Clients.set-subscribed s (cell xs)) → Becomes ys (with-rest (update-session s Rest.set-subscribed) (gateway (cell xs)))
 subscribed-becomes {xs} st s l h = becomes h (session-sound (cell xs) (st .sound) s C.session-subscribed 1 (omega arith)) (subscribed-view s (cell xs) l)
 
-pub ruleset snapshots = (orders-few, level-sends, levels-many, levels-fit, first-sends, subscribed-becomes, arith)
+pub ruleset snapshots = (level-sends, levels-many, levels-fit, first-sends, subscribed-becomes, arith)

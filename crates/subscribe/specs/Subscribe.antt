@@ -5,6 +5,7 @@ use lib.ListN.{length}
 use Rattle.orderbook.specs.declared.Side.{Side}
 use Rattle.orderbook.specs.declared.Side.the-variants.{Buy, Sell}
 use Rattle.protocol.specs.declared.Outbound.the-variants as Out
+use Rattle.gateway.specs.Depth.{Level}
 use Rattle.gateway.specs.Rest.{Mail, send, Rest, update-session, set-subscribed}
 use Rattle.gateway.specs.Entry.{level-to, publish-mail, published, snapshot}
 use Rattle.gateway.specs.Calls.{Gateway}
@@ -13,6 +14,9 @@ use Rattle.depth.specs.Levels.{side-levels, level-at}
 
 abbrev pub level-step : ℕ → Side → Steps
 level-step s z g j = level-to s (g .rest .delivered) z (level-at z (g .rest) j) ∷ []
+
+abbrev pub one-level : ℕ → Side → Level → Gateway → List Mail
+one-level s z l g = level-to s (g .rest .delivered) z l ∷ []
 
 abbrev pub levels-to : ℕ → Side → Gateway → List Mail
 levels-to s z g = map (level-to s (g .rest .delivered) z) (side-levels z (g .rest))

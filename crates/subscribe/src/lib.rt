@@ -1,4 +1,5 @@
 // A client asks for the market's data: `subscribe` of exchange.rs.
+use levels::listed::Level;
 use orderbook::Side;
 use outcome::Reply;
 use protocol::LevelUpdate;
@@ -9,47 +10,44 @@ ghost use mathlib.Core.Option.{some};
 ghost use Prim.Native.Nat.{_+_, _≤_, _<_};
 ghost use lib.ListN.{length};
 ghost use Rattle.protocol.specs.declared.Inbound.the-variants as In;
-ghost use Rattle.gateway.specs.Limits.{session-slots};
+ghost use Rattle.gateway.specs.Limits.{session-slots, most-orders};
 ghost use Rattle.gateway.specs.Rest as Rest;
 ghost use Rattle.gateway.specs.Rest.{update-session};
 ghost use Rattle.gateway.specs.Entry.{update-of, snapshot};
 ghost use Rattle.gateway.specs.Calls.{call, receive-from};
 ghost use Rattle.store.specs.Layout.{cell};
 ghost use Rattle.store.specs.View.{gateway};
-ghost use Rattle.levels.specs.Levels as L;
+ghost use Rattle.levels.specs.Listed.{seen};
 ghost use Rattle.sound.specs.Sound.{State, Becomes};
 ghost use Rattle.mailbox.specs.Mailbox.{places};
-ghost use Rattle.outcome.specs.Parts.{with-rest, rest-of, Sends, Stepped, Speaks};
+ghost use Rattle.outcome.specs.Parts.{with-rest, rest-of, Sends, Speaks};
 ghost use Rattle.outcome.specs.Answers.{Gives};
 ghost use Rattle.balances.specs.Balances.{Exact};
-ghost use Rattle.depth.specs.Levels.{side-levels, level-at};
+ghost use Rattle.depth.specs.Levels.{side-levels};
 ghost use Rattle.feed.specs.Feed.{Told};
 ghost use Rattle.subscribe.specs.Subscribe as P;
 
 // ---- the levels of a side
 
-// The level j of n, counted from the best.
-fn update_at(m: &[u8], side: Side, n: usize, j: usize) -> LevelUpdate
-    requires { ⌜ State (now m) × (n ≡ L.size side (cell (now m))) × (j < n) ⌝ }
-    ensures { λ r. ⌜ r ≡ update-of (rest-of (now (m .entry)) .delivered) side (level-at side (rest-of (now (m .entry))) j) ⌝ }
+fn update_of(m: &[u8], side: Side, l: Level) -> LevelUpdate
+    requires { ⌜ State (now m) × (l .orders ≤ most-orders) ⌝ }
+    ensures { λ r. ⌜ r ≡ update-of (rest-of (now (m .entry)) .delivered) side (seen l) ⌝ }
 {
-    let l = levels::read_row(m, side, levels::listed::nth(side, n, j));
     let seq = pending::header::word_at(m, cells::DELIVERED);
     LevelUpdate {
         seq,
         side,
-        price: words::to_i64(words::lowered(l.key)),
+        price: l.price,
         qty: l.qty,
         orders: l.orders as u32,
     }
 }
 
-fn send_level(m: &mut [u8], out: &mut [u8], i: usize, s: usize, side: Side, j: usize) -> usize
-    requires { ⌜ State (now m) × (s < session-slots) × (j < length (side-levels side (rest-of (now m)))) × (i < places (length (now out))) ⌝ }
-    ensures { λ r. ⌜ Stepped (P.level-step s side) i j r (now (m .entry)) (now (m .exit)) (now (out .entry)) (now (out .exit)) ⌝ }
+fn send_level(m: &mut [u8], out: &mut [u8], i: usize, s: usize, side: Side, l: Level) -> usize
+    requires { ⌜ State (now m) × (s < session-slots) × (l .orders ≤ most-orders) × (i < places (length (now out))) ⌝ }
+    ensures { λ r. ⌜ Told (P.one-level s side (seen l)) i r (now (m .entry)) (now (m .exit)) (now (out .entry)) (now (out .exit)) ⌝ }
 {
-    let n = levels::size(m, side);
-    let u = update_at(m, side, n, j);
+    let u = update_of(m, side, l);
     outcome::send(m, out, i, s, Outbound::LevelUpdate(u));
     i + 1
 }
@@ -59,10 +57,12 @@ fn send_side(m: &mut [u8], out: &mut [u8], i: usize, s: usize, side: Side) -> us
     ensures { λ r. ⌜ Told (P.levels-to s side) i r (now (m .entry)) (now (m .exit)) (now (out .entry)) (now (out .exit)) ⌝ }
 {
     let rows = levels::size(m, side);
+    let row = levels::listed::best_first(m, side);
     let mut n: usize = i;
     let mut j: usize = 0;
     while j < rows {
-        n = send_level(m, out, n, s, side, j);
+        let l = row[j];
+        n = send_level(m, out, n, s, side, l);
         j += 1;
     }
     n

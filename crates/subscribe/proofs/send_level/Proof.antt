@@ -1,15 +1,10 @@
-use native.Mathlib.Omega.{arith}
-use Rattle.sound.proofs.Listed.{size-levels}
 use Rattle.subscribe.proofs.Snapshot.{snapshots}
 use borrow.Author.Needs.{needs}
 use Rattle.subscribe.proofs.send_level.Statement.{statement}
 use Rattle.subscribe.proofs.send_level.Tie as tie
 
-size-requires : tie.Need-size-requires
-size-requires c κs = search needs
-
-update-at-requires : tie.Need-update-at-requires
-update-at-requires c κs = let s = c .before .before .before .before .before in let n = c .before .size .ensures in (s .pre .0, n, omega (arith, size-levels (s .pre .0 .sound) (s .args .side), n, s .pre .2))
+update-of-requires : tie.Need-update-of-requires
+update-of-requires c κs = search needs
 
 send-requires : tie.Need-send-requires
 send-requires c κs = search needs
@@ -29,11 +24,4 @@ returns c = search snapshots
 pub send-level-spec : {M : Type 1} → statement M
 send-level-spec =
     tie.close
-    (tie.spec
-    size-requires
-    update-at-requires
-    send-requires
-    add-result
-    same-length
-    same-length-2
-    returns)
+    (tie.spec update-of-requires send-requires add-result same-length same-length-2 returns)
