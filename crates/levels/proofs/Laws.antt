@@ -29,7 +29,7 @@ use Rattle.store.specs.View.{word}
 use Rattle.store.proofs.Places.{header-cell, bid-cell, ask-cell, cell-block, cell-same, cell-other}
 use Rattle.levels.specs.declared.Row.{Row}
 use Rattle.levels.specs.Rows.{widths, values, made, read}
-use Rattle.levels.specs.Levels.{block, used-cell, size-cell, base, key, orders, row, used, size, entries, grown, opened, one-more, changed, one-less, added, shown, removed, Joins, CanAdd, CanShow, CanRemove, Table, Recounted, Did, Sought, IsFirst, IsAt, Place, Next}
+use Rattle.levels.specs.Levels.{block, used-cell, size-cell, base, key, orders, row, used, size, entries, grown, opened, one-more, changed, one-less, added, shown, removed, Joins, CanAdd, CanShow, CanRemove, Table, Recounted, Did, Sought, IsFirst, IsAt, Place, Alive, Free}
 use Rattle.words.specs.Words.{modulus}
 
 -- ---- the block in bytes
@@ -195,13 +195,13 @@ module _ (s : Side) {xs : List ℕ} (t : Table s xs) where
 never : {r : Row} {m : Option Row} → m ≡ some r → m ≡ none → ⊥
 never p q = let z : _≡_ {A = ℕ} 0 1 = cc in omega (arith, z)
 
--- a level k comes, whose place is i: from i on the rows are live up to d
-module _ (s : Side) {xs : List ℕ} {k i d : ℕ} (p : Place s xs k i) (q : Next s xs i d) where
+-- a level k comes, whose place is i: where the row i is live, it and those behind it are above
+module _ (s : Side) {xs : List ℕ} {k i d : ℕ} (p : Place s xs k i) (q : Free s xs i d) where
   abbrev t : Table s xs
   t = p .table
 
-  above : i < d → (j : ℕ) → i ≤ j → j < used s (cell xs) → k < row s (cell xs) j .key
-  above l = between-above (t .asc) (p .sought) (λ h e. never (at-some s t (p .sought) h e (q .live i (omega arith) l)) (p .absent))
+  above : (d ≡ i → ⊥) → (j : ℕ) → i ≤ j → j < used s (cell xs) → k < row s (cell xs) j .key
+  above ne = between-above (t .asc) (p .sought) (λ h e. never (at-some s t (p .sought) h e (q .live ne h)) (p .absent))
 
 -- it is written at `at`, after rows have moved
 module _ (s : Side) (ys : List ℕ) {zs : List ℕ} (at k x : ℕ) (kf : k < modulus) (xf : x < modulus) (h : at < most-levels) (len : length ys ≡ 8 * cells)
@@ -218,31 +218,31 @@ module _ (s : Side) (ys : List ℕ) {zs : List ℕ} (at k x : ℕ) (kf : k < mod
   new-other : (j : ℕ) → (j ≡ at → ⊥) → row s (cell zs) j ≡ row s (cell ys) j
   new-other j ne = sym (row-at s zs j) ∙ row-other read-local (base s) at new-out j ne ∙ row-at s ys j
 
-module _ (s : Side) {xs : List ℕ} (ys : List ℕ) {zs : List ℕ} {k i d : ℕ} (p : Place s xs k i) (q : Next s xs i d) (r : d < most-levels) (x : ℕ) (kf : k < modulus) (xf : x < modulus)
+module _ (s : Side) {xs : List ℕ} (ys : List ℕ) {zs : List ℕ} {k i d : ℕ} (p : Place s xs k i) (q : Free s xs i d) (r : i ≤ d) (x : ℕ) (kf : k < modulus) (xf : x < modulus)
     (o : Opened (base s) 32 d i xs ys) (w : zs ≡ puts widths ys (base s + 32 * i) (values (opened k x))) where
   up-len : length ys ≡ 8 * cells
   up-len = o .frame .len ∙ p .table .holds
 
   up-here : row s (cell zs) i ≡ opened k x
-  up-here = new-here s ys i k x kf xf (omega (arith, q .from)) up-len w
+  up-here = new-here s ys i k x kf xf (omega (arith, r, q .fits)) up-len w
 
   up-gap : Gap (row s (cell xs)) (row s (cell zs)) d i
-  up-gap = rw (rows-at s xs, rows-at s zs) at (opened-gap read-local (base s) o (new-out s ys i k x kf xf (omega (arith, q .from)) up-len w))
+  up-gap = rw (rows-at s xs, rows-at s zs) at (opened-gap read-local (base s) o (new-out s ys i k x kf xf (omega (arith, r, q .fits)) up-len w))
 
   up-out : Outside (base s) (base s + 16384) xs zs
   up-out =
       outside-trans (outside-wider (base s) (base s + 16384) (omega arith) (omega arith) (o .frame))
-      (outside-wider (base s) (base s + 16384) (omega arith) (omega (arith, q .from)) (new-out s ys i k x kf xf (omega (arith, q .from)) up-len w))
+      (outside-wider (base s) (base s + 16384) (omega arith) (omega (arith, r, q .fits)) (new-out s ys i k x kf xf (omega (arith, r, q .fits)) up-len w))
 
   up-same : (j : ℕ) → d < j → j < used s (cell xs) → row s (cell zs) j ≡ row s (cell xs) j
   up-same j h l =
-      new-other s ys i k x kf xf (omega (arith, q .from)) up-len w j (λ e. omega (arith, q .from))
+      new-other s ys i k x kf xf (omega (arith, r, q .fits)) up-len w j (λ e. omega (arith, r, q .fits))
       ∙ sym (row-at s ys j) ∙ local-outside read-local (base s + 32 * j) (o .frame) (inr (omega arith)) ∙ row-at s xs j
 
   up-first : Ascends key (row s (cell zs)) (d + 1)
   up-first =
       ascends-open key up-gap (λ a b u v. p .table .asc a b u (omega (arith, q .to))) (λ j h. rw (ap key up-here) (p .sought .below j h))
-      (λ j h l. rw (ap key up-here) (above s p q (omega arith) j h (omega (arith, q .to))))
+      (λ j h l. rw (ap key up-here) (above s p q (λ e. omega arith) j h (omega (arith, q .to))))
 
   up-cross : d < used s (cell xs) → (a j : ℕ) → a < d + 1 → d + 1 ≤ j → j < used s (cell xs) → row s (cell zs) a .key < row s (cell xs) j .key
   up-cross h a j l m n =
@@ -252,7 +252,7 @@ module _ (s : Side) {xs : List ℕ} (ys : List ℕ) {zs : List ℕ} {k i d : ℕ
       ⊎-elim
       (λ (e : i ≡ a).
       let f : row s (cell zs) a .key ≡ k = ap (λ y. row s (cell zs) y .key) (sym e) ∙ ap key up-here in
-      omega (arith, f, p .sought .above d (q .from) h, p .table .asc d j (omega arith) n))
+      omega (arith, f, p .sought .above d r h, p .table .asc d j (omega arith) n))
       (λ (c : i < a).
       let e : a ≡ a - 1 + 1 = omega arith in
       let f : row s (cell zs) a .key ≡ row s (cell xs) (a - 1) .key = ap (λ y. row s (cell zs) y .key) e ∙ ap key (up-gap .behind (a - 1) (omega arith) (omega arith)) in
@@ -281,16 +281,16 @@ module _ (s : Side) {xs : List ℕ} (ys : List ℕ) {zs : List ℕ} {k i d : ℕ
       many : size s (cell xs) + 1 ≡ length (insert key (opened k x) (entries s (cell xs)))
       many = omega (arith, p .table .counted, insert-length key (opened k x) (entries s (cell xs)))
 
-module _ (s : Side) {xs : List ℕ} (ys : List ℕ) {zs : List ℕ} {k i d : ℕ} (p : Place s xs k i) (q : Next s xs i (used s (cell xs))) (h : d < i) (dead : row s (cell xs) d .orders ≡ 0) (x : ℕ)
+module _ (s : Side) {xs : List ℕ} (ys : List ℕ) {zs : List ℕ} {k i d : ℕ} (p : Place s xs k i) (q : Free s xs i d) (h : d < i) (x : ℕ)
     (kf : k < modulus) (xf : x < modulus) (o : Closed (base s) 32 i d xs ys) (w : zs ≡ puts widths ys (base s + 32 * (i - 1)) (values (opened k x))) where
   in-use : i ≤ used s (cell xs)
-  in-use = q .from
+  in-use = p .sought .top
 
   down-len : length ys ≡ 8 * cells
   down-len = o .frame .len ∙ p .table .holds
 
   few-rows : i - 1 < most-levels
-  few-rows = omega (arith, q .from, p .table .few)
+  few-rows = omega (arith, in-use, p .table .few)
 
   down-here : row s (cell zs) (i - 1) ≡ opened k x
   down-here = new-here s ys (i - 1) k x kf xf few-rows down-len w
@@ -341,14 +341,14 @@ module _ (s : Side) {xs : List ℕ} (ys : List ℕ) {zs : List ℕ} {k i d : ℕ
       (λ (b : i - 1 ≤ a).
       let e : a ≡ i - 1 = omega arith in
       let f : row s (cell zs) a .key ≡ k = ap (λ y. row s (cell zs) y .key) e ∙ ap key down-here in
-      omega (arith, f, above s p q (omega arith) j (omega arith) n))
+      omega (arith, f, above s p q (λ e. omega arith) j (omega arith) n))
       (lt-or-le a (i - 1)))
 
   down-did : {us : List ℕ} (n v : ℕ) → n ≡ used s (cell xs) → v ≡ size s (cell xs) → Recounted s zs us n (v + 1) → Did s xs us (insert key (opened k x) (entries s (cell xs)))
   unfolding entries
   down-did n v n-is v-is c =
       recounted-did s (p .table) (used s (cell xs)) (size s (cell xs) + 1) down-out (rw (n-is, v-is) at c) (p .table .few) down-asc
-      (live-under orders key down-gap (omega (arith, in-use)) dead down-same (p .table .asc) down-asc (omega (arith, ap orders down-here))
+      (live-under orders key down-gap (omega (arith, in-use)) (q .dead (omega (arith, in-use))) down-same (p .table .asc) down-asc (omega (arith, ap orders down-here))
       ∙ ap (λ y. insert key y (entries s (cell xs))) down-here)
       (omega (arith, p .table .counted, insert-length key (opened k x) (entries s (cell xs))))
 
@@ -433,7 +433,7 @@ module _ (s : Side) {xs : List ℕ} (t : Table s xs) where
         below-is : r .key < k → (j : ℕ) → j < i → row s (cell xs) j .key < k
         below-is w j l =
             ⊎-elim (λ (g : j < i - 1). omega (arith, t .asc j (i - 1) g (omega arith), w, ap key q))
-            (λ g. let e : j ≡ i - 1 = omega arith in rw e (omega (arith, w, ap key q))) (lt-or-le j (i - 1))
+            (λ (g : i - 1 ≤ j). let e : j ≡ i - 1 = omega arith in rw e (omega (arith, w, ap key q))) (lt-or-le j (i - 1))
 
   pub join-is : {ys : List ℕ} (i v : ℕ) (r : Row) → i < used s (cell xs) → 0 < row s (cell xs) i .orders → Joins v (row s (cell xs) i) → r ≡ row s (cell xs) i → r .key < modulus →
       ys ≡ puts widths xs (base s + 32 * i) (r .key ∷ (r .qty + v) ∷ (r .orders + 1) ∷ []) → Did s xs ys (replace key (one-more v (row s (cell xs) i)) (entries s (cell xs)))
@@ -518,10 +518,10 @@ module _ (s : Side) {xs : List ℕ} (t : Table s xs) where
   some-level i h l = omega (arith, t .counted, live-some orders (row s (cell xs)) i (used s (cell xs)) h l)
 
   -- where all rows are live there are as many levels
-  pub dead-below : (i : ℕ) → Next s xs i (used s (cell xs)) → size s (cell xs) < used s (cell xs) → ((j : ℕ) → j < i → 0 < row s (cell xs) j .orders) → ⊥
+  pub dead-below : (i : ℕ) → Alive s xs i (used s (cell xs)) → size s (cell xs) < used s (cell xs) → ((j : ℕ) → j < i → 0 < row s (cell xs) j .orders) → ⊥
   unfolding entries
   dead-below i q h low =
-      let n = live-all orders (row s (cell xs)) (used s (cell xs)) (λ j l. ⊎-elim (low j) (λ g. q .live j g l) (lt-or-le j i)) in
+      let n = live-all orders (row s (cell xs)) (used s (cell xs)) (λ j l. ⊎-elim (low j) (λ g. q j g l) (lt-or-le j i)) in
       omega (arith, t .counted, n)
 
   pub place-is : (k i v : ℕ) → CanAdd (size s (cell xs)) v (look key k (entries s (cell xs))) → Sought s xs k i → look key k (entries s (cell xs)) ≡ none → Place s xs k i
@@ -529,34 +529,33 @@ module _ (s : Side) {xs : List ℕ} (t : Table s xs) where
 
 -- ---- the dead rows are looked for
 
--- the rows from i up to d are live
-pub record Passed (s : Side) (xs : List ℕ) (i d : ℕ) : Type 0 where
-  pub from : i ≤ d
-  pub to : d ≤ used s (cell xs)
-  pub live : (j : ℕ) → i ≤ j → j < d → 0 < row s (cell xs) j .orders
+-- the rows from lo up to hi are live, and i is among them or at their end
+pub record Around (s : Side) (xs : List ℕ) (i lo hi : ℕ) : Type 0 where
+  pub low : lo ≤ i
+  pub high : i ≤ hi
+  pub top : hi ≤ used s (cell xs)
+  pub live : Alive s xs lo hi
 
-module _ (s : Side) (xs : List ℕ) where
-  pub none-passed : (i : ℕ) → i ≤ used s (cell xs) → Passed s xs i i
-  none-passed i h = record { from = omega arith; to = h; live = λ j a b. absurd (omega arith) }
+module _ (s : Side) (xs : List ℕ) (i : ℕ) where
+  pub none-seen : i ≤ used s (cell xs) → Around s xs i i i
+  none-seen h = record { low = omega arith; high = omega arith; top = h; live = λ j a b. absurd (omega arith) }
 
-  pub one-passed : (i d n : ℕ) (r : Row) → Passed s xs i d → n ≡ used s (cell xs) → d < n → r ≡ row s (cell xs) d → (r .orders ≡ 0 → ⊥) → Passed s xs i (d + 1)
-  one-passed i d n r p n-is h e l =
-      record {
-        from = omega (arith, p .from);
-        to = omega arith;
-        live = λ j a b.
-            ⊎-elim (λ (q : j < d). p .live j a q)
-            (λ q. let w : j ≡ d = omega arith in let f : row s (cell xs) j .orders ≡ r .orders = ap (λ y. row s (cell xs) y .orders) w ∙ ap orders (sym e) in omega (arith, l, f))
-            (lt-or-le j d);
-      }
+  module _ (lo hi n : ℕ) (r : Row) (p : Around s xs i lo hi) (t : Table s xs) (n-is : n ≡ used s (cell xs)) (h : hi < n) (e : r ≡ row s (cell xs) hi) where
+    pub free-above : r .orders ≡ 0 → Free s xs i hi
+    free-above z =
+        record { to = p .top; fits = omega (arith, t .few); dead = λ _. ap orders (sym e) ∙ z; live = λ ne l. p .live i (p .low) (omega (arith, p .high, ne)) }
 
-  pub next-is : (i d n : ℕ) (r : Row) → Passed s xs i d → n ≡ used s (cell xs) → d < n → r ≡ row s (cell xs) d → r .orders ≡ 0 → Next s xs i d
-  next-is i d n r p n-is h e z = record { from = p .from; to = p .to; live = p .live; dead = λ _. ap orders (sym e) ∙ z }
-
-  pub next-none : (i d n : ℕ) → Passed s xs i d → n ≡ used s (cell xs) → n ≤ d → Next s xs i n
-  next-none i d n p n-is h =
-      let e : n ≡ d = omega (arith, p .to) in
-      record { from = omega (arith, p .from); to = omega arith; live = λ j a b. p .live j a (omega arith); dead = λ q. absurd (omega arith) }
+    pub one-above : (r .orders ≡ 0 → ⊥) → Around s xs i lo (hi + 1)
+    one-above l =
+        record {
+          low = p .low;
+          high = omega (arith, p .high);
+          top = omega arith;
+          live = λ j a b.
+              ⊎-elim (λ (q : j < hi). p .live j a q)
+              (λ q. let w : j ≡ hi = omega arith in let f : row s (cell xs) j .orders ≡ r .orders = ap (λ y. row s (cell xs) y .orders) w ∙ ap orders (sym e) in omega (arith, l, f))
+              (lt-or-le j hi);
+        }
 
 -- the rows from d up to i are live
 pub record Below (s : Side) (xs : List ℕ) (i d : ℕ) : Type 0 where
@@ -582,16 +581,50 @@ module _ (s : Side) (xs : List ℕ) (i : ℕ) where
   dead-is d r e z = ap orders (sym e) ∙ z
 
   -- none is dead: then there are as many levels as rows
-  pub none-dead : {P : Type 0} (d : ℕ) → Table s xs → Next s xs i (used s (cell xs)) → size s (cell xs) < used s (cell xs) → Below s xs i d → d ≤ 0 → P
+  pub none-dead : {P : Type 0} (d : ℕ) → Table s xs → Alive s xs i (used s (cell xs)) → size s (cell xs) < used s (cell xs) → Below s xs i d → d ≤ 0 → P
   none-dead d t q h p z = absurd (dead-below s t i q h (λ j l. p .live j (omega arith) l))
 
--- all rows are in use, and none from i on is dead
-module _ {s : Side} {xs : List ℕ} {k i d : ℕ} (p : Place s xs k i) (q : Next s xs i d) (h : most-levels ≤ d) where
-  pub full-next : Next s xs i (used s (cell xs))
-  full-next = let e : d ≡ used s (cell xs) = omega (arith, q .to, p .table .few) in subst (Next s xs i) e q
+-- the row below them is looked at
+module _ (s : Side) (xs : List ℕ) (i lo hi : ℕ) (p : Around s xs i lo hi) (t : Table s xs) (h : i < hi) (k : 0 < lo) (r : Row) (e : r ≡ row s (cell xs) (lo - 1)) where
+  pub free-below : r .orders ≡ 0 → Free s xs i (lo - 1)
+  free-below z =
+      record {
+        to = omega (arith, p .low, p .high, p .top);
+        fits = omega (arith, p .low, p .high, p .top, t .few);
+        dead = λ _. ap orders (sym e) ∙ z;
+        live = λ ne l. p .live i (p .low) h;
+      }
 
-  pub full-room : size s (cell xs) < used s (cell xs)
-  full-room = omega (arith, q .to, p .table .few, p .room)
+  pub one-more-below : (r .orders ≡ 0 → ⊥) → Around s xs i (lo - 1) hi
+  one-more-below l =
+      record {
+        low = omega (arith, p .low);
+        high = p .high;
+        top = p .top;
+        live = λ j a b.
+            ⊎-elim
+            (λ (q : j < lo). let w : j ≡ lo - 1 = omega arith in let f : row s (cell xs) j .orders ≡ r .orders = ap (λ y. row s (cell xs) y .orders) w ∙ ap orders (sym e) in omega (arith, l, f))
+            (λ q. p .live j q b)
+            (lt-or-le j lo);
+      }
+
+-- they reach to the last row
+module _ {s : Side} {xs : List ℕ} {i lo hi : ℕ} (p : Around s xs i lo hi) (t : Table s xs) (n : ℕ) (n-is : n ≡ used s (cell xs)) (h : n ≤ hi) where
+  pub to-the-end : Alive s xs lo (used s (cell xs))
+  to-the-end j a b = p .live j a (omega arith)
+
+  pub free-behind : n < most-levels → Free s xs i n
+  free-behind l =
+      record { to = omega arith; fits = l; dead = λ q. absurd (omega arith); live = λ ne q. p .live i (p .low) (omega arith) }
+
+  pub free-under : (d : ℕ) → d < lo → row s (cell xs) d .orders ≡ 0 → Free s xs i d
+  free-under d l z =
+      record {
+        to = omega (arith, p .low, p .high, p .top);
+        fits = omega (arith, p .low, p .high, p .top, t .few);
+        dead = λ _. z;
+        live = λ ne q. p .live i (p .low) (omega arith);
+      }
 
 pub grown-in : (n d : ℕ) → d < n → n ≡ grown n d
 grown-in n d h = rw (lt-ltb d n h) refl
@@ -599,14 +632,14 @@ grown-in n d h = rw (lt-ltb d n h) refl
 pub grown-behind : (n d : ℕ) → n ≤ d → d + 1 ≡ grown n d
 grown-behind n d h = rw (le-ltb d n h) refl
 
-pub put-up-is : (s : Side) {xs : List ℕ} (ys : List ℕ) {zs us : List ℕ} (n g v b i d k x : ℕ) → Place s xs k i → Next s xs i d → d < most-levels → k < modulus → x < modulus →
+pub put-up-is : (s : Side) {xs : List ℕ} (ys : List ℕ) {zs us : List ℕ} (n g v b i d k x : ℕ) → Place s xs k i → Free s xs i d → i ≤ d → k < modulus → x < modulus →
     n ≡ used s (cell xs) → v ≡ size s (cell xs) → b ≡ base s → Opened b 32 d i xs ys → zs ≡ puts widths ys (base s + 32 * i) (values (opened k x)) → g ≡ grown n d → Recounted s zs us g (v + 1) →
     Did s xs us (insert key (opened k x) (entries s (cell xs)))
 put-up-is s ys n g v b i d k x p q r kf xf n-is v-is e o w g-is c = up-did s ys p q r x kf xf (rw e at o) w n v n-is v-is (rw g-is at c)
 
-pub put-down-is : (s : Side) {xs : List ℕ} (ys : List ℕ) {zs us : List ℕ} (n v b i d k x : ℕ) → Place s xs k i → Next s xs i (used s (cell xs)) → d < i → row s (cell xs) d .orders ≡ 0 → k < modulus → x < modulus →
+pub put-down-is : (s : Side) {xs : List ℕ} (ys : List ℕ) {zs us : List ℕ} (n v b i d k x : ℕ) → Place s xs k i → Free s xs i d → d < i → k < modulus → x < modulus →
     n ≡ used s (cell xs) → v ≡ size s (cell xs) → b ≡ base s → Closed b 32 i d xs ys → zs ≡ puts widths ys (base s + 32 * (i - 1)) (values (opened k x)) → Recounted s zs us n (v + 1) →
     Did s xs us (insert key (opened k x) (entries s (cell xs)))
-put-down-is s ys n v b i d k x p q h dead kf xf n-is v-is e o w c = down-did s ys p q h dead x kf xf (rw e at o) w n v n-is v-is c
+put-down-is s ys n v b i d k x p q h kf xf n-is v-is e o w c = down-did s ys p q h x kf xf (rw e at o) w n v n-is v-is c
 
-pub ruleset laws = (read-is, write-is, used-is, size-is, recount-is, sorted-at, sought-is, past-is, here-is, not-here-is, low-is, join-is, show-is, remove-last-is, remove-one-is, add-join-is, add-new-is, take-out-is, some-level, size-few, none-passed, one-passed, next-is, next-none, none-below, one-below, dead-is, grown-in, grown-behind, put-up-is, put-down-is, arith)
+pub ruleset laws = (read-is, write-is, used-is, size-is, recount-is, sorted-at, sought-is, past-is, here-is, not-here-is, low-is, join-is, show-is, remove-last-is, remove-one-is, add-join-is, add-new-is, take-out-is, some-level, size-few, none-seen, none-below, one-below, dead-is, grown-in, grown-behind, put-up-is, put-down-is, arith)

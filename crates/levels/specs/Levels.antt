@@ -133,12 +133,16 @@ pub record Place (s : Side) (xs : List ℕ) (k i : ℕ) : Type 0 where
   pub sought : Sought s xs k i
   pub absent : look key k (entries s (cell xs)) ≡ none
 
--- d is the first dead row from i on, or the number of rows in use
-pub record Next (s : Side) (xs : List ℕ) (i d : ℕ) : Type 0 where
-  pub from : i ≤ d
+-- the rows from i up to d are live
+abbrev pub Alive : Side → List ℕ → ℕ → ℕ → Type 0
+Alive s xs i d = (j : ℕ) → i ≤ j → j < d → 0 < row s (cell xs) j .orders
+
+-- d is a dead row, or the number of rows in use where one more fits; and the row i is dead only where it is d
+pub record Free (s : Side) (xs : List ℕ) (i d : ℕ) : Type 0 where
   pub to : d ≤ used s (cell xs)
-  pub live : (j : ℕ) → i ≤ j → j < d → 0 < row s (cell xs) j .orders
+  pub fits : d < most-levels
   pub dead : d < used s (cell xs) → row s (cell xs) d .orders ≡ 0
+  pub live : (d ≡ i → ⊥) → i < used s (cell xs) → 0 < row s (cell xs) i .orders
 
 -- how many rows are in use once the row d is
 abbrev pub grown : ℕ → ℕ → ℕ

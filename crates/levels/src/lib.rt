@@ -185,25 +185,9 @@ fn join(m: &mut [u8], side: Side, i: usize, visible: u64)
     );
 }
 
-// The first dead row from i on, or the number of rows in use.
-fn next_dead(m: &[u8], side: Side, i: usize) -> usize
-    requires { ⌜ L.Table side (now m) × (i ≤ L.used side (cell (now m))) ⌝ }
-    ensures { λ r. ⌜ L.Next side (now (m .entry)) i r ⌝ }
-{
-    let n = used(m, side);
-    let mut d = i;
-    while d < n {
-        if read_row(m, side, d).orders == 0 {
-            return d;
-        }
-        d += 1;
-    }
-    n
-}
-
-// The last dead row before i, where all rows from i on are live.
+// The last dead row before i, where all rows from i on are live, and not all rows are.
 fn last_dead(m: &[u8], side: Side, i: usize) -> usize
-    requires { ⌜ L.Table side (now m) × L.Next side (now m) i (L.used side (cell (now m))) × (L.size side (cell (now m)) < L.used side (cell (now m))) ⌝ }
+    requires { ⌜ L.Table side (now m) × L.Alive side (now m) i (L.used side (cell (now m))) × (i ≤ L.used side (cell (now m))) × (L.size side (cell (now m)) < L.used side (cell (now m))) ⌝ }
     ensures { λ r. ⌜ (r < i) × (L.row side (cell (now (m .entry))) r .orders ≡ 0) ⌝ }
 {
     let mut d = i;
@@ -216,6 +200,32 @@ fn last_dead(m: &[u8], side: Side, i: usize) -> usize
     0
 }
 
+// The nearest dead row to i, or the number of rows in use where one more fits.
+fn nearest(m: &[u8], side: Side, i: usize) -> usize
+    requires { ⌜ L.Table side (now m) × (i ≤ L.used side (cell (now m))) × (L.size side (cell (now m)) < most-levels) ⌝ }
+    ensures { λ r. ⌜ L.Free side (now (m .entry)) i r ⌝ }
+{
+    let n = used(m, side);
+    let mut lo = i;
+    let mut hi = i;
+    while hi < n {
+        if read_row(m, side, hi).orders == 0 {
+            return hi;
+        }
+        hi += 1;
+        if 0 < lo {
+            lo -= 1;
+            if read_row(m, side, lo).orders == 0 {
+                return lo;
+            }
+        }
+    }
+    if n < limits::MOST_LEVELS {
+        return n;
+    }
+    last_dead(m, side, lo)
+}
+
 fn grown(n: usize, d: usize) -> usize
     requires { ⌜ d < most-levels ⌝ }
     ensures { λ r. ⌜ r ≡ L.grown n d ⌝ }
@@ -225,7 +235,7 @@ fn grown(n: usize, d: usize) -> usize
 
 // A level with one order, whose place is i: the rows from there on move up, over the dead row d or behind the last one.
 fn put_up(m: &mut [u8], side: Side, i: usize, d: usize, key: u64, visible: u64)
-    requires { ⌜ L.Place side (now m) key i × L.Next side (now m) i d × (d < most-levels) ⌝ }
+    requires { ⌜ L.Place side (now m) key i × L.Free side (now m) i d × (i ≤ d) ⌝ }
     ensures { λ r. ⌜ L.Did side (now (m .entry)) (now (m .exit)) (insert L.key (L.opened key visible) (L.entries side (cell (now (m .entry))))) ⌝ }
 {
     let n = used(m, side);
@@ -246,7 +256,7 @@ fn put_up(m: &mut [u8], side: Side, i: usize, d: usize, key: u64, visible: u64)
 
 // The same where the rows before it move down, over the dead row d.
 fn put_down(m: &mut [u8], side: Side, i: usize, d: usize, key: u64, visible: u64)
-    requires { ⌜ L.Place side (now m) key i × L.Next side (now m) i (L.used side (cell (now m))) × (d < i) × (L.row side (cell (now m)) d .orders ≡ 0) ⌝ }
+    requires { ⌜ L.Place side (now m) key i × L.Free side (now m) i d × (d < i) ⌝ }
     ensures { λ r. ⌜ L.Did side (now (m .entry)) (now (m .exit)) (insert L.key (L.opened key visible) (L.entries side (cell (now (m .entry))))) ⌝ }
 {
     let n = used(m, side);
@@ -269,13 +279,12 @@ fn put_in(m: &mut [u8], side: Side, i: usize, key: u64, visible: u64)
     requires { ⌜ L.Place side (now m) key i ⌝ }
     ensures { λ r. ⌜ L.Did side (now (m .entry)) (now (m .exit)) (insert L.key (L.opened key visible) (L.entries side (cell (now (m .entry))))) ⌝ }
 {
-    let d = next_dead(m, side, i);
-    if d < limits::MOST_LEVELS {
-        put_up(m, side, i, d, key, visible);
+    let d = nearest(m, side, i);
+    if d < i {
+        put_down(m, side, i, d, key, visible);
         return;
     }
-    let e = last_dead(m, side, i);
-    put_down(m, side, i, e, key, visible);
+    put_up(m, side, i, d, key, visible);
 }
 
 // An order that shows `visible` comes. Its level's place is tried at `hint` first.

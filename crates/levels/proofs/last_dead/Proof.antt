@@ -29,7 +29,7 @@ loop-again c = search laws
 returns-2 : tie.Need-returns-2 Inv-loop μ-loop
 returns-2 c =
     let s = c .before .before .before in
-    none-dead _ _ _ (c .before .loop .d) (s .pre .0) (s .pre .1) (s .pre .2) (c .before .loop .inv) (c .loop-test .left)
+    none-dead _ _ _ (c .before .loop .d) (s .pre .0) (s .pre .1) (s .pre .3) (c .before .loop .inv) (c .loop-test .left)
 
 pub last-dead-spec : {M : Type 1} → statement M
 last-dead-spec =

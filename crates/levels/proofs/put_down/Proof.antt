@@ -38,7 +38,7 @@ returns c =
     let k = o .before .before .before in
     let n = k .before .before in
     let s = n .before .before .before in
-    put-down-is _ _ _ _ _ _ _ _ _ (s .pre .0) (s .pre .1) (s .pre .2) (s .pre .3) (search needs) (search needs) (n .used .ensures) (k .size .ensures) (o .before .base-of .ensures .0)
+    put-down-is _ _ _ _ _ _ _ _ _ (s .pre .0) (s .pre .1) (s .pre .2) (search needs) (search needs) (n .used .ensures) (k .size .ensures) (o .before .base-of .ensures .0)
     (o .close-at .ensures) (w .write-row .ensures) (r .recount .ensures)
 
 pub put-down-spec : {M : Type 1} → statement M
