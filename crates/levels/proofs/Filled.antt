@@ -9,7 +9,7 @@ use lib.Seq.{drop-drop, drop-set-lt, getD-take, take-suc-set}
 use Rattle.orderbook.specs.declared.Side.{Side}
 use Rattle.orderbook.specs.declared.Side.the-variants.{Buy, Sell}
 use Rattle.table.specs.Live.{pick, live}
-use Rattle.table.proofs.Live.{live-ext, live-more, live-dead, live-few}
+use Rattle.table.proofs.Live.{live-ext, live-more, live-dead, live-add, live-few}
 use Rattle.table.proofs.Packed.{live-front}
 use Rattle.gateway.specs.Limits.{most-levels}
 use Rattle.gateway.specs.Depth as Depth
@@ -18,7 +18,7 @@ use Rattle.levels.specs.declared.Row.{Row}
 use Rattle.levels.specs.declared.listed.Level.{Level}
 use Rattle.levels.proofs.Best.{best-length}
 use Rattle.levels.specs.Levels.{orders, row, used, size, entries, level, best}
-use Rattle.levels.specs.Listed.{side-of, nth, level-of, nothing, seen, Lists}
+use Rattle.levels.specs.Listed.{side-of, nth, firsts, level-of, nothing, seen, Lists}
 
 -- ---- the levels by their places
 
@@ -52,13 +52,57 @@ best-live Buy f (suc n) =
     at : (i j : ℕ) → i ≡ j → f i ≡ f j
     at i j e = ap f e
 
--- ---- i of n rows are looked at, from the best on: their k levels stand in l
+-- ---- the levels of the first rows
+
+module _ (z : Side) (s : Store) where
+  abbrev from-best : ℕ → Row
+  from-best j = row z s (nth z (used z s) j)
+
+  pub firsts-none : firsts z s 0 ≡ []
+  unfolding firsts live
+  firsts-none = refl
+
+  pub firsts-all : firsts z s (used z s) ≡ best z (entries z s)
+  unfolding firsts entries
+  firsts-all = sym (best-live z (row z s) (used z s))
+
+  firsts-length : (i : ℕ) → length (firsts z s i) ≡ length (live orders from-best i)
+  unfolding firsts
+  firsts-length i = length-map (live orders from-best i) level
+
+  pub firsts-few : (i : ℕ) → length (firsts z s i) ≤ i
+  firsts-few i = omega (arith, firsts-length i, live-few orders from-best i)
+
+  module _ (i n p : ℕ) (r : Row) (n-is : n ≡ used z s) (h : i < n) (p-is : p ≡ nth z n i) (r-is : r ≡ row z s p) where
+    row-is : from-best i ≡ r
+    row-is = sym (r-is ∙ ap (row z s) p-is ∙ ap (λ k. row z s (nth z k i)) n-is)
+
+    pub firsts-skip : r .orders ≡ 0 → firsts z s (i + 1) ≡ firsts z s i
+    unfolding firsts
+    firsts-skip d = ap (map level) (live-dead orders from-best i (ap orders row-is ∙ d))
+
+    module _ (d : r .orders ≡ 0 → ⊥) where
+      pub firsts-more : firsts z s (i + 1) ≡ firsts z s i ++ (level r ∷ [])
+      unfolding firsts
+      firsts-more =
+          ap (map level) (live-more orders from-best i (omega (arith, d, ap orders row-is)))
+          ∙ map-append level (live orders from-best i) (from-best i ∷ []) ∙ ap (λ x. firsts z s i ++ (level x ∷ [])) row-is
+
+      -- it is one of all of them
+      pub firsts-room : length (firsts z s i) < length (best z (entries z s))
+      firsts-room =
+          let e = ap length (ap (live orders from-best) {x = used z s} {y = i + 1 + (used z s - (i + 1))} (omega arith) ∙ live-add orders from-best (i + 1) (used z s - (i + 1))) in
+          let a = length-append (live orders from-best (i + 1)) (live orders (λ j. from-best (i + 1 + j)) (used z s - (i + 1))) in
+          let m = length-append (firsts z s i) (level r ∷ []) in
+          omega (arith, e, a, m, ap length firsts-more, firsts-length (i + 1), firsts-length (used z s), ap length firsts-all)
+
+-- ---- they stand in l, and zeros behind them
 
 pub record Filled (z : Side) (s : Store) (n i k : ℕ) (l : List Level) : Type 0 where
   pub within : i ≤ n
-  pub count : k ≡ length (live orders (λ j. row z s (nth z n j)) i)
+  pub count : k ≡ length (firsts z s i)
   pub long : length l ≡ most-levels
-  pub front : map seen (take k l) ≡ map level (live orders (λ j. row z s (nth z n j)) i)
+  pub front : map seen (take k l) ≡ firsts z s i
   pub behind : drop k l ≡ replicate (most-levels - k) nothing
 
 fewer : (l : List Level) (i : ℕ) → i < most-levels → drop i l ≡ replicate (most-levels - i) nothing → drop (i + 1) l ≡ replicate (most-levels - (i + 1)) nothing
@@ -68,48 +112,39 @@ fewer l i h e =
 
 module _ (z : Side) (s : Store) (n : ℕ) where
   pub none-filled : Filled z s n 0 0 (replicate most-levels nothing)
-  unfolding live
-  none-filled = record { within = omega arith; count = refl; long = refl; front = refl; behind = refl }
+  none-filled =
+      record { within = omega arith; count = sym (ap length (firsts-none z s)); long = refl; front = sym (firsts-none z s); behind = refl }
 
   pub filled-few : (i k : ℕ) (l : List Level) → Filled z s n i k l → k ≤ i
-  filled-few i k l f = omega (arith, f .count, live-few orders (λ j. row z s (nth z n j)) i)
+  filled-few i k l f = omega (arith, f .count, firsts-few z s i)
 
-  module _ (i k p : ℕ) (l : List Level) (r : Row) (f : Filled z s n i k l) (h : i < n) (p-is : p ≡ nth z n i) (r-is : r ≡ row z s p) where
-    row-is : row z s (nth z n i) ≡ r
-    row-is = sym (r-is ∙ ap (row z s) p-is)
-
+  module _ (i k p : ℕ) (l : List Level) (r : Row) (f : Filled z s n i k l) (n-is : n ≡ used z s) (h : i < n) (p-is : p ≡ nth z n i) (r-is : r ≡ row z s p) where
     pub one-skipped : r .orders ≡ 0 → Filled z s n (i + 1) k l
     one-skipped d =
-        let e = live-dead orders (λ j. row z s (nth z n j)) i (ap orders row-is ∙ d) in
-        record { within = omega arith; count = f .count ∙ ap length (sym e); long = f .long; front = f .front ∙ ap (map level) (sym e); behind = f .behind }
+        let e = firsts-skip z s i n p r n-is h p-is r-is d in
+        record { within = omega arith; count = f .count ∙ ap length (sym e); long = f .long; front = f .front ∙ sym e; behind = f .behind }
 
     pub one-filled : (v : Level) → (r .orders ≡ 0 → ⊥) → n ≤ most-levels → v ≡ level-of r → Filled z s n (i + 1) (k + 1) (set l k v)
     one-filled v d w e =
-        let m = live-more orders (λ j. row z s (nth z n j)) i (omega (arith, d, ap orders row-is)) in
+        let m = firsts-more z s i n p r n-is h p-is r-is d in
         let few = filled-few i k l f in
         record {
           within = omega arith;
-          count = omega (arith, f .count, ap length m, length-append (live orders (λ j. row z s (nth z n j)) i) (row z s (nth z n i) ∷ []));
+          count = omega (arith, f .count, ap length m, length-append (firsts z s i) (level r ∷ []));
           long = length-set l k v ∙ f .long;
           front =
               ap (map seen) (ap (λ y. take y (set l k v)) (add-one k) ∙ take-suc-set l k v (omega (arith, f .long, few)))
               ∙ map-append seen (take k l) (v ∷ [])
-              ∙ ap₂ (λ (a : List Depth.Level) (x : Level). a ++ (seen x ∷ [])) (f .front) (e ∙ ap level-of (sym row-is))
-              ∙ sym (ap (map level) m ∙ map-append level (live orders (λ j. row z s (nth z n j)) i) (row z s (nth z n i) ∷ []));
+              ∙ ap₂ (λ (a : List Depth.Level) (x : Level). a ++ (seen x ∷ [])) (f .front) e ∙ sym m;
           behind = drop-set-lt (k + 1) l k v (omega arith) ∙ fewer l k (omega (arith, few)) (f .behind);
         }
 
   pub all-filled : (i k : ℕ) (l : List Level) → Filled z s n i k l → n ≤ i → n ≡ used z s → size z s ≡ length (entries z s) → Lists z s l
-  unfolding entries
   all-filled i k l f h e c =
       let m : i ≡ used z s = omega (arith, f .within) in
-      let q : n ≡ i = omega (arith, f .within) in
-      let b : best z (live orders (row z s) i) ≡ map level (live orders (λ j. row z s (nth z n j)) i) = rw q (best-live z (row z s) i) in
-      let k-is : k ≡ size z s = omega (arith, f .count, c, ap length (ap (live orders (row z s)) m), best-length z (live orders (row z s) i), ap length b, length-map (live orders (λ j. row z s (nth z n j)) i) level) in
-      record {
-        levels = ap (λ y. map seen (take y l)) (sym k-is) ∙ f .front ∙ sym b ∙ ap (λ y. best z (live orders (row z s) y)) m;
-        rest = rw (← k-is) (f .behind);
-      }
+      let b : firsts z s i ≡ best z (entries z s) = ap (firsts z s) m ∙ firsts-all z s in
+      let k-is : k ≡ size z s = omega (arith, f .count, c, ap length b, best-length z (entries z s)) in
+      record { levels = ap (λ y. map seen (take y l)) (sym k-is) ∙ f .front ∙ b; rest = rw (← k-is) (f .behind) }
 
 -- the element i is the level i
 pub level-is : (z : Side) (s : Store) (l : List Level) → Lists z s l → (i : ℕ) → i < size z s → seen (getD l i nothing) ≡ getD (best z (entries z s)) i (seen nothing)

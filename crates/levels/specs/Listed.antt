@@ -11,7 +11,8 @@ use Rattle.gateway.specs.Depth as Depth
 use Rattle.store.specs.View.{Store}
 use Rattle.levels.specs.declared.Row.{Row}
 use Rattle.levels.specs.declared.listed.Level.{Level}
-use Rattle.levels.specs.Levels.{price, size, entries, best}
+use Rattle.table.specs.Live.{live}
+use Rattle.levels.specs.Levels.{price, level, orders, row, used, size, entries, best}
 
 -- the bids' row comes first
 abbrev pub index : Side → ℕ
@@ -21,10 +22,14 @@ index Sell = 1
 abbrev pub side-of : List (List Level) → Side → List Level
 side-of rows z = getD rows (index z) []
 
--- the row of the block with the level i of n, counted from the best
+-- the row i of n, counted from the best price
 abbrev pub nth : Side → ℕ → ℕ → ℕ
 nth Buy n i = n - 1 - i
 nth Sell n i = i
+
+-- the levels of the first i rows, counted from the best price
+unfoldable pub firsts : Side → Store → ℕ → List Depth.Level
+firsts z s i = map level (live orders (λ j. row z s (nth z (used z s) j)) i)
 
 abbrev pub level-of : Row → Level
 level-of r = record { price = price (r .key); qty = r .qty; orders = r .orders }

@@ -51,7 +51,7 @@ fn size_cell(side: Side) -> usize
 }
 
 // How many rows are in use.
-fn used(m: &[u8], side: Side) -> usize
+pub fn used(m: &[u8], side: Side) -> usize
     requires { ⌜ Holds (now m) ⌝ }
     ensures { λ r. ⌜ r ≡ L.used side (cell (now (m .entry))) ⌝ }
 {

@@ -27,7 +27,7 @@ fn index_of(side: Side) -> usize
 }
 
 // The row i of n, counted from the best price.
-fn nth(side: Side, n: usize, i: usize) -> usize
+pub fn nth(side: Side, n: usize, i: usize) -> usize
     requires { ⌜ i < n ⌝ }
     ensures { λ r. ⌜ (r ≡ D.nth side n i) × (r < n) ⌝ }
 {
@@ -48,7 +48,7 @@ fn level_of(r: Row) -> Level
 }
 
 // The levels of a side, then zeros.
-pub fn best_first(m: &[u8], side: Side) -> [Level; 512]
+fn best_first(m: &[u8], side: Side) -> [Level; 512]
     requires { ⌜ L.Table side (now m) ⌝ }
     ensures { λ r. ⌜ D.Lists side (cell (now (m .entry))) r ⌝ }
 {

@@ -63,7 +63,7 @@ loop-again c =
     let l = d .before .before in
     let s = l .before .before .before in
     one-filled (s .args .side) (cell (s .args .m .now)) (l .before .used .result) (l .loop .i) (l .loop .k) (d .nth .result) (l .loop .row) (r .read-row .result)
-    (l .loop .inv) (d .before .loop-test .taken) (d .nth .ensures .0) (r .read-row .ensures) (c .level-of .result) (c .before .if1 .taken) (omega (arith, s .pre .few, l .before .used .ensures)) (c .level-of .ensures)
+    (l .loop .inv) (l .before .used .ensures) (d .before .loop-test .taken) (d .nth .ensures .0) (r .read-row .ensures) (c .level-of .result) (c .before .if1 .taken) (omega (arith, s .pre .few, l .before .used .ensures)) (c .level-of .ensures)
 
 loop-less-2 : tie.Need-loop-less-2 Inv-loop μ-loop
 loop-less-2 c = omega arith
@@ -75,7 +75,7 @@ loop-again-2 c =
     let l = d .before .before in
     let s = l .before .before .before in
     one-skipped (s .args .side) (cell (s .args .m .now)) (l .before .used .result) (l .loop .i) (l .loop .k) (d .nth .result) (l .loop .row) (r .read-row .result)
-    (l .loop .inv) (d .before .loop-test .taken) (d .nth .ensures .0) (r .read-row .ensures) (c .if1 .left)
+    (l .loop .inv) (l .before .used .ensures) (d .before .loop-test .taken) (d .nth .ensures .0) (r .read-row .ensures) (c .if1 .left)
 
 returns : tie.Need-returns Inv-loop μ-loop
 returns c =
