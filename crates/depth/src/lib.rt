@@ -1,5 +1,5 @@
 // The price levels of a side, best price first, in a lent list: `depth_levels` of exchange.rs.
-use levels::listed::Level;
+use levels::Row;
 use orderbook::Side;
 use outcome::Reply;
 ghost use mathlib.Core.Path.{_≡_};
@@ -10,7 +10,6 @@ ghost use Rattle.gateway.specs.Calls.{call, depth-levels};
 ghost use Rattle.store.specs.Layout.{cell};
 ghost use Rattle.store.specs.View.{gateway};
 ghost use Rattle.levels.specs.Levels as L;
-ghost use Rattle.levels.specs.Listed.{seen};
 ghost use Rattle.rows.specs.Rows.{put-row, put-rows};
 ghost use Rattle.sound.specs.Sound.{State};
 ghost use Rattle.outcome.specs.Between.{Between};
@@ -22,25 +21,29 @@ ghost use Rattle.depth.specs.Levels as P;
 pub const ROW: usize = 24;
 
 // A level in place j.
-fn put_level(l: Level, j: usize, out: &mut [u8])
+fn put_level(r: Row, j: usize, out: &mut [u8])
     requires { ⌜ 24 * j + 24 ≤ length (now out) ⌝ }
-    ensures { λ r. ⌜ now (out .exit) ≡ put-row (now (out .entry)) (24 * j) (level-row (seen l)) ⌝ }
+    ensures { λ x. ⌜ now (out .exit) ≡ put-row (now (out .entry)) (24 * j) (level-row (L.level r)) ⌝ }
 {
-    let price = words::of_i64(l.price);
-    rows::put(out, ROW * j, &[price, l.qty, l.orders]);
+    let price = words::lowered(r.key);
+    rows::put(out, ROW * j, &[price, r.qty, r.orders]);
 }
 
-// All of them, which are n.
-fn put_levels(m: &[u8], side: Side, n: usize, out: &mut [u8])
-    requires { ⌜ State (now m) × (n ≡ L.size side (cell (now m))) × (n ≤ length (now out) / 24) ⌝ }
+// All of them: the rows from the best price on, but for the dead ones.
+fn put_levels(m: &[u8], side: Side, out: &mut [u8])
+    requires { ⌜ State (now m) × (L.size side (cell (now m)) ≤ length (now out) / 24) ⌝ }
     ensures { λ r. ⌜ now (out .exit) ≡ put-rows 24 0 (map level-row (P.side-levels side (rest-of (now (m .entry))))) (now (out .entry)) ⌝ }
 {
-    let row = levels::listed::best_first(m, side);
+    let n = levels::used(m, side);
+    let mut i: usize = 0;
     let mut j: usize = 0;
-    while j < n {
-        let l = row[j];
-        put_level(l, j, out);
-        j += 1;
+    while i < n {
+        let r = levels::read_row(m, side, levels::listed::nth(side, n, i));
+        i += 1;
+        if r.orders != 0 {
+            put_level(r, j, out);
+            j += 1;
+        }
     }
 }
 
@@ -56,6 +59,6 @@ pub fn levels(m: &[u8], side: Side, out: &mut [u8]) -> Reply
             count: 0,
         };
     }
-    put_levels(m, side, n, out);
+    put_levels(m, side, out);
     Reply { code: 0, count: n }
 }

@@ -2,17 +2,19 @@
 use mathlib.Core.Path.{_≡_, sym, ap, _∙_}
 use mathlib.Core.List.{List, map}
 use Prim.Native.Nat.{ℕ, _≤_, _<_}
-use lib.ListN.{length, take, getD}
+use native.Mathlib.Omega.{arith}
+use lib.ListN.{length, take}
 use Rattle.orderbook.specs.declared.Side.{Side}
 use Rattle.gateway.specs.Depth as Depth
 use Rattle.gateway.specs.Limits.{most-levels}
 use Rattle.store.specs.Layout.{cell}
 use Rattle.store.specs.View.{Store, depth}
+use Rattle.levels.specs.declared.Row.{Row}
 use Rattle.levels.specs.declared.listed.Level.{Level}
-use Rattle.levels.specs.Levels.{used, size, entries, Table}
-use Rattle.levels.specs.Listed.{nothing, seen, Lists}
+use Rattle.levels.specs.Levels.{row, used, size, entries, Table}
+use Rattle.levels.specs.Listed.{nth, firsts, seen, Lists}
 use Rattle.levels.proofs.Best.{best-length}
-use Rattle.levels.proofs.Filled.{level-is}
+use Rattle.levels.proofs.Filled.{firsts-all, firsts-room}
 use Rattle.sound.specs.Sound.{Levels, Sound, State}
 use Rattle.sound.proofs.Kept.{sided}
 
@@ -37,6 +39,10 @@ module _ {s : Store} (d : Sound s) (z : Side) where
   pub size-levels : size z s ≡ length (Depth.levels z (depth s .resting))
   size-levels = levels-are .counted ∙ sym (best-length z (entries z s)) ∙ ap length (levels-are .are)
 
-  -- the element j is the level j
-  pub listed-level : (l : List Level) → Lists z s l → (j : ℕ) → j < size z s → seen (getD l j nothing) ≡ getD (Depth.levels z (depth s .resting)) j (seen nothing)
-  listed-level l p j h = level-is z s l p j h ∙ ap (λ ls. getD ls j (seen nothing)) (levels-are .are)
+  -- the levels of all rows are those of the definitions
+  pub firsts-are : (n : ℕ) → n ≡ used z s → firsts z s n ≡ Depth.levels z (depth s .resting)
+  firsts-are n e = ap (firsts z s) e ∙ firsts-all z s ∙ levels-are .are
+
+  -- and one that is not dead is among them
+  pub firsts-below : (i n p : ℕ) (r : Row) → n ≡ used z s → i < n → p ≡ nth z n i → r ≡ row z s p → (r .orders ≡ 0 → ⊥) → length (firsts z s i) < length (Depth.levels z (depth s .resting))
+  firsts-below i n p r e h q w d = omega (arith, firsts-room z s i n p r e h q w d, ap length (levels-are .are))

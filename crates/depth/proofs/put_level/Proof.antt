@@ -1,12 +1,10 @@
-use mathlib.Core.Path.{_∙_}
-use Rattle.words.proofs.Int.{read}
-use Rattle.depth.proofs.Laws.{level-put}
+use Rattle.depth.proofs.Laws.{laws}
 use borrow.Author.Needs.{needs}
 use Rattle.depth.proofs.put_level.Statement.{statement}
 use Rattle.depth.proofs.put_level.Tie as tie
 
-of-i64-requires : tie.Need-of-i64-requires
-of-i64-requires c κs = search needs
+lowered-requires : tie.Need-lowered-requires
+lowered-requires c κs = search needs
 
 mul-put : tie.Need-mul-put
 mul-put c = search needs
@@ -21,13 +19,9 @@ same-length : tie.Need-same-length
 same-length c = search needs
 
 returns : tie.Need-returns
-returns c =
-    let p = c .before .before in
-    let i = p .before .before .before in
-    let s = i .before .before .before in
-    level-put _ _ (s .args .j) (i .of-i64 .result) (s .args .l) (i .of-i64 .ok) (i .of-i64 .ensures ∙ read {x = s .args .l .price} (i .before .struct-told .given .0 .1)) (p .put .ensures)
+returns c = search laws
 
 pub put-level-spec : {M : Type 1} → statement M
 put-level-spec =
     tie.close
-    (tie.spec of-i64-requires mul-put slice-aggregate-put put-requires same-length returns)
+    (tie.spec lowered-requires mul-put slice-aggregate-put put-requires same-length returns)

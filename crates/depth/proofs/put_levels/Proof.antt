@@ -1,76 +1,86 @@
-use Prim.Native.Nat.{_*_, _-_, _≤_}
-use mathlib.Core.List.{map}
-use mathlib.Core.Path.{_≡_, refl, sym, ap, _∙_}
+use Prim.Native.Nat.{_-_, _≤_}
 use native.Mathlib.Omega.{arith}
-use lib.ListN.{length, take}
-use Rattle.levels.specs.Listed.{seen}
-use Rattle.rows.specs.Rows.{put-row, put-rows}
-use Rattle.outcome.specs.Answers.{level-row}
-use Rattle.sound.proofs.Listed.{side-table}
-use Rattle.depth.proofs.Laws.{Put, put-first, put-more, put-last, side-few, listed-all, listed-long, listed-at}
+use Rattle.store.specs.Layout.{cell}
+use Rattle.levels.proofs.Filled.{firsts-few}
+use Rattle.depth.proofs.Laws.{Shown, shown-none, shown-skip, shown-room, shown-more, shown-all, row-small}
 use borrow.Author.Needs.{needs}
 use Rattle.depth.proofs.put_levels.Statement.{statement}
 use Rattle.depth.proofs.put_levels.Tie as tie
 
 abbrev Inv-loop : tie.InvT-loop
-Inv-loop m n out₀ row j₀ out j = Put (map seen (take n row)) out₀ out j × (j ≤ n) × (length out ≡ length out₀)
+Inv-loop m side out₀ n i₀ j₀ out i j = Shown side m out₀ i j out × (i ≤ n)
 
 abbrev μ-loop : tie.MeasureT-loop
-μ-loop m n out₀ row j₀ out j = n - j
+μ-loop m side out₀ n i₀ j₀ out i j = n - i
 
-best-first-requires : tie.Need-best-first-requires Inv-loop μ-loop
-best-first-requires c κs = side-table (c .before .before .pre .0) (c .before .before .args .side)
+used-requires : tie.Need-used-requires Inv-loop μ-loop
+used-requires c κs = search needs
 
 loop-holds : tie.Need-loop-holds Inv-loop μ-loop
 loop-holds c =
     let s = c .before .before .before in
-    (put-first (map seen (take (s .args .n) (c .best-first .result))) (s .args .out .now), omega arith, refl)
+    (shown-none (s .args .side) (s .args .m .now) (s .args .out .now), omega arith)
 
-mul-l : tie.Need-mul-l Inv-loop μ-loop
-mul-l c =
-    let s = c .before .before .before .before .before in
-    omega (arith, c .loop-test .taken, s .pre .1, side-few (s .pre .0) (s .args .side))
+nth-requires : tie.Need-nth-requires Inv-loop μ-loop
+nth-requires c κs = search needs
 
-array-copy-out-l : tie.Need-array-copy-out-l Inv-loop μ-loop
-array-copy-out-l c =
-    let s = c .before .before .before .before .before in
-    omega (arith, c .loop-test .taken, s .pre .1, side-few (s .pre .0) (s .args .side))
+read-row-requires : tie.Need-read-row-requires Inv-loop μ-loop
+read-row-requires c κs =
+    let s = c .before .before .before .before .before .before in
+    (s .pre .0 .holds, row-small (s .pre .0) (s .args .side) _ _ (c .before .before .before .used .ensures) (c .nth .ensures .1))
+
+add-i : tie.Need-add-i Inv-loop μ-loop
+add-i c = omega (arith, c .before .before .loop-test .taken)
 
 put-level-requires : tie.Need-put-level-requires Inv-loop μ-loop
-put-level-requires c κs = search needs
+put-level-requires c κs =
+    let r = c .before .before .before in
+    let d = r .before in
+    let l = d .before .before in
+    let s = l .before .before .before .before in
+    shown-room (s .args .side) (s .args .m .now) (s .args .out .now) (l .loop .i) (l .loop .j) _ _ (r .read-row .result) (l .loop .inv .0) (l .before .used .ensures) (d .before .loop-test .taken)
+    (d .nth .ensures .0) (r .read-row .ensures) (c .before .if1 .taken) (s .pre .0) (s .pre .1)
 
 add-j : tie.Need-add-j Inv-loop μ-loop
-add-j c = search needs
+add-j c =
+    let d = c .before .before .before .before .before .before .before in
+    let l = d .before .before in
+    let s = l .before .before .before .before in
+    omega (arith, l .loop .inv .0 .count, firsts-few (s .args .side) (cell (s .args .m .now)) (l .loop .i), d .before .loop-test .taken)
 
 loop-less : tie.Need-loop-less Inv-loop μ-loop
-loop-less c = search needs
+loop-less c = omega (arith, c .before .before .before .before .before .before .before .before .loop-test .taken)
 
 loop-again : tie.Need-loop-again Inv-loop μ-loop
 loop-again c =
     let p = c .before .before in
-    let l = p .before .before .before .before in
-    let b = l .before in
-    let s = b .before .before .before in
-    let row = b .best-first .result in
-    let n = s .args .n in
-    let h = p .before .before .before .loop-test .taken in
-    let long = listed-long (s .pre .0) (s .args .side) row (b .best-first .ensures) n (s .pre .1) in
-    (put-more (map seen (take n row)) (s .args .out .now) _ _ (l .loop .j) (omega (arith, long)) (l .loop .inv .0)
-    (p .put-level .ensures ∙ ap (λ v. put-row (l .loop .out) (24 * l .loop .j) (level-row v)) (sym (listed-at row n (l .loop .j) h))), omega arith, search needs)
+    let r = p .before .before .before .before in
+    let d = r .before in
+    let l = d .before .before in
+    let s = l .before .before .before .before in
+    (shown-more (s .args .side) (s .args .m .now) (s .args .out .now) (l .loop .i) (l .loop .j) _ _ (r .read-row .result) (l .loop .inv .0) (l .before .used .ensures) (d .before .loop-test .taken)
+    (d .nth .ensures .0) (r .read-row .ensures) (p .before .before .if1 .taken) (p .put-level .ensures) (search needs), omega (arith, d .before .loop-test .taken))
+
+loop-less-2 : tie.Need-loop-less-2 Inv-loop μ-loop
+loop-less-2 c = omega (arith, c .before .before .before .before .loop-test .taken)
+
+loop-again-2 : tie.Need-loop-again-2 Inv-loop μ-loop
+loop-again-2 c =
+    let r = c .before .before in
+    let d = r .before in
+    let l = d .before .before in
+    let s = l .before .before .before .before in
+    (shown-skip (s .args .side) (s .args .m .now) (s .args .out .now) (l .loop .i) (l .loop .j) _ _ (r .read-row .result) (l .loop .inv .0) (l .before .used .ensures) (d .before .loop-test .taken)
+    (d .nth .ensures .0) (r .read-row .ensures) (c .if1 .left), omega (arith, d .before .loop-test .taken))
 
 same-length : tie.Need-same-length Inv-loop μ-loop
-same-length c = search needs
+same-length c = c .before .loop .inv .0 .long
 
 returns : tie.Need-returns Inv-loop μ-loop
 returns c =
     let l = c .before in
-    let b = l .before in
-    let s = b .before .before .before in
-    let row = b .best-first .result in
-    let n = s .args .n in
-    let long = listed-long (s .pre .0) (s .args .side) row (b .best-first .ensures) n (s .pre .1) in
-    put-last (map seen (take n row)) (s .args .out .now) _ (l .loop .j) (omega (arith, long, c .loop-test .left)) (l .loop .inv .0)
-    ∙ ap (λ ls. put-rows 24 0 (map level-row ls) (s .args .out .now)) (listed-all (s .pre .0) (s .args .side) row (b .best-first .ensures) n (s .pre .1))
+    let s = l .before .before .before .before in
+    shown-all (s .args .side) (s .args .m .now) (s .args .out .now) (s .pre .0) (l .loop .i) (l .loop .j) _ (l .loop .inv .0) (l .before .used .ensures) (l .loop .inv .1) (c .loop-test .left)
 
 pub put-levels-spec : {M : Type 1} → statement M
 put-levels-spec =
@@ -78,13 +88,16 @@ put-levels-spec =
     (tie.spec
     Inv-loop
     μ-loop
-    best-first-requires
+    used-requires
     loop-holds
-    mul-l
-    array-copy-out-l
+    nth-requires
+    read-row-requires
+    add-i
     put-level-requires
     add-j
     loop-less
     loop-again
+    loop-less-2
+    loop-again-2
     same-length
     returns)
