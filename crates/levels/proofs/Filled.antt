@@ -1,6 +1,6 @@
 -- The levels of a side by value: the places filled so far, and all of them. Assumes nothing.
 use mathlib.Core.Path.{_≡_, refl, sym, ap, ap₂, _∙_}
-use mathlib.Core.List.{List, [], _∷_, _++_, map, map-append, append-nil}
+use mathlib.Core.List.{List, [], _∷_, _++_, map, map-append, append-nil, append-assoc}
 use Prim.Native.Nat.{ℕ, zero, suc, _+_, _-_, _≤_, _<_}
 use native.Mathlib.Numerals.{add-one}
 use native.Mathlib.Omega.{arith}
@@ -88,13 +88,28 @@ module _ (z : Side) (s : Store) where
           ap (map level) (live-more orders from-best i (omega (arith, d, ap orders row-is)))
           ∙ map-append level (live orders from-best i) (from-best i ∷ []) ∙ ap (λ x. firsts z s i ++ (level x ∷ [])) row-is
 
-      -- it is one of all of them
+      -- it is one of all of them, in its place
+      abbrev lasts : List Depth.Level
+      lasts = map level (live orders (λ j. from-best (i + 1 + j)) (used z s - (i + 1)))
+
+      between : best z (entries z s) ≡ firsts z s i ++ (level r ∷ lasts)
+      unfolding firsts
+      between =
+          let e : used z s ≡ i + 1 + (used z s - (i + 1)) = omega arith in
+          sym firsts-all
+          ∙ ap (map level) (ap (live orders from-best) e ∙ live-add orders from-best (i + 1) (used z s - (i + 1)))
+          ∙ map-append level (live orders from-best (i + 1)) (live orders (λ j. from-best (i + 1 + j)) (used z s - (i + 1)))
+          ∙ ap (λ ls. ls ++ lasts) firsts-more ∙ append-assoc (firsts z s i) (level r ∷ []) lasts
+
       pub firsts-room : length (firsts z s i) < length (best z (entries z s))
-      firsts-room =
-          let e = ap length (ap (live orders from-best) {x = used z s} {y = i + 1 + (used z s - (i + 1))} (omega arith) ∙ live-add orders from-best (i + 1) (used z s - (i + 1))) in
-          let a = length-append (live orders from-best (i + 1)) (live orders (λ j. from-best (i + 1 + j)) (used z s - (i + 1))) in
-          let m = length-append (firsts z s i) (level r ∷ []) in
-          omega (arith, e, a, m, ap length firsts-more, firsts-length (i + 1), firsts-length (used z s), ap length firsts-all)
+      firsts-room = omega (arith, ap length between, length-append (firsts z s i) (level r ∷ lasts))
+
+      pub firsts-nth : getD (best z (entries z s)) (length (firsts z s i)) (level r) ≡ level r
+      firsts-nth = ap (λ ls. getD ls (length (firsts z s i)) (level r)) between ∙ behind (firsts z s i) lasts
+        where
+          behind : (xs ys : List Depth.Level) → getD (xs ++ (level r ∷ ys)) (length xs) (level r) ≡ level r
+          behind [] ys = refl
+          behind (x ∷ xs) ys = behind xs ys
 
 -- ---- they stand in l, and zeros behind them
 

@@ -3,7 +3,7 @@ use mathlib.Core.Path.{_≡_, sym, ap, _∙_}
 use mathlib.Core.List.{List, map}
 use Prim.Native.Nat.{ℕ, _≤_, _<_}
 use native.Mathlib.Omega.{arith}
-use lib.ListN.{length, take}
+use lib.ListN.{length, take, getD}
 use Rattle.orderbook.specs.declared.Side.{Side}
 use Rattle.gateway.specs.Depth as Depth
 use Rattle.gateway.specs.Limits.{most-levels}
@@ -11,10 +11,10 @@ use Rattle.store.specs.Layout.{cell}
 use Rattle.store.specs.View.{Store, depth}
 use Rattle.levels.specs.declared.Row.{Row}
 use Rattle.levels.specs.declared.listed.Level.{Level}
-use Rattle.levels.specs.Levels.{row, used, size, entries, Table}
+use Rattle.levels.specs.Levels.{level, row, used, size, entries, Table}
 use Rattle.levels.specs.Listed.{nth, firsts, seen, Lists}
 use Rattle.levels.proofs.Best.{best-length}
-use Rattle.levels.proofs.Filled.{firsts-all, firsts-room}
+use Rattle.levels.proofs.Filled.{firsts-all, firsts-room, firsts-nth}
 use Rattle.sound.specs.Sound.{Levels, Sound, State}
 use Rattle.sound.proofs.Kept.{sided}
 
@@ -46,3 +46,7 @@ module _ {s : Store} (d : Sound s) (z : Side) where
   -- and one that is not dead is among them
   pub firsts-below : (i n p : ℕ) (r : Row) → n ≡ used z s → i < n → p ≡ nth z n i → r ≡ row z s p → (r .orders ≡ 0 → ⊥) → length (firsts z s i) < length (Depth.levels z (depth s .resting))
   firsts-below i n p r e h q w d = omega (arith, firsts-room z s i n p r e h q w d, ap length (levels-are .are))
+
+  pub firsts-at : (i n p : ℕ) (r : Row) → n ≡ used z s → i < n → p ≡ nth z n i → r ≡ row z s p → (r .orders ≡ 0 → ⊥) →
+      getD (Depth.levels z (depth s .resting)) (length (firsts z s i)) (level r) ≡ level r
+  firsts-at i n p r e h q w d = ap (λ ls. getD ls (length (firsts z s i)) (level r)) (sym (levels-are .are)) ∙ firsts-nth z s i n p r e h q w d

@@ -1,7 +1,8 @@
 -- The levels of each side go out, behind their number. Assumes nothing.
 use mathlib.Core.Path.{_≡_, refl, sym, ap, subst, _∙_}
-use mathlib.Core.List.{List, [], _∷_, _++_, map}
-use Prim.Native.Nat.{ℕ, _+_, _≤_, _<_}
+use mathlib.Core.List.{List, [], _∷_, _++_, map, map-append}
+use mathlib.Core.Option.{Option, none, some, Option·map}
+use Prim.Native.Nat.{ℕ, zero, suc, _+_, _≤_, _<_}
 use native.Mathlib.Omega.{arith}
 use lib.ListN.{length, length-append, length-map, getD}
 use lib.IntN.{ℤ}
@@ -9,74 +10,109 @@ use Rattle.orderbook.specs.declared.Side.{Side}
 use Rattle.orderbook.specs.declared.Side.the-variants.{Buy, Sell}
 use Rattle.protocol.specs.declared.Outbound.the-variants as Out
 use Rattle.protocol.specs.declared.LevelUpdate.{LevelUpdate}
+use Rattle.words.specs.Words.{int, half, _⊖_}
 use Rattle.gateway.specs.Limits.{session-slots, most-orders}
 use Rattle.gateway.specs.Depth as D
 use Rattle.gateway.specs.Rest as Rest
-use Rattle.gateway.specs.Rest.{Mail, Rest, send, update-session, stamped}
+use Rattle.gateway.specs.Rest.{Session, Mail, Rest, send, with-sessions, update-session, stamped}
 use Rattle.gateway.specs.Entry.{update-of, level-to, snapshot}
 use Rattle.gateway.specs.Calls.{Gateway}
 use Rattle.store.specs.Cells as C
 use Rattle.store.specs.Layout.{cell}
-use Rattle.store.specs.View.{word, depth, gateway, Is}
+use Rattle.store.specs.View.{word, gateway, Is}
 use Rattle.clients.specs.Clients as Clients
 use Rattle.clients.proofs.Views.{subscribed-view}
-use Rattle.levels.specs.declared.listed.Level.{Level}
+use Rattle.levels.specs.declared.Row.{Row}
 use Rattle.levels.specs.Levels as L
-use Rattle.levels.specs.Listed as Listed
-use Rattle.levels.specs.Listed.{seen, Lists}
+use Rattle.levels.specs.Listed.{nth, firsts}
+use Rattle.levels.proofs.Filled.{firsts-none, firsts-skip, firsts-more}
 use Rattle.sound.specs.Sound.{State, Becomes}
 use Rattle.sound.proofs.Kept.{becomes}
 use Rattle.sound.proofs.Clients.{session-sound}
-use Rattle.sound.proofs.Listed.{size-levels, listed-level}
-use Rattle.mailbox.specs.Mailbox.{places}
-use Rattle.outcome.specs.Parts.{with-rest, rest-of, Sends, steps, Stepped}
-use Rattle.outcome.proofs.Walk.{stamped-rest, sends-more}
-use Rattle.outcome.proofs.Steps.{steps-each, each-one}
-use Rattle.depth.specs.Levels.{side-levels, nothing, level-at}
+use Rattle.sound.proofs.Listed.{size-levels, firsts-are, firsts-below, firsts-at}
+use Rattle.mailbox.specs.Mailbox.{places, put-mail, mailed}
+use Rattle.mailbox.proofs.Rows.{mailed-none, mailed-one, mailed-append, length-mailed}
+use Rattle.outcome.specs.Parts.{with-rest, rest-of, Sends}
+use Rattle.outcome.proofs.Changed.{changed-at}
+use Rattle.outcome.proofs.Walk.{stamped-append}
+use Rattle.depth.specs.Levels.{side-levels}
 use Rattle.depth.proofs.Laws.{side-few}
 use Rattle.feed.specs.Feed.{Told}
 use Rattle.feed.proofs.Stamps.{sends-kept, sends-room}
-use Rattle.subscribe.specs.Subscribe.{level-step, one-level, levels-to, level-count, first-to}
+use Rattle.subscribe.specs.Subscribe.{levels-to, Posts, level-count, first-to}
 use Rattle.subscribe.proofs.Few.{level-few}
 
 -- ---- one level
 
-pub update-is : (xs : List ℕ) (z : Side) (l : Level) (seq : ℕ) → seq ≡ word (cell xs) C.delivered → (p : ℤ) → p ≡ l .price →
-    record { seq = seq; side = z; price = p; qty = l .qty; orders = l .orders } ≡ update-of (rest-of xs .delivered) z (seen l)
-update-is xs z l seq e p q = λ i. record { seq = e i; side = z; price = q i; qty = l .qty; orders = l .orders }
+pub update-is : (xs : List ℕ) (z : Side) (r : Row) (seq : ℕ) → seq ≡ word (cell xs) C.delivered → (w : ℕ) → int w ≡ r .key ⊖ half → (p : ℤ) → p ≡ int w →
+    record { seq = seq; side = z; price = p; qty = r .qty; orders = r .orders } ≡ update-of (rest-of xs .delivered) z (L.level r)
+update-is xs z r seq e w f p q = let g = q ∙ f in λ i. record { seq = e i; side = z; price = g i; qty = r .qty; orders = r .orders }
 
-pub level-sends : (xs : List ℕ) {ys : List ℕ} (out : List ℕ) {end : List ℕ} (i s : ℕ) (z : Side) (l : D.Level) (u : LevelUpdate) → u ≡ update-of (rest-of xs .delivered) z l →
-    Sends i (send s (Out.LevelUpdate u) ∷ []) (λ x. x) xs ys out end → Told (one-level s z l) i (i + 1) xs ys out end
-level-sends xs {ys} out {end} i s z l u e h = record { next-is = refl; sends = subst (λ (v : LevelUpdate). Sends i (send s (Out.LevelUpdate v) ∷ []) (λ x. x) xs ys out end) e h }
+pub level-posts : (xs out : List ℕ) {end : List ℕ} (i s : ℕ) (z : Side) (l : D.Level) (u : LevelUpdate) → u ≡ update-of (rest-of xs .delivered) z l →
+    end ≡ put-mail i (send s (Out.LevelUpdate u)) out → end ≡ put-mail i (level-to s (rest-of xs .delivered) z l) out
+level-posts xs out i s z l u e h = h ∙ ap (λ v. put-mail i (send s (Out.LevelUpdate v)) out) e
 
--- the level j, from the list by value
-module _ {xs : List ℕ} (st : State xs) (z : Side) (row : List Level) (p : Lists z (cell xs) row) (n j : ℕ) (e : n ≡ L.size z (cell xs)) (h : j < n) where
-  level-is : seen (getD row j Listed.nothing) ≡ level-at z (rest-of xs) j
-  level-is = listed-level (st .sound) z row p j (omega arith)
+-- ---- a side: the levels of the first j rows are posted
 
-  pub orders-few : getD row j Listed.nothing .orders ≤ most-orders
-  orders-few =
-      let few = level-few z (rest-of xs .depth .resting) j nothing (omega (arith, size-levels (st .sound) z)) in
-      omega (arith, few, ap (λ (q : D.Level). q .orders) level-is, st .sound .tables .ordered .counted .resting-count, st .sound .tables .resting-few)
+pub record Shown (z : Side) (s : ℕ) (xs out : List ℕ) (i j k : ℕ) (end : List ℕ) : Type 0 where
+  pub posted : end ≡ mailed i (map (level-to s (rest-of xs .delivered) z) (firsts z (cell xs) j)) out
+  pub next-is : k ≡ i + length (firsts z (cell xs) j)
+  pub long : length end ≡ length out
 
-  -- it is sent from a state whose sessions alone have changed
-  pub level-steps : {mid ys out fin end : List ℕ} (i to m next : ℕ) (ms : List Mail) → Sends i ms (λ x. x) xs mid out fin → Told (one-level to z (seen (getD row j Listed.nothing))) m next mid ys fin end →
-      Stepped (level-step to z) m j next mid ys fin end
-  level-steps {mid} {ys} {out} {fin} {end} i to m next ms t w =
-      let same : level-at z (rest-of mid) j ≡ level-at z (rest-of xs) j = sends-kept (λ (r : Rest). level-at z r j) (λ zs r. refl) xs i ms t in
-      record { next-is = w .next-is; sends = subst (λ (l : D.Level). Sends m (level-to to (rest-of mid .delivered) z l ∷ []) (λ x. x) mid ys fin end) (level-is ∙ sym same) (w .sends) }
+module _ (z : Side) (s : ℕ) (xs out : List ℕ) (i : ℕ) where
+  abbrev to : D.Level → Mail
+  to = level-to s (rest-of xs .delivered) z
 
--- ---- a side
+  pub shown-none : Shown z s xs out i 0 i out
+  shown-none =
+      record {
+        posted = sym (ap (λ ls. mailed i (map to ls) out) (firsts-none z (cell xs)) ∙ mailed-none i out);
+        next-is = omega (arith, ap length (firsts-none z (cell xs)));
+        long = refl;
+      }
 
-pub level-keeps : (s : ℕ) (z : Side) (g : Gateway) (ms : List Mail) (j : ℕ) → level-step s z (with-rest (stamped ms) g) j ≡ level-step s z g j
-level-keeps s z g ms j = ap (λ (q : Rest). level-step s z (with-rest (λ _. q) g) j) (stamped-rest ms (g .rest))
+  module _ (j k n p : ℕ) (r : Row) {mid : List ℕ} (f : Shown z s xs out i j k mid) (n-is : n ≡ L.used z (cell xs)) (h : j < n) (p-is : p ≡ nth z n j) (r-is : r ≡ L.row z (cell xs) p) where
+    pub shown-skip : r .orders ≡ 0 → Shown z s xs out i (j + 1) k mid
+    shown-skip d =
+        let e = firsts-skip z (cell xs) j n p r n-is h p-is r-is d in
+        record { posted = f .posted ∙ ap (λ ls. mailed i (map to ls) out) (sym e); next-is = omega (arith, f .next-is, ap length e); long = f .long }
 
-pub levels-each : {xs : List ℕ} → State xs → (s : ℕ) (z : Side) (m : ℕ) → m ≡ L.size z (cell xs) → steps (level-step s z) (gateway (cell xs)) m ≡ levels-to s z (gateway (cell xs))
-levels-each {xs} st s z m e =
-    let g = gateway (cell xs) in
-    let h : D.Level → Mail = level-to s (g .rest .delivered) z in
-    steps-each (λ l. h l ∷ []) (level-step s z) g (side-levels z (g .rest)) nothing (λ j l. refl) m (e ∙ size-levels (st .sound) z)
-    ∙ each-one h (side-levels z (g .rest))
+    module _ (st : State xs) (d : r .orders ≡ 0 → ⊥) where
+      below : length (firsts z (cell xs) j) < length (side-levels z (rest-of xs))
+      below = firsts-below (st .sound) z j n p r n-is h p-is r-is d
+
+      pub shown-room : i + length (side-levels z (rest-of xs)) ≤ places (length out) → k < places (length mid)
+      shown-room l = rw (f .long) (omega (arith, f .next-is, below))
+
+      -- a level has no more orders than there are
+      pub orders-few : r .orders ≤ most-orders
+      orders-few =
+          let os = rest-of xs .depth .resting in
+          let ls = firsts z (cell xs) j in
+          let few = level-few z os (length ls) (L.level r) below in
+          let e : getD (D.levels z os) (length ls) (L.level r) ≡ L.level r = firsts-at (st .sound) z j n p r n-is h p-is r-is d in
+          omega (arith, few, ap (λ (q : D.Level). q .orders) e, st .sound .tables .ordered .counted .resting-count, st .sound .tables .resting-few)
+
+      pub shown-more : {end : List ℕ} → end ≡ put-mail k (to (L.level r)) mid → length end ≡ length mid → Shown z s xs out i (j + 1) (k + 1) end
+      shown-more {end} e g =
+          let ls = firsts z (cell xs) j in
+          let m = firsts-more z (cell xs) j n p r n-is h p-is r-is d in
+          let q : i + length (map to ls) ≡ k = omega (arith, f .next-is, length-map ls to) in
+          record {
+            posted =
+                e ∙ sym (mailed-one k (to (L.level r)) mid) ∙ ap (mailed k (to (L.level r) ∷ [])) (f .posted) ∙ ap (λ y. mailed y (to (L.level r) ∷ []) (mailed i (map to ls) out)) (sym q)
+                ∙ sym (mailed-append i (map to ls) (to (L.level r) ∷ []) out) ∙ ap (λ ms. mailed i ms out) (sym (ap (map to) m ∙ map-append to ls (L.level r ∷ [])));
+            next-is = omega (arith, f .next-is, ap length m, length-append ls (L.level r ∷ []));
+            long = g ∙ f .long;
+          }
+
+  pub shown-all : State xs → (j k n : ℕ) {end : List ℕ} → Shown z s xs out i j k end → n ≡ L.used z (cell xs) → j ≤ n → n ≤ j → Posts (levels-to s z) i k xs out end
+  shown-all st j k n f n-is h l =
+      let e = firsts-are (st .sound) z j (omega arith) in
+      record {
+        next-is = omega (arith, f .next-is, ap length e, length-map (side-levels z (rest-of xs)) to);
+        posted = f .posted ∙ ap (λ ls. mailed i (map to ls) out) e;
+      }
 
 pub levels-long : (s : ℕ) (z : Side) (g : Gateway) → length (levels-to s z g) ≡ length (side-levels z (g .rest))
 levels-long s z g = length-map (side-levels z (g .rest)) (level-to s (g .rest .delivered) z)
@@ -94,6 +130,29 @@ pub first-sends : (xs : List ℕ) {ys : List ℕ} (out : List ℕ) {end : List �
     Sends i (send s (Out.BookSnapshot seq n) ∷ []) (λ x. x) xs ys out end → Told (first-to s) i (i + 1) xs ys out end
 first-sends xs {ys} out {end} i s n seq e f h =
     record { next-is = refl; sends = subst (λ (k : ℕ). Sends i (send s (Out.BookSnapshot (rest-of xs .delivered) k) ∷ []) (λ x. x) xs ys out end) e (rw f at h) }
+
+-- ---- who was sent a message now is stamped once
+
+twice-one : (t : ℕ) (x : Option Session) → Option·map (Rest.set-sent t) (Option·map (Rest.set-sent t) x) ≡ Option·map (Rest.set-sent t) x
+twice-one t none = refl
+twice-one t (some x) = refl
+
+twice : (t s : ℕ) (xs : List (Option Session)) → changed-at (Rest.set-sent t) s (changed-at (Rest.set-sent t) s xs) ≡ changed-at (Rest.set-sent t) s xs
+twice t s [] = refl
+twice t zero (x ∷ xs) = ap (λ y. y ∷ xs) (twice-one t x)
+twice t (suc s) (x ∷ xs) = ap (λ ys. x ∷ ys) (twice t s xs)
+
+still : (s d : ℕ) (z : Side) (ls : List D.Level) (r : Rest) → update-session s (Rest.set-sent (r .clock)) r ≡ r → stamped (map (level-to s d z) ls) r ≡ r
+still s d z [] r e = refl
+still s d z (l ∷ ls) r e = ap (stamped (map (level-to s d z) ls)) e ∙ still s d z ls r e
+
+once : (s : ℕ) (r : Rest) → stamped (snapshot s r) r ≡ update-session s (Rest.set-sent (r .clock)) r
+once s r =
+    let now = update-session s (Rest.set-sent (r .clock)) r in
+    let e : update-session s (Rest.set-sent (now .clock)) now ≡ now = ap (λ xs. with-sessions xs r) (twice (r .clock) s (r .sessions)) in
+    let bids = map (level-to s (r .delivered) Buy) (side-levels Buy r) in
+    let asks = map (level-to s (r .delivered) Sell) (side-levels Sell r) in
+    stamped-append bids asks now ∙ ap (stamped asks) (still s (r .delivered) Buy (side-levels Buy r) now e) ∙ still s (r .delivered) Sell (side-levels Sell r) now e
 
 -- ---- all of it
 
@@ -115,30 +174,30 @@ module _ (xs : List ℕ) (s : ℕ) (out : List ℕ) (i : ℕ) where
     bids-room l =
         rw (sends-room (t .sends)) (omega (arith, t .next-is, snapshot-long s g, ap length (same-first Buy), levels-long s Buy (gateway (cell ys))))
 
-    module _ {zs fin : List ℕ} (k : ℕ) (v : Told (levels-to s Buy) n k ys zs mid fin) where
-      bids-sent : Sends n (levels-to s Buy g) (λ x. x) ys zs mid fin
-      bids-sent = rw (same-first Buy) at (v .sends)
+    module _ {fin : List ℕ} (k : ℕ) (v : Posts (levels-to s Buy) n k ys mid fin) where
+      pub asks-room : i + length (snapshot s (rest-of xs)) ≤ places (length out) → k + length (side-levels Sell (rest-of ys)) ≤ places (length fin)
+      asks-room l =
+          let e : length fin ≡ length mid = ap length (v .posted) ∙ length-mailed n (levels-to s Buy (gateway (cell ys))) mid in
+          rw (e, sends-room (t .sends))
+          (omega (arith, t .next-is, v .next-is, snapshot-long s g, ap length (same-first Buy), ap length (same-first Sell), levels-long s Sell (gateway (cell ys))))
 
-      both : Sends i (first-to s g ++ levels-to s Buy g) (λ x. x) xs zs out fin
-      both = sends-more xs out i n (first-to s g) (levels-to s Buy g) (λ x. x) (t .sends) (t .next-is) bids-sent
-
-      both-next : k ≡ i + length (first-to s g ++ levels-to s Buy g)
-      both-next = omega (arith, v .next-is, t .next-is, ap length (same-first Buy))
-
-      same-asks : levels-to s Sell (gateway (cell zs)) ≡ levels-to s Sell g
-      same-asks = sends-kept (λ (r : Rest). map (level-to s (r .delivered) Sell) (side-levels Sell r)) (λ zs r. refl) xs i (first-to s g ++ levels-to s Buy g) both
-
-      pub asks-room : i + length (snapshot s (rest-of xs)) ≤ places (length out) → k + length (side-levels Sell (rest-of zs)) ≤ places (length fin)
-      asks-room l = rw (sends-room both) (omega (arith, both-next, snapshot-long s g, ap length same-asks, levels-long s Sell (gateway (cell zs))))
-
-      pub snapshot-sends : {us end : List ℕ} (m : ℕ) → Told (levels-to s Sell) k m zs us fin end → Sends i (snapshot s (rest-of xs)) (λ x. x) xs us out end
-      snapshot-sends {us} {end} m w =
-          let q : Sends k (levels-to s Sell g) (λ x. x) zs us fin end = rw same-asks at (w .sends) in
-          sends-more xs out i k (first-to s g ++ levels-to s Buy g) (levels-to s Sell g) (λ x. x) both both-next q
+      pub snapshot-sends : {end : List ℕ} (m : ℕ) → Posts (levels-to s Sell) k m ys fin end → Sends i (snapshot s (rest-of xs)) (λ x. x) xs ys out end
+      snapshot-sends {end} m w =
+          let bids = levels-to s Buy g in
+          let asks = levels-to s Sell g in
+          let b : fin ≡ mailed n bids mid = v .posted ∙ ap (λ ms. mailed n ms mid) (same-first Buy) in
+          let a : end ≡ mailed k asks fin = w .posted ∙ ap (λ ms. mailed k ms fin) (same-first Sell) in
+          let at : n + length bids ≡ k = omega (arith, v .next-is, ap length (same-first Buy)) in
+          let behind : end ≡ mailed n (bids ++ asks) mid = a ∙ ap (mailed k asks) b ∙ ap (λ y. mailed y asks (mailed n bids mid)) (sym at) ∙ sym (mailed-append n bids asks mid) in
+          let next : i + length (first-to s g) ≡ n = sym (t .next-is) in
+          record {
+            becomes = record { state = t .sends .becomes .state; gateway-is = t .sends .becomes .gateway-is ∙ ap (λ (r : Rest). with-rest (λ _. r) g) (sym (once s (g .rest))) };
+            posted = behind ∙ ap (mailed n (bids ++ asks)) (t .sends .posted) ∙ ap (λ y. mailed y (bids ++ asks) (mailed i (first-to s g) out)) (sym next) ∙ sym (mailed-append i (first-to s g) (bids ++ asks) out);
+          }
 
 -- ---- the session is subscribed
 
 pub subscribed-becomes : {xs ys : List ℕ} → State xs → (s : ℕ) → s < session-slots → Is ys (Clients.set-subscribed s (cell xs)) → Becomes ys (with-rest (update-session s Rest.set-subscribed) (gateway (cell xs)))
 subscribed-becomes {xs} st s l h = becomes h (session-sound (cell xs) (st .sound) s C.session-subscribed 1 (omega arith)) (subscribed-view s (cell xs) l)
 
-pub ruleset snapshots = (level-sends, levels-many, levels-fit, first-sends, subscribed-becomes, arith)
+pub ruleset snapshots = (level-posts, levels-many, levels-fit, first-sends, subscribed-becomes, arith)

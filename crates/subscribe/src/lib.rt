@@ -1,5 +1,5 @@
 // A client asks for the market's data: `subscribe` of exchange.rs.
-use levels::listed::Level;
+use levels::Row;
 use orderbook::Side;
 use outcome::Reply;
 use protocol::LevelUpdate;
@@ -13,13 +13,13 @@ ghost use Rattle.protocol.specs.declared.Inbound.the-variants as In;
 ghost use Rattle.gateway.specs.Limits.{session-slots, most-orders};
 ghost use Rattle.gateway.specs.Rest as Rest;
 ghost use Rattle.gateway.specs.Rest.{update-session};
-ghost use Rattle.gateway.specs.Entry.{update-of, snapshot};
+ghost use Rattle.gateway.specs.Entry.{update-of, level-to, snapshot};
 ghost use Rattle.gateway.specs.Calls.{call, receive-from};
 ghost use Rattle.store.specs.Layout.{cell};
 ghost use Rattle.store.specs.View.{gateway};
-ghost use Rattle.levels.specs.Listed.{seen};
+ghost use Rattle.levels.specs.Levels as L;
 ghost use Rattle.sound.specs.Sound.{State, Becomes};
-ghost use Rattle.mailbox.specs.Mailbox.{places};
+ghost use Rattle.mailbox.specs.Mailbox.{places, put-mail};
 ghost use Rattle.outcome.specs.Parts.{with-rest, rest-of, Sends, Speaks};
 ghost use Rattle.outcome.specs.Answers.{Gives};
 ghost use Rattle.balances.specs.Balances.{Exact};
@@ -29,43 +29,45 @@ ghost use Rattle.subscribe.specs.Subscribe as P;
 
 // ---- the levels of a side
 
-fn update_of(m: &[u8], side: Side, l: Level) -> LevelUpdate
-    requires { ⌜ State (now m) × (l .orders ≤ most-orders) ⌝ }
-    ensures { λ r. ⌜ r ≡ update-of (rest-of (now (m .entry)) .delivered) side (seen l) ⌝ }
+fn update_of(m: &[u8], side: Side, r: Row) -> LevelUpdate
+    requires { ⌜ State (now m) × (r .orders ≤ most-orders) ⌝ }
+    ensures { λ u. ⌜ u ≡ update-of (rest-of (now (m .entry)) .delivered) side (L.level r) ⌝ }
 {
     let seq = pending::header::word_at(m, cells::DELIVERED);
     LevelUpdate {
         seq,
         side,
-        price: l.price,
-        qty: l.qty,
-        orders: l.orders as u32,
+        price: words::to_i64(words::lowered(r.key)),
+        qty: r.qty,
+        orders: r.orders as u32,
     }
 }
 
-fn send_level(m: &mut [u8], out: &mut [u8], i: usize, s: usize, side: Side, l: Level) -> usize
-    requires { ⌜ State (now m) × (s < session-slots) × (l .orders ≤ most-orders) × (i < places (length (now out))) ⌝ }
-    ensures { λ r. ⌜ Told (P.one-level s side (seen l)) i r (now (m .entry)) (now (m .exit)) (now (out .entry)) (now (out .exit)) ⌝ }
+fn post_level(m: &[u8], out: &mut [u8], i: usize, s: usize, side: Side, r: Row)
+    requires { ⌜ State (now m) × (r .orders ≤ most-orders) × (i < places (length (now out))) ⌝ }
+    ensures { λ x. ⌜ now (out .exit) ≡ put-mail i (level-to s (rest-of (now (m .entry)) .delivered) side (L.level r)) (now (out .entry)) ⌝ }
 {
-    let u = update_of(m, side, l);
-    outcome::send(m, out, i, s, Outbound::LevelUpdate(u));
-    i + 1
+    let u = update_of(m, side, r);
+    mailbox::send(out, i, s, Outbound::LevelUpdate(u));
 }
 
-fn send_side(m: &mut [u8], out: &mut [u8], i: usize, s: usize, side: Side) -> usize
-    requires { ⌜ State (now m) × (s < session-slots) × (i + length (side-levels side (rest-of (now m))) ≤ places (length (now out))) ⌝ }
-    ensures { λ r. ⌜ Told (P.levels-to s side) i r (now (m .entry)) (now (m .exit)) (now (out .entry)) (now (out .exit)) ⌝ }
+// The rows from the best price on, but for the dead ones, from place i on. The session was sent the message before them now.
+fn post_side(m: &[u8], out: &mut [u8], i: usize, s: usize, side: Side) -> usize
+    requires { ⌜ State (now m) × (i + length (side-levels side (rest-of (now m))) ≤ places (length (now out))) ⌝ }
+    ensures { λ r. ⌜ P.Posts (P.levels-to s side) i r (now (m .entry)) (now (out .entry)) (now (out .exit)) ⌝ }
 {
-    let rows = levels::size(m, side);
-    let row = levels::listed::best_first(m, side);
-    let mut n: usize = i;
+    let n = levels::used(m, side);
+    let mut k: usize = i;
     let mut j: usize = 0;
-    while j < rows {
-        let l = row[j];
-        n = send_level(m, out, n, s, side, l);
+    while j < n {
+        let r = levels::read_row(m, side, levels::listed::nth(side, n, j));
         j += 1;
+        if r.orders != 0 {
+            post_level(m, out, k, s, side, r);
+            k += 1;
+        }
     }
-    n
+    k
 }
 
 // ---- the snapshot
@@ -102,8 +104,8 @@ fn send_snapshot(m: &mut [u8], out: &mut [u8], i: usize, s: usize)
     ensures { λ r. ⌜ Sends i (snapshot s (rest-of (now (m .entry)))) (λ x. x) (now (m .entry)) (now (m .exit)) (now (out .entry)) (now (out .exit)) ⌝ }
 {
     let n = send_first(m, out, i, s);
-    let k = send_side(m, out, n, s, Side::Buy);
-    send_side(m, out, k, s, Side::Sell);
+    let k = post_side(m, out, n, s, Side::Buy);
+    post_side(m, out, k, s, Side::Sell);
 }
 
 fn set_subscribed(m: &mut [u8], s: usize)

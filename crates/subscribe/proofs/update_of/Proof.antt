@@ -1,3 +1,4 @@
+use mathlib.Core.Path.{_∙_}
 use Rattle.words.proofs.Int.{read}
 use Rattle.subscribe.proofs.Snapshot.{update-is}
 use borrow.Author.Needs.{needs}
@@ -7,13 +8,23 @@ use Rattle.subscribe.proofs.update_of.Tie as tie
 word-at-requires : tie.Need-word-at-requires
 word-at-requires c κs = search needs
 
-cast-t5 : tie.Need-cast-t5
-cast-t5 c = search needs
+lowered-requires : tie.Need-lowered-requires
+lowered-requires c κs = search needs
+
+to-i64-requires : tie.Need-to-i64-requires
+to-i64-requires c κs = search needs
+
+cast-t7 : tie.Need-cast-t7
+cast-t7 c = search needs
 
 returns : tie.Need-returns
 returns c =
-    let s = c .before .before .before .before in
-    update-is _ _ (s .args .l) _ (c .before .before .word-at .ensures) _ (read {x = s .args .l .price} (c .struct-told .given .0 .1))
+    let w = c .before .to-i64 in
+    let l = c .before .before in
+    let q = l .before in
+    let s = q .before .before in
+    update-is _ _ (s .args .r) _ (q .word-at .ensures) _ (l .lowered .ensures) _ (read {x = w .result} (w .ok) ∙ w .ensures)
 
 pub update-of-spec : {M : Type 1} → statement M
-update-of-spec = tie.close (tie.spec word-at-requires cast-t5 returns)
+update-of-spec =
+    tie.close (tie.spec word-at-requires lowered-requires to-i64-requires cast-t7 returns)
