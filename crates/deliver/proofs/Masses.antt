@@ -36,8 +36,7 @@ use Rattle.reporting.specs.declared.Told.{Told}
 use Rattle.reporting.specs.Reporting.{Hears, told-mail, told-rows}
 use Rattle.reporting.proofs.Laws.{told-length, to-open}
 use Rattle.delivery.specs.Delivery.{tests, call-tests, Judges, landed, after}
-use Rattle.delivery.proofs.Calls.{judged-is, deliver-refused, deliver-done}
-use Rattle.events.proofs.Parts.{trades-few, notices-stay, all-pass, told-room}
+use Rattle.delivery.proofs.Calls.{judged-is, deliver-refused, deliver-done, trades-few, notices-stay, all-pass, told-room}
 use Rattle.deliver.specs.Delivering.{TellsAccount, bare-tests}
 
 -- ---- such an event

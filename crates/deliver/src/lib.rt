@@ -177,7 +177,7 @@ fn rested(m: &mut [u8], n: u64, row: &[u8], out: &mut [u8]) -> Reply
     let id = script::word(row, 1);
     let side = script::side(row, 2);
     let price = script::price(row, 3);
-    events::rested(
+    bookevents::rested(
         m,
         n,
         id,
@@ -196,7 +196,7 @@ fn replenished(m: &mut [u8], n: u64, row: &[u8], out: &mut [u8]) -> Reply
     let id = script::word(row, 1);
     let side = script::side(row, 2);
     let price = script::price(row, 3);
-    events::replenished(m, n, id, side, price, script::word(row, 4), out)
+    bookevents::replenished(m, n, id, side, price, script::word(row, 4), out)
 }
 
 fn cancelled(m: &mut [u8], n: u64, row: &[u8], out: &mut [u8]) -> Reply
@@ -206,7 +206,7 @@ fn cancelled(m: &mut [u8], n: u64, row: &[u8], out: &mut [u8]) -> Reply
     let id = script::word(row, 1);
     let qty = script::word(row, 2);
     let reason = script::cancel_reason(row);
-    events::cancelled(m, n, id, qty, reason, out)
+    bookevents::cancelled(m, n, id, qty, reason, out)
 }
 
 fn modified(m: &mut [u8], n: u64, row: &[u8], out: &mut [u8]) -> Reply
@@ -216,7 +216,7 @@ fn modified(m: &mut [u8], n: u64, row: &[u8], out: &mut [u8]) -> Reply
     let id = script::word(row, 1);
     let price = script::price(row, 2);
     let qty = script::word(row, 3);
-    events::modified(m, n, id, price, qty, script::word(row, 4), out)
+    bookevents::modified(m, n, id, price, qty, script::word(row, 4), out)
 }
 
 fn stop_placed(m: &mut [u8], n: u64, row: &[u8], out: &mut [u8]) -> Reply
@@ -227,7 +227,7 @@ fn stop_placed(m: &mut [u8], n: u64, row: &[u8], out: &mut [u8]) -> Reply
     let side = script::side(row, 2);
     let trigger = script::price(row, 3);
     let limit = script::maybe_price(row, 4);
-    events::stop_placed(m, n, id, side, trigger, limit, script::word(row, 6), out)
+    acknowledgements::stop_placed(m, n, id, side, trigger, limit, script::word(row, 6), out)
 }
 
 pub fn deliver(m: &mut [u8], n: u64, row: &[u8], out: &mut [u8]) -> Reply
@@ -235,15 +235,21 @@ pub fn deliver(m: &mut [u8], n: u64, row: &[u8], out: &mut [u8]) -> Reply
     ensures { λ r. ⌜ Gives (call (gateway (cell (now (m .entry)))) (deliver-event n (event-of (now (row .entry))) (places (length (now (out .entry)))))) r (now (m .entry)) (now (m .exit)) (now (out .entry)) (now (out .exit)) ⌝ }
 {
     match script::word(row, 0) {
-        0 => events::accepted(m, n, script::word(row, 1), out),
-        1 => events::rejected(m, n, script::word(row, 1), script::reject_reason(row), out),
+        0 => acknowledgements::accepted(m, n, script::word(row, 1), out),
+        1 => acknowledgements::rejected(
+            m,
+            n,
+            script::word(row, 1),
+            script::reject_reason(row),
+            out,
+        ),
         2 => trade(m, n, row, out),
         3 => rested(m, n, row, out),
         4 => replenished(m, n, row, out),
         5 => cancelled(m, n, row, out),
         6 => modified(m, n, row, out),
         7 => stop_placed(m, n, row, out),
-        8 => events::triggered(m, n, script::word(row, 1), out),
+        8 => acknowledgements::triggered(m, n, script::word(row, 1), out),
         9 => mass_cancelled(m, n, script::small(row, 1), script::small(row, 2), out),
         _ => phase_changed(m, n, script::phase(row, 1), out),
     }

@@ -2,13 +2,13 @@
 use mathlib.Core.Path.{_≡_, refl, sym, ap, _∙_}
 use mathlib.Core.Bool.{Bool, true, false, cond, not, _&&_, and-eq-true-iff, false≢true}
 use mathlib.Core.List.{List, [], _∷_, _++_}
-use Prim.Native.Nat.{ℕ}
+use Prim.Native.Nat.{ℕ, _+_, _≤_}
 use native.Mathlib.Omega.{arith}
-use borrow.Author.Tests.{eq-eqb, ne-eqb}
-use lib.ListN.{length}
+use borrow.Author.Tests.{eq-eqb, ne-eqb, le-leb, leb-true}
+use lib.ListN.{length, length-append}
 use lib.Dec.{eqb, leb}
 use Rattle.orderbook.specs.declared.Event.{Event}
-use Rattle.gateway.specs.Limits.{too-short}
+use Rattle.gateway.specs.Limits.{too-short, most-trades, most-notices}
 use Rattle.gateway.specs.Ledger.{event}
 use Rattle.gateway.specs.Core.{Tests, Pass, Core, system, core-step}
 use Rattle.gateway.specs.Rest.{Mail, Rest, stamped}
@@ -16,6 +16,7 @@ use Rattle.gateway.specs.Entry.{Plan, refuse, unless}
 use Rattle.gateway.specs.Deliver.{deliver, deliver-tests, reports, rest-after}
 use Rattle.gateway.specs.Calls.{Gateway, Call, call, plan, within, deliver-event}
 use Rattle.gateway.specs.Fits.{EventFits}
+use Rattle.gateway.specs.Invariant.{Ok}
 use Rattle.store.specs.Layout.{cell}
 use Rattle.store.specs.View.{gateway}
 use Rattle.sound.specs.Sound.{Becomes}
@@ -61,6 +62,20 @@ pub passes : (ts : Tests ℕ) → codes ts ≡ true → 0 ≡ verdict ts → Pas
 passes [] e h = tt
 passes ((k, true) ∷ ts) e h = (refl, passes ts (and-eq-true-iff (not (eqb k 0)) (codes ts) .0 e .1) h)
 passes ((k, false) ∷ ts) e h = absurd (false≢true (sym (ap (λ b. not b && codes ts) (eq-eqb k 0 (sym h))) ∙ e))
+
+pub all-pass : (t : T.Tests) (v : ℕ) → v ≡ verdict (tests t) → v ≡ 0 → Pass (tests t)
+all-pass t v e z = passes (tests t) refl (sym z ∙ e)
+
+-- there is room for its rows
+pub told-room : (t : T.Tests) (v rows p room : ℕ) → v ≡ verdict (tests t) → v ≡ 0 → t .room ≡ leb rows p → p ≡ room → 0 + rows ≤ room
+told-room t v rows p room e z r p-is = omega (arith, leb-true rows p (sym r ∙ all-pass t v e z .1 .1 .1 .1 .1 .1 .1 .1 .1 .0), p-is)
+
+-- an event that adds no trade, or no notice
+pub trades-few : (g : Gateway) → Ok g → true ≡ leb (length (g .rest .trades ++ [])) most-trades
+trades-few g ok = sym (le-leb (length (g .rest .trades ++ [])) most-trades (omega (arith, length-append (g .rest .trades) [], ok .rest-is .feed .few-trades)))
+
+pub notices-stay : (g : Gateway) → Ok g → true ≡ leb (length (g .rest .notices ++ [])) most-notices
+notices-stay g ok = sym (le-leb (length (g .rest .notices ++ [])) most-notices (omega (arith, length-append (g .rest .notices) [], ok .rest-is .feed .few-notices)))
 
 -- ---- the call
 

@@ -5,6 +5,7 @@ use mathlib.Core.Option.{Option, none, some, Option·map}
 use mathlib.Core.List.{List, [], _∷_, _++_}
 use Prim.Native.Nat.{ℕ, _+_, _≤_}
 use native.Mathlib.Omega.{arith}
+use borrow.Author.Tests.{leb-true}
 use lib.Dec.{eqb, leb}
 use lib.IntN.{ℤ, _+ℤ_, _-ℤ_}
 use lib.ListN.{length, length-append, getD}
@@ -24,7 +25,7 @@ use Rattle.sound.specs.Sound.{Becomes}
 use Rattle.live.specs.Live.{with-ledger}
 use Rattle.holds.specs.declared.Move.{Move}
 use Rattle.holds.specs.declared.Shift.{Shift}
-use Rattle.holds.specs.Holds.{change-of, moved, Part, part-of, paper-order, part, NewHold, Weighs, shift-fits, pair-fits}
+use Rattle.holds.specs.Holds.{change-of, moved, Part, part-of, paper-order, part, NewHold, Weighs, Weighed, shift-fits, few-notices, pair-fits}
 use Rattle.holds.proofs.Totals as Totals
 use Rattle.holds.proofs.Totals.{part-fits, both-fit}
 use Rattle.holds.proofs.Weighing.{of, notices-two}
@@ -134,6 +135,9 @@ weighs-few {n} {x} {s} {g} w = let e = w .noticed in omega (arith, ap length (no
     go none = omega arith
     go (some o) = notices-two n x o
 
+pub weighed : (xs : List ℕ) (i : ℕ) (x : Move) (h : Shift) → Weighs i x h (gateway (cell xs)) → Weighed h (ledger (cell xs))
+weighed xs i x h w = record { owned = w .owned; few = omega (arith, weighs-few w) }
+
 -- in the bytes
 pub weighs-at : {n : ℕ} {x : Move} {s : Shift} {g : Gateway} {ys : List ℕ} → Weighs n x s g → Becomes ys g → Weighs n x s (gateway (cell ys))
 weighs-at {n} {x} {s} w b = subst (λ h. Weighs n x s h) (sym (b .gateway-is)) w
@@ -144,6 +148,25 @@ weighs-at {n} {x} {s} w b = subst (λ h. Weighs n x s h) (sym (b .gateway-is)) w
 pub notices-fit : (s : Store) (ns : List ℕ) (k : ℕ) → length ns ≡ k → leb (k + word s C.notice-rows) most-notices ≡ leb (length (gateway s .rest .notices ++ ns)) most-notices
 notices-fit s ns k e =
     ap (λ m. leb m most-notices) (let q : k + word s C.notice-rows ≡ length (gateway s .rest .notices ++ ns) = omega (arith, notices-count s, length-append (gateway s .rest .notices) ns) in q)
+
+-- those of one change
+pub notices-come : {i : ℕ} {x : Move} {h : Shift} (g : Gateway) → Weighs i x h g →
+    few-notices h g ≡ leb (length (g .rest .notices ++ (change-notices (change-of i x) (g .core .ledger) ++ []))) most-notices
+notices-come {i} {x} {h} g w =
+    let cs = change-notices (change-of i x) (g .core .ledger) in
+    let e : h .notices + length (g .rest .notices) ≡ length (g .rest .notices ++ (cs ++ [])) = omega (arith, length-append (g .rest .notices) (cs ++ []), length-append cs [], w .noticed) in
+    ap (λ k. leb k most-notices) e
+
+-- by the header's count
+pub few-is : (xs : List ℕ) (h : Shift) (r : Bool) → r ≡ leb (h .notices + word (cell xs) C.notice-rows) most-notices → r ≡ few-notices h (gateway (cell xs))
+few-is xs h r e = e ∙ ap (λ k. leb (h .notices + k) most-notices) (sym (notices-count (cell xs)))
+
+pub few-noticed : {i : ℕ} {x : Move} {h : Shift} (g : Gateway) → Weighs i x h g → few-notices h g ≡ true → length (change-notices (change-of i x) (g .core .ledger)) + length (g .rest .notices) ≤ most-notices
+few-noticed {h = h} g w e = omega (arith, w .noticed, leb-true (h .notices + length (g .rest .notices)) most-notices e)
+
+pub noticed-room : (xs : List ℕ) (x : Change) → length (change-notices x (gateway (cell xs) .core .ledger)) + length (gateway (cell xs) .rest .notices) ≤ most-notices →
+    length (change-notices x (ledger (cell xs))) + word (cell xs) C.notice-rows ≤ most-notices
+noticed-room xs x l = omega (arith, notices-count (cell xs), l)
 
 module _ (xs : List ℕ) {n : ℕ} {x : Move} {s : Shift} (w : Weighs n x s (gateway (cell xs))) where
   -- what is asked to apply it

@@ -1,15 +1,15 @@
 -- What an event does to a live order that it names: what the order held and holds, the tests, and the change with its notices.
-use Prim.Native.Nat.{ℕ, _+_, _<_}
+use Prim.Native.Nat.{ℕ, _+_, _≤_, _<_}
 use mathlib.Core.Path.{_≡_}
 use mathlib.Core.Bool.{Bool, true, false, cond, _&&_}
 use mathlib.Core.Option.{Option, none, some, Option·map}
-use lib.Dec.{eqb}
+use lib.Dec.{eqb, leb}
 use lib.IntN.{ℤ, _+ℤ_, _-ℤ_}
 use lib.ListN.{length, getD}
 use Rattle.orderbook.specs.declared.Side.{Side}
 use Rattle.words.specs.Words.{int}
 use Rattle.gateway.specs.Basics.{option, is-some}
-use Rattle.gateway.specs.Limits.{owner-slots}
+use Rattle.gateway.specs.Limits.{owner-slots, most-notices}
 use Rattle.gateway.specs.Ledger.{Order, Ledger, Change, fill, set-leaves, reprice, retire, find, wallet-of, paper, change, order-hold, same-side, held, fits}
 use Rattle.gateway.specs.Deliver.{hold-after, change-notices}
 use Rattle.gateway.specs.Entry.{is-zero}
@@ -72,11 +72,20 @@ pub record Weighs (n : ℕ) (x : Move) (s : Shift) (g : Gateway) : Type 0 where
   pub is : part s ≡ Option·map (part-of (change-of n x)) (paper-order n (g .core .ledger))
   pub holds : NewHold n x (s .new) (g .core .ledger)
 
+-- what is known of every shift that was weighed
+pub record Weighed (h : Shift) (l : Ledger) : Type 0 where
+  pub owned : Owned h l
+  pub few : h .notices ≤ 4
+
 -- ---- the tests
 
 -- code 7 for the total that s is a part of
 abbrev pub shift-fits : Shift → Ledger → Bool
 shift-fits s l = cond (s .funded) (fits (held (s .account) (side (s .side)) (l .orders) -ℤ int (s .old) +ℤ int (s .new))) true
+
+-- code 5 for its notices
+abbrev pub few-notices : Shift → Gateway → Bool
+few-notices h g = leb (h .notices + length (g .rest .notices)) most-notices
 
 -- both are parts of one total
 abbrev pub is-one : Shift → Shift → Bool

@@ -28,8 +28,9 @@ use Rattle.store.specs.View.{gateway}
 use Rattle.outcome.specs.Between.{Between}
 use Rattle.outcome.specs.Answers.{Says}
 use Rattle.holds.specs.declared.Move.the-variants.{Leaves, Reprice, Retire}
-use Rattle.events.specs.Events.{flight-places, Repriced}
-use Rattle.events.proofs.Refusing as Refusing
+use Rattle.acknowledgements.specs.Acknowledgements.{flight-places}
+use Rattle.acknowledgements.proofs.Refusing as Refusing
+use Rattle.bookevents.specs.BookEvents.{Repriced}
 use Rattle.trades.specs.declared.Deal.{Deal}
 use Rattle.trades.specs.Trades as Trades
 use Rattle.redelivery.specs.Redelivery.{Still, Moves, Rests, at}

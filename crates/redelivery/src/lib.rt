@@ -105,7 +105,7 @@ fn rejected(m: &mut [u8], n: u64, id: u64) -> u64
     if id == n {
         return one(m, n, n, Move::Retire);
     }
-    let numbers = events::names_earlier(m, n, id);
+    let numbers = acknowledgements::names_earlier(m, n, id);
     still(m, n, true, numbers)
 }
 
@@ -121,7 +121,7 @@ fn modified(m: &mut [u8], n: u64, id: u64, price: i64, leaves: u64) -> u64
     requires { ⌜ Between (now m) ⌝ }
     ensures { λ r. ⌜ ((qty : ℕ) → Says nothing (call (gateway (cell (now (m .entry)))) (replay-event n (Event.Modified id price qty leaves))) r (now (m .entry)) (now (m .exit))) ⌝ }
 {
-    let p = events::price_of(price, leaves);
+    let p = bookevents::price_of(price, leaves);
     one(m, n, id, Move::Reprice { price: p, leaves })
 }
 

@@ -8,7 +8,7 @@ use Prim.Native.Nat.{ℕ, _+_, _-_, _≤_, _<_}
 use native.Mathlib.Omega.{arith}
 use borrow.Author.Tests.{eq-eqb, ne-eqb}
 use lib.ListN.{length, List·getD-eq-default}
-use lib.Dec.{eqb}
+use lib.Dec.{eqb, leb}
 use Rattle.le.proofs.Laws.{lt-or-le}
 use Rattle.protocol.specs.declared.Report.{Report}
 use Rattle.protocol.specs.declared.ReportKind.{ReportKind}
@@ -22,6 +22,7 @@ use Rattle.gateway.specs.Limits.{owner-slots, session-slots}
 use Rattle.gateway.specs.Ledger.{Order, number-of, find}
 use Rattle.gateway.specs.Rest.{Mail, Rest, send, session-at, session-of, account-of, is-open, logged-in, report, report-to}
 use Rattle.gateway.specs.Deliver.{about, tell-owner, tell-sender, refused-ref}
+use Rattle.gateway.specs.Calls.{Gateway}
 use Rattle.store.specs.Cells as C
 use Rattle.store.specs.Layout.{cell, Holds}
 use Rattle.store.specs.View.{optional, order, ledger, gateway, order-room, in-slot, Ready}
@@ -125,6 +126,10 @@ told-length n i k t = go (eqb (t .to) 0)
     go : (b : Bool) → cond (not b) 1 0 ≡ length (option [] (λ (s : ℕ). send s (Out.Report (about n i (t .«client_ref») k)) ∷ []) (cond (not b) (some (t .to - 1)) none))
     go true = refl
     go false = refl
+
+-- there is room for it
+pub rows-are : (n i room : ℕ) (k : ReportKind) (t : Told) (g : Gateway) → Tells i t g → leb (told-rows t) room ≡ leb (length (tell-owner n i k (g .core) (g .rest))) room
+rows-are n i room k t g s = ap (λ l. leb l room) (told-length n i k t ∙ ap length (s .mail n k))
 
 pub no-rows : (t : Told) → t .to ≡ 0 → 0 ≡ told-rows t
 no-rows t e = rw (eq-eqb (t .to) 0 e) refl
