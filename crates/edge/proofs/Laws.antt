@@ -1,7 +1,7 @@
 -- An entry point answers as its call does, or 11 and nothing changed. Assumes nothing.
 use Prim.Native.Nat.{ℕ, _*_}
 use mathlib.Core.Path.{_≡_, refl, sym, ap, subst, _∙_}
-use mathlib.Core.Bool.{Bool, true, false, cond, _&&_, and-eq-true-iff}
+use mathlib.Core.Bool.{Bool, true, false, cond, _&&_, and-true, and-false, and-eq-true-iff}
 use mathlib.Core.Option.{Option, none, some}
 use mathlib.Core.List.{List}
 use borrow.Author.Needs.{needs}
@@ -43,13 +43,21 @@ use Rattle.edge.specs.Values.{is-reason, reason-or, wallet-in, no-wallet
 
 -- ---- the length
 
-pub is-whole-yes : (ok : Bool) (xs : List ℕ) → length xs ≡ 565504 → ok ≡ whole ok xs
+whole-yes : (xs : List ℕ) → length xs ≡ 565504 → true ≡ whole true xs
 unfolding whole
-is-whole-yes ok xs h = rw (eq-eqb (length xs) 565504 h) refl
+whole-yes xs h = rw (eq-eqb (length xs) 565504 h) refl
 
-pub is-whole-no : (ok : Bool) (xs : List ℕ) → (length xs ≡ 565504 → ⊥) → false ≡ whole ok xs
+whole-no : (xs : List ℕ) → (length xs ≡ 565504 → ⊥) → false ≡ whole true xs
 unfolding whole
-is-whole-no ok xs h = rw (ne-eqb (length xs) 565504 h) refl
+whole-no xs h = rw (ne-eqb (length xs) 565504 h) refl
+
+pub is-whole-yes : (ok : Bool) (xs : List ℕ) → ok ≡ true → eqb (length xs) 565504 ≡ whole ok xs
+unfolding whole
+is-whole-yes ok xs h = rw (h, and-true (eqb (length xs) 565504)) refl
+
+pub is-whole-no : (ok : Bool) (xs : List ℕ) → ok ≡ false → false ≡ whole ok xs
+unfolding whole
+is-whole-no ok xs h = rw (h, and-false (eqb (length xs) 565504)) refl
 
 module _ (xs : List ℕ) (b d : Bool) (e : b ≡ whole d xs) (t : b ≡ true) where
   parts : (eqb (length xs) (8 * cells) ≡ true) × (d ≡ true)
@@ -105,6 +113,18 @@ module _ (xs : List ℕ) (b d ok : Bool) (kept : Type 0) (tells : Answer → Lis
         lent = l;
       }
 
+-- ---- a call that is lent nothing but a state
+
+pub between : (xs : List ℕ) → Lent xs → length xs ≡ 565504 → Between xs
+between xs l h = l .between h
+
+module _ (xs : List ℕ) (kept : Type 0) (tells : Answer → List Mail → Type 0) (x : Call) where
+  pub held : (code : ℕ) (ys : List ℕ) → length xs ≡ 565504 → Answers (call (gateway (cell xs)) x) kept tells code xs ys → Enters (asked true xs x) kept tells code xs ys
+  held code ys h = entered xs true true true kept tells x refl (whole-yes xs h) code ys refl
+
+  pub held-no : (length xs ≡ 565504 → ⊥) → Lent xs → kept → Enters (asked true xs x) kept tells 11 xs xs
+  held-no h = malformed-no xs false true true kept tells x refl (whole-no xs h) refl
+
 -- ---- a call whose argument was read
 
 module _ (xs ys : List ℕ) (b d ok : Bool) (kept : Type 0) (tells : Answer → List Mail → Type 0) (code : ℕ) (f : d ≡ ok) (e : b ≡ whole d xs) (t : b ≡ true) where
@@ -158,22 +178,22 @@ no-percent n p h = rw (eq-eqb n 0 h) refl
 pub a-percent : (n p : ℕ) → (n ≡ 0 → ⊥) → percent-of (Percent.the-variants.Some p) ≡ maybe n p
 a-percent n p h = rw (ne-eqb n 0 h) refl
 
-module _ (xs ys : List ℕ) (b : Bool) (e : b ≡ whole true xs) where
-  pub wallet-told : (a : ℕ) (v : Ba.MaybeBalance) (w : Wallet) → b ≡ true → IsWallet v w → Answers (call (gateway (cell xs)) (C.wallet a)) (Unit {0}) (Said (wallet-is (maybe-balance v))) 0 xs ys → Enters (asked true xs (C.wallet a)) (Unit {0}) (Said (wallet-is (wallet-in w))) (w .code) xs ys
+module _ (xs ys : List ℕ) where
+  pub wallet-told : (a : ℕ) (v : Ba.MaybeBalance) (w : Wallet) → length xs ≡ 565504 → IsWallet v w → Answers (call (gateway (cell xs)) (C.wallet a)) (Unit {0}) (Said (wallet-is (maybe-balance v))) 0 xs ys → Enters (asked true xs (C.wallet a)) (Unit {0}) (Said (wallet-is (wallet-in w))) (w .code) xs ys
   wallet-told a v w t i h =
       subst (λ (c : ℕ). Enters (asked true xs (C.wallet a)) (Unit {0}) (Said (wallet-is (wallet-in w))) c xs ys) (sym (i .code-is))
       (subst (λ (o : _). Enters (asked true xs (C.wallet a)) (Unit {0}) (Said (wallet-is o)) 0 xs ys) (i .same)
-      (entered xs b true true (Unit {0}) (Said (wallet-is (maybe-balance v))) (C.wallet a) refl e 0 ys t h))
+      (held xs (Unit {0}) (Said (wallet-is (maybe-balance v))) (C.wallet a) 0 ys t h))
 
-  pub wallet-malformed : (a : ℕ) (w : Wallet) → b ≡ false → Lent xs → w ≡ no-wallet 11 → Enters (asked true xs (C.wallet a)) (Unit {0}) (Said (wallet-is (wallet-in w))) (w .code) xs xs
+  pub wallet-malformed : (a : ℕ) (w : Wallet) → (length xs ≡ 565504 → ⊥) → Lent xs → w ≡ no-wallet 11 → Enters (asked true xs (C.wallet a)) (Unit {0}) (Said (wallet-is (wallet-in w))) (w .code) xs xs
   wallet-malformed a w t l q =
       subst (λ (c : ℕ). Enters (asked true xs (C.wallet a)) (Unit {0}) (Said (wallet-is (wallet-in w))) c xs xs) (sym (ap (λ (z : Wallet). z .code) q))
-      (malformed-no xs b true true (Unit {0}) (Said (wallet-is (wallet-in w))) (C.wallet a) refl e t l tt)
+      (held-no xs (Unit {0}) (Said (wallet-is (wallet-in w))) (C.wallet a) t l tt)
 
-  pub account-told : (s : ℕ) (v : Id.MaybeId) (a : A.Account) → b ≡ true → IsAccount v a → Answers (call (gateway (cell xs)) (C.detach s)) (Unit {0}) (Said (account-was (maybe-id v))) 0 xs ys → Enters (asked true xs (C.detach s)) (Unit {0}) (Said (account-was (account-in a))) (a .code) xs ys
+  pub account-told : (s : ℕ) (v : Id.MaybeId) (a : A.Account) → length xs ≡ 565504 → IsAccount v a → Answers (call (gateway (cell xs)) (C.detach s)) (Unit {0}) (Said (account-was (maybe-id v))) 0 xs ys → Enters (asked true xs (C.detach s)) (Unit {0}) (Said (account-was (account-in a))) (a .code) xs ys
   account-told s v a t i h =
       subst (λ (c : ℕ). Enters (asked true xs (C.detach s)) (Unit {0}) (Said (account-was (account-in a))) c xs ys) (sym (i .code-is))
       (subst (λ (o : Option ℕ). Enters (asked true xs (C.detach s)) (Unit {0}) (Said (account-was o)) 0 xs ys) (i .same)
-      (entered xs b true true (Unit {0}) (Said (account-was (maybe-id v))) (C.detach s) refl e 0 ys t h))
+      (held xs (Unit {0}) (Said (account-was (maybe-id v))) (C.detach s) 0 ys t h))
 
-pub ruleset laws = (needs, is-whole-yes, is-whole-no, lent-between, message-sized, event-sized, command-sized, account-sized, entered, malformed-no, received, redelivered, replayed, joined, ended, levelled, collared, reason-yes, reason-no, some-balance, no-balance, some-id, no-id, no-percent, a-percent, wallet-told, wallet-malformed, account-told)
+pub ruleset laws = (needs, is-whole-yes, is-whole-no, lent-between, between, held, held-no, message-sized, event-sized, command-sized, account-sized, entered, malformed-no, received, redelivered, replayed, joined, ended, levelled, collared, reason-yes, reason-no, some-balance, no-balance, some-id, no-id, no-percent, a-percent, wallet-told, wallet-malformed, account-told)

@@ -69,8 +69,8 @@ pub struct Wallet {
 fn is_whole(m: &[u8], ok: bool) -> bool
     ensures { λ r. ⌜ r ≡ whole ok (now (m .entry)) ⌝ }
 {
-    if m.len() == store::SIZE {
-        return ok;
+    if ok {
+        return m.len() == store::SIZE;
     }
     false
 }
@@ -131,7 +131,7 @@ pub extern "C" fn rowanchess_last_seq(m: &[u8]) -> Number
     requires { ⌜ Lent (now m) ⌝ }
     ensures { λ r. ⌜ Says (number-is (r .number)) (asked true (now (m .entry)) C.last-seq) (r .code) (now (m .entry)) (now (m .entry)) ⌝ }
 {
-    if is_whole(m, true) {
+    if m.len() == store::SIZE {
         return Number {
             code: 0,
             number: commands::last_seq(m),
@@ -177,7 +177,7 @@ pub extern "C" fn rowanchess_wallet(m: &[u8], account: u32) -> Wallet
     requires { ⌜ Lent (now m) ⌝ }
     ensures { λ r. ⌜ Says (wallet-is (P.wallet-in r)) (asked true (now (m .entry)) (C.wallet account)) (r .code) (now (m .entry)) (now (m .entry)) ⌝ }
 {
-    if is_whole(m, true) {
+    if m.len() == store::SIZE {
         let b = balances::wallet(m, account);
         return wallet_of(b);
     }
@@ -234,7 +234,7 @@ pub extern "C" fn rowanchess_connect(m: &mut [u8], session: usize, time: u64) ->
     requires { ⌜ Lent (now m) ⌝ }
     ensures { λ r. ⌜ Says nothing (asked true (now (m .entry)) (C.connect session time)) r (now (m .entry)) (now (m .exit)) ⌝ }
 {
-    if is_whole(m, true) {
+    if m.len() == store::SIZE {
         return sessions::connect(m, session, time);
     }
     outcome::MALFORMED
@@ -271,7 +271,7 @@ pub extern "C" fn rowanchess_tick(m: &mut [u8], time: u64, out: &mut [u8]) -> Re
     requires { ⌜ Lent (now m) ⌝ }
     ensures { λ r. ⌜ Gives (asked true (now (m .entry)) (C.tick time (places (length (now (out .entry)))))) r (now (m .entry)) (now (m .exit)) (now (out .entry)) (now (out .exit)) ⌝ }
 {
-    if is_whole(m, true) {
+    if m.len() == store::SIZE {
         let r = ticks::tick(m, time, out);
         return Reply {
             code: r.code,
@@ -289,7 +289,7 @@ pub extern "C" fn rowanchess_publish(m: &mut [u8], out: &mut [u8]) -> Reply
     requires { ⌜ Lent (now m) ⌝ }
     ensures { λ r. ⌜ Gives (asked true (now (m .entry)) (C.publish (places (length (now (out .entry)))))) r (now (m .entry)) (now (m .exit)) (now (out .entry)) (now (out .exit)) ⌝ }
 {
-    if is_whole(m, true) {
+    if m.len() == store::SIZE {
         let r = feed::publish(m, out);
         return Reply {
             code: r.code,
@@ -345,7 +345,7 @@ pub extern "C" fn rowanchess_shut_down(m: &mut [u8], out: &mut [u8]) -> Reply
     requires { ⌜ Lent (now m) ⌝ }
     ensures { λ r. ⌜ Gives (asked true (now (m .entry)) (C.shut-down (places (length (now (out .entry)))))) r (now (m .entry)) (now (m .exit)) (now (out .entry)) (now (out .exit)) ⌝ }
 {
-    if is_whole(m, true) {
+    if m.len() == store::SIZE {
         let r = sessions::shut_down(m, out);
         return Reply {
             code: r.code,
@@ -363,7 +363,7 @@ pub extern "C" fn rowanchess_disconnect(m: &mut [u8], session: usize) -> u64
     requires { ⌜ Lent (now m) ⌝ }
     ensures { λ r. ⌜ Says nothing (asked true (now (m .entry)) (C.disconnect session)) r (now (m .entry)) (now (m .exit)) ⌝ }
 {
-    if is_whole(m, true) {
+    if m.len() == store::SIZE {
         return commands::disconnect(m, session);
     }
     outcome::MALFORMED
@@ -391,7 +391,7 @@ pub extern "C" fn rowanchess_detach(m: &mut [u8], session: usize) -> Account
     requires { ⌜ Lent (now m) ⌝ }
     ensures { λ r. ⌜ Says (account-was (P.account-in r)) (asked true (now (m .entry)) (C.detach session)) (r .code) (now (m .entry)) (now (m .exit)) ⌝ }
 {
-    if is_whole(m, true) {
+    if m.len() == store::SIZE {
         let a = commands::detach(m, session);
         return account_of(a);
     }
@@ -409,7 +409,7 @@ pub extern "C" fn rowanchess_take_batch(m: &mut [u8], out: &mut [u8]) -> Reply
     requires { ⌜ Lent (now m) ⌝ }
     ensures { λ r. ⌜ Lists 96 (asked true (now (m .entry)) (C.take-batch (places (length (now (out .entry)))))) r (now (m .entry)) (now (m .exit)) (now (out .entry)) (now (out .exit)) ⌝ }
 {
-    if is_whole(m, true) {
+    if m.len() == store::SIZE {
         let r = commands::take_batch(m, out);
         return Reply {
             code: r.code,
@@ -500,7 +500,7 @@ pub extern "C" fn rowanchess_checkpoint(m: &[u8], out: &mut [u8]) -> Reply
     requires { ⌜ Lent (now m) ⌝ }
     ensures { λ r. ⌜ Writes (asked true (now (m .entry)) (C.checkpoint (length (now (out .entry))))) r (now (m .entry)) (now (m .entry)) (now (out .entry)) (now (out .exit)) ⌝ }
 {
-    if is_whole(m, true) {
+    if m.len() == store::SIZE {
         let r = checkpoint::checkpoint(m, out);
         return Reply {
             code: r.code,

@@ -3,9 +3,6 @@ use borrow.Author.Needs.{needs}
 use Rattle.edge.proofs.rowanchess_checkpoint.Statement.{statement}
 use Rattle.edge.proofs.rowanchess_checkpoint.Tie as tie
 
-is-whole-requires : tie.Need-is-whole-requires
-is-whole-requires c κs = search needs
-
 checkpoint-requires : tie.Need-checkpoint-requires
 checkpoint-requires c κs = search laws
 
@@ -20,4 +17,4 @@ returns-2 c = search laws
 
 pub rowanchess-checkpoint-spec : {M : Type 1} → statement M
 rowanchess-checkpoint-spec =
-    tie.close (tie.spec is-whole-requires checkpoint-requires same-length returns returns-2)
+    tie.close (tie.spec checkpoint-requires same-length returns returns-2)

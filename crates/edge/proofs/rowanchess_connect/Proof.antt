@@ -3,9 +3,6 @@ use borrow.Author.Needs.{needs}
 use Rattle.edge.proofs.rowanchess_connect.Statement.{statement}
 use Rattle.edge.proofs.rowanchess_connect.Tie as tie
 
-is-whole-requires : tie.Need-is-whole-requires
-is-whole-requires c κs = search needs
-
 connect-requires : tie.Need-connect-requires
 connect-requires c κs = search laws
 
@@ -15,13 +12,10 @@ same-length c = search needs
 returns : tie.Need-returns
 returns c = search laws
 
-same-length-2 : tie.Need-same-length-2
-same-length-2 c = search needs
-
 returns-2 : tie.Need-returns-2
 returns-2 c = search laws
 
 pub rowanchess-connect-spec : {M : Type 1} → statement M
 rowanchess-connect-spec =
     tie.close
-    (tie.spec is-whole-requires connect-requires same-length returns same-length-2 returns-2)
+    (tie.spec connect-requires same-length returns returns-2)

@@ -3,9 +3,6 @@ use borrow.Author.Needs.{needs}
 use Rattle.edge.proofs.rowanchess_detach.Statement.{statement}
 use Rattle.edge.proofs.rowanchess_detach.Tie as tie
 
-is-whole-requires : tie.Need-is-whole-requires
-is-whole-requires c κs = search needs
-
 detach-requires : tie.Need-detach-requires
 detach-requires c κs = search laws
 
@@ -18,20 +15,14 @@ same-length c = search needs
 returns : tie.Need-returns
 returns c = search laws
 
-same-length-2 : tie.Need-same-length-2
-same-length-2 c = search needs
-
 returns-2 : tie.Need-returns-2
 returns-2 c = search laws
 
 pub rowanchess-detach-spec : {M : Type 1} → statement M
 rowanchess-detach-spec =
     tie.close
-    (tie.spec
-    is-whole-requires
-    detach-requires
+    (tie.spec detach-requires
     account-of-requires
     same-length
     returns
-    same-length-2
     returns-2)

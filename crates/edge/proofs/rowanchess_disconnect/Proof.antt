@@ -3,9 +3,6 @@ use borrow.Author.Needs.{needs}
 use Rattle.edge.proofs.rowanchess_disconnect.Statement.{statement}
 use Rattle.edge.proofs.rowanchess_disconnect.Tie as tie
 
-is-whole-requires : tie.Need-is-whole-requires
-is-whole-requires c κs = search needs
-
 disconnect-requires : tie.Need-disconnect-requires
 disconnect-requires c κs = search laws
 
@@ -15,13 +12,10 @@ same-length c = search needs
 returns : tie.Need-returns
 returns c = search laws
 
-same-length-2 : tie.Need-same-length-2
-same-length-2 c = search needs
-
 returns-2 : tie.Need-returns-2
 returns-2 c = search laws
 
 pub rowanchess-disconnect-spec : {M : Type 1} → statement M
 rowanchess-disconnect-spec =
     tie.close
-    (tie.spec is-whole-requires disconnect-requires same-length returns same-length-2 returns-2)
+    (tie.spec disconnect-requires same-length returns returns-2)

@@ -3,9 +3,6 @@ use borrow.Author.Needs.{needs}
 use Rattle.edge.proofs.rowanchess_last_seq.Statement.{statement}
 use Rattle.edge.proofs.rowanchess_last_seq.Tie as tie
 
-is-whole-requires : tie.Need-is-whole-requires
-is-whole-requires c κs = search needs
-
 last-seq-requires : tie.Need-last-seq-requires
 last-seq-requires c κs = search laws
 
@@ -17,4 +14,4 @@ returns-2 c = search laws
 
 pub rowanchess-last-seq-spec : {M : Type 1} → statement M
 rowanchess-last-seq-spec =
-    tie.close (tie.spec is-whole-requires last-seq-requires returns returns-2)
+    tie.close (tie.spec last-seq-requires returns returns-2)

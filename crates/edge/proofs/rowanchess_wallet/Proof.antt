@@ -3,9 +3,6 @@ use borrow.Author.Needs.{needs}
 use Rattle.edge.proofs.rowanchess_wallet.Statement.{statement}
 use Rattle.edge.proofs.rowanchess_wallet.Tie as tie
 
-is-whole-requires : tie.Need-is-whole-requires
-is-whole-requires c κs = search needs
-
 wallet-requires : tie.Need-wallet-requires
 wallet-requires c κs = search laws
 
@@ -24,9 +21,7 @@ returns-2 c = search laws
 pub rowanchess-wallet-spec : {M : Type 1} → statement M
 rowanchess-wallet-spec =
     tie.close
-    (tie.spec
-    is-whole-requires
-    wallet-requires
+    (tie.spec wallet-requires
     wallet-of-requires
     returns
     no-wallet-requires
