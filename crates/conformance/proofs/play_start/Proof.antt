@@ -1,8 +1,8 @@
 use lib.ListN.{length-take}
 use native.Mathlib.Omega.{arith}
 use borrow.Author.Needs.{needs}
-use Rattle.player.proofs.play_start.Statement.{statement}
-use Rattle.player.proofs.play_start.Tie as tie
+use Rattle.conformance.proofs.play_start.Statement.{statement}
+use Rattle.conformance.proofs.play_start.Tie as tie
 
 slice-aggregate-word : tie.Need-slice-aggregate-word
 slice-aggregate-word c = search needs

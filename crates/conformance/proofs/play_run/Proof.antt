@@ -2,8 +2,8 @@ use mathlib.Core.Path.{_≡_}
 use lib.ListN.{length}
 use borrow.Author.Needs.{needs}
 use Rattle.edge.specs.Entering.{Lent}
-use Rattle.player.proofs.play_run.Statement.{statement}
-use Rattle.player.proofs.play_run.Tie as tie
+use Rattle.conformance.proofs.play_run.Statement.{statement}
+use Rattle.conformance.proofs.play_run.Tie as tie
 
 abbrev Inv-loop : tie.InvT-loop
 Inv-loop m₀ rows same₀ next₀ left₀ m same next left = Lent m × (length m ≡ length m₀) × (length next ≡ 128)

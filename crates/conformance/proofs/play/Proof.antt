@@ -1,8 +1,8 @@
 use lib.ListN.{length-take}
 use native.Mathlib.Omega.{arith}
 use borrow.Author.Needs.{needs}
-use Rattle.player.proofs.play.Statement.{statement}
-use Rattle.player.proofs.play.Tie as tie
+use Rattle.conformance.proofs.play.Statement.{statement}
+use Rattle.conformance.proofs.play.Tie as tie
 
 unanswered-requires : tie.Need-unanswered-requires
 unanswered-requires c κs = search needs
