@@ -221,7 +221,7 @@ pub extern "C" fn rowanchess_set_paper_collar(m: &mut [u8], there: u64, percent:
 {
     if is_whole(m, there <= 1) {
         let p = percent_of(there, percent);
-        orderentry::collar::set_paper_collar(m, p);
+        pretrade::collar::set_paper_collar(m, p);
         return 0;
     }
     outcome::MALFORMED

@@ -1,5 +1,2 @@
-pub mod Judging
 pub mod Messages
-pub mod Testing
 pub mod Placing
-pub mod Collars

@@ -1,8 +1,7 @@
 -- What every order-entry message shares, and those that place nothing. Assumes nothing.
-use mathlib.Core.Path.{_≡_, refl, sym, ap, ap₂, subst, _∙_}
-use mathlib.Core.Bool.{Bool, true, false, cond, not, _&&_, false≢true}
-use mathlib.Core.Logic.{⊎-elim}
-use mathlib.Core.Option.{none, some}
+use mathlib.Core.Path.{_≡_, refl, sym, ap, subst, _∙_}
+use mathlib.Core.Bool.{Bool, true, false, cond, not, _&&_}
+use mathlib.Core.Option.{some}
 use mathlib.Core.List.{List, [], _∷_}
 use Prim.Native.Nat.{ℕ, _+_, _^_, _≤_, _<_}
 use native.Mathlib.Omega.{arith}
@@ -19,25 +18,23 @@ use Rattle.protocol.specs.declared.RejectCode.the-variants.{Throttled, Unavaila
 use Rattle.protocol.specs.declared.codes.MaybeRejectCode as Why
 use Rattle.risk.specs.declared.Bucket.{Bucket}
 use Rattle.risk.specs.declared.Taken.{Taken}
-use Rattle.risk.specs.Throttle as Throttle
-use Rattle.le.proofs.Laws.{lt-or-le}
 use Rattle.words.specs.Words.{modulus}
 use Rattle.gateway.specs.Basics.{is-some}
 use Rattle.gateway.specs.Limits.{owner-slots, most-in-flight, most-in-batch}
 use Rattle.gateway.specs.Ledger.{Item, command, order-of, owner-of}
-use Rattle.gateway.specs.Core.{Tests, Origin, account-at, core-step}
+use Rattle.gateway.specs.Core.{Tests, Origin, core-step}
 use Rattle.gateway.specs.Rest.{Mail, send, Rest, at-time, stamped}
-use Rattle.gateway.specs.Entry.{Plan, records, sends, unless, reject, next, rate-of, taken, hear}
+use Rattle.gateway.specs.Entry.{Plan, records, sends, unless, reject, next, taken, hear}
 use Rattle.gateway.specs.Entry as Entry
 use Rattle.gateway.specs.Fits.{InboundFits}
 use Rattle.gateway.specs.Invariant.{Known}
 use Rattle.gateway.specs.Calls.{Gateway, call, plan, mail-of, carry-out, within, receive-from}
 use Rattle.store.specs.Cells as C
-use Rattle.store.specs.Layout.{cell, Holds}
-use Rattle.store.specs.View.{Row, word, flag, account, wallet, bucket, gateway, Is}
+use Rattle.store.specs.Layout.{cell}
+use Rattle.store.specs.View.{account, wallet, bucket, gateway, Is}
 use Rattle.clients.specs.Clients as Clients
 use Rattle.clients.proofs.Laws.{plus-one}
-use Rattle.clients.proofs.Views.{account-at-row, account-past, wallet-at-row, bucket-at-row, bucket-view}
+use Rattle.clients.proofs.Views.{wallet-at-row, bucket-view}
 use Rattle.sound.specs.Sound.{State, Becomes}
 use Rattle.sound.proofs.Kept.{becomes}
 use Rattle.sound.proofs.Clients.{bucket-sound}
@@ -50,40 +47,12 @@ use Rattle.outcome.proofs.Laws.{then-becomes}
 use Rattle.outcome.proofs.Calls.{within-short, within-fits, ended}
 use Rattle.outcome.proofs.Heard.{hear-plan}
 use Rattle.commands.specs.Commands as Commands
-use Rattle.orderentry.specs.OrderEntry.{first, or-else, Exists, other-tests, with-bucket, after, other-plan, Does}
-use Rattle.orderentry.proofs.Judging.{or-first, joined, unless-passed, unless-failed}
+use Rattle.pretrade.specs.Pretrade.{first, Exists, other-tests}
+use Rattle.orderentry.specs.OrderEntry.{with-bucket, after, other-plan, Does}
+use Rattle.pretrade.proofs.Judging.{joined, unless-passed, unless-failed}
+use Rattle.pretrade.proofs.Existing.{slot}
 
 -- ---- the account
-
-pub there : {A : Type 0} (b : Bool) (x : A) → is-some (cond b (some x) none) ≡ true → cond b (some x) none ≡ some x
-there true x e = refl
-there false x e = absurd (false≢true e)
-
-module _ {a : ℕ} {xs : List ℕ} (h : Exists a xs) where
-  abbrev row : Row
-  row = cell xs C.accounts a
-
-  limited : a < word (cell xs) C.owner-limit
-  limited =
-      ⊎-elim (λ (l : a < word (cell xs) C.owner-limit). l)
-      (λ l. absurd (false≢true (ap is-some (sym (account-past a (cell xs) l)) ∙ h .exists))) (lt-or-le a (word (cell xs) C.owner-limit))
-
-  pub slot : a < owner-slots
-  slot = let b = h .between .state .sound .tables .ordered .bounds .accounts-fit in omega (arith, limited)
-
-  pub account-is : account-at a (gateway (cell xs) .core) ≡ some (record { id = a; token = row C.account-token; «max_open_orders» = row C.account-max-open; «messages_per_second» = row C.account-rate; funds = Clients.funds row })
-  account-is =
-      let e = account-at-row a (cell xs) limited in
-      e ∙ there (flag (row C.account-exists)) _ (ap is-some (sym e) ∙ h .exists)
-
-  pub rate-needs : Holds xs × (a < owner-slots) × Clients.LimitsFit row
-  rate-needs = (h .between .state .holds, slot, h .between .state .sound .clients .limited .limits a slot)
-
-  pub row-needs : Holds xs × (a < owner-slots)
-  row-needs = (h .between .state .holds, slot)
-
-  pub token-is : (t r : ℕ) (b : Bucket) (x : Taken) → r ≡ row C.account-rate → b ≡ bucket row → x ≡ Throttle.take-token r t b → x ≡ taken a (gateway (cell xs) .core) (at-time t (rest-of xs))
-  token-is t r b x e f g = g ∙ ap₂ (λ n d. Throttle.take-token n t d) (e ∙ sym (ap rate-of account-is)) (f ∙ sym (bucket-at-row a (cell xs) slot))
 
 pub exists : {s a : ℕ} {xs : List ℕ} → Speaks s (some a) xs → Exists a xs
 exists {s} {a} {xs} h =
@@ -144,12 +113,6 @@ module _ (xs out : List ℕ) (s a : ℕ) (b : Bucket) (why : RejectCode) (ref t 
   refuse-done l d e = does-send xs out (send s (Out.Reject why ref)) (after s a b t) p room l d e
 
 -- ---- a command that places nothing
-
-pub other-is : (g : Gateway) (can passed allowed : Bool) (x y u z v : Why.MaybeRejectCode) → can ≡ Commands.can-number g → x ≡ first ((Unavailable, can) ∷ []) → y ≡ first ((NotAllowed, allowed) ∷ []) → u ≡ or-else y x →
-    z ≡ first ((Throttled, passed) ∷ []) → v ≡ or-else z u → v ≡ first (other-tests passed allowed g)
-other-is g can passed allowed x y u z v e x-is y-is u-is z-is v-is =
-    v-is ∙ ap₂ or-else z-is (u-is ∙ ap₂ or-else y-is x-is ∙ or-first NotAllowed allowed ((Unavailable, can) ∷ []))
-    ∙ or-first Throttled passed ((NotAllowed, allowed) ∷ (Unavailable, can) ∷ []) ∙ ap (λ b. first ((Throttled, passed) ∷ (NotAllowed, allowed) ∷ (Unavailable, b) ∷ [])) e
 
 pub push-needs : (xs : List ℕ) {ys : List ℕ} (s a : ℕ) (b : Bucket) (k : Command) (t : ℕ) → Commands.can-number (gateway (cell xs)) ≡ true → Commands.Plain a k → Becomes ys (with-rest (after s a b t) (gateway (cell xs))) →
     State ys × (Commands.can-number (gateway (cell ys)) ≡ true) × Commands.Plain a k
@@ -243,4 +206,4 @@ pub plain-mass : (a : ℕ) → Commands.Plain a (CancelAll a)
 unfolding order-of owner-of
 plain-mass a = record { batched = tt; owner-is = refl; places-nothing = refl }
 
-pub ruleset messages = (rate-needs, row-needs, token-is, bucket-becomes, begin-becomes, refuse-short, refuse-done, other-is, push-becomes, arith)
+pub ruleset messages = (bucket-becomes, begin-becomes, refuse-short, refuse-done, push-becomes, arith)

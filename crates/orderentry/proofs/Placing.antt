@@ -45,10 +45,11 @@ use Rattle.outcome.specs.Answers.{Gives}
 use Rattle.outcome.proofs.Laws.{then-becomes}
 use Rattle.commands.specs.Commands as Commands
 use Rattle.commands.proofs.Numbering as Numbering
-use Rattle.orderentry.specs.OrderEntry.{first, or-else, paper, the-command, has-place, has-room, new-order-tests, after, Stands, CanPlace, in-book, placed, Does}
-use Rattle.orderentry.proofs.Judging.{or-append, unless-passed, unless-failed}
+use Rattle.pretrade.specs.Pretrade.{first, or-else, paper, the-command, has-place, has-room, new-order-tests, Stands}
+use Rattle.orderentry.specs.OrderEntry.{after, CanPlace, in-book, placed, Does}
+use Rattle.pretrade.proofs.Judging.{or-append, unless-passed, unless-failed}
 use Rattle.orderentry.proofs.Messages.{does-record, gives}
-use Rattle.orderentry.proofs.Testing.{account-stands, notice-stands, owner-is, order-is}
+use Rattle.pretrade.proofs.Testing.{account-stands, notice-stands, owner-is, order-is}
 
 -- ---- numbered, placed and in the batch
 

@@ -36,7 +36,7 @@ use Rattle.outcome.specs.Between.{Between}
 use Rattle.outcome.specs.Answers.{verdict}
 use Rattle.outcome.specs.Parts.{rest-of}
 use Rattle.commands.proofs.Numbering.{flights-are}
-use Rattle.orderentry.proofs.Testing.{more-fits}
+use Rattle.pretrade.proofs.Testing.{more-fits}
 use Rattle.delivery.specs.Delivery.{check}
 use Rattle.replay.specs.declared.Terms.{Terms}
 use Rattle.replay.specs.declared.Tests as T

@@ -25,7 +25,7 @@ use Rattle.gateway.specs.Core.{own-number, owner-below}
 use Rattle.gateway.specs.Bytes.{price-flag, price-word}
 use Rattle.gateway.specs.Fits.{PriceFits}
 use Rattle.pending.specs.Pending.{MaybeFits}
-use Rattle.orderentry.proofs.Testing.{signed, stored}
+use Rattle.pretrade.proofs.Testing.{signed, stored}
 use Rattle.replay.specs.declared.Terms.{Terms}
 use Rattle.replay.specs.Replay.{Places, Plain, Reads}
 

@@ -1,4 +1,5 @@
-use Rattle.orderentry.proofs.Messages.{exists, slot, other-passes, other-refused, other-done}
+use Rattle.pretrade.proofs.Existing.{slot}
+use Rattle.orderentry.proofs.Messages.{exists, other-passes, other-refused, other-done}
 use borrow.Author.Needs.{needs}
 use Rattle.orderentry.proofs.enter_other.Statement.{statement}
 use Rattle.orderentry.proofs.enter_other.Tie as tie

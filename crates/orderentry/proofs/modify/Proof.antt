@@ -1,5 +1,6 @@
 use Rattle.words.proofs.Int.{read}
-use Rattle.orderentry.proofs.Messages.{exists, row-needs, account-cast, plain-modify, modify-done}
+use Rattle.pretrade.proofs.Existing.{row-needs}
+use Rattle.orderentry.proofs.Messages.{exists, account-cast, plain-modify, modify-done}
 use borrow.Author.Needs.{needs}
 use Rattle.orderentry.proofs.modify.Statement.{statement}
 use Rattle.orderentry.proofs.modify.Tie as tie

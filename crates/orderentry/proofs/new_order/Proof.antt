@@ -1,5 +1,6 @@
 use Rattle.orderentry.proofs.Placing.{new-passes, new-refused, new-done}
-use Rattle.orderentry.proofs.Messages.{exists, slot}
+use Rattle.pretrade.proofs.Existing.{slot}
+use Rattle.orderentry.proofs.Messages.{exists}
 use borrow.Author.Needs.{needs}
 use Rattle.orderentry.proofs.new_order.Statement.{statement}
 use Rattle.orderentry.proofs.new_order.Tie as tie

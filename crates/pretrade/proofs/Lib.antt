@@ -1,0 +1,4 @@
+pub mod Judging
+pub mod Existing
+pub mod Testing
+pub mod Collars

@@ -1,0 +1,20 @@
+use Rattle.pretrade.proofs.Testing.{free-is, not-free}
+use Rattle.pretrade.proofs.Existing.{row-needs}
+use borrow.Author.Needs.{needs}
+use Rattle.pretrade.proofs.is_free.Statement.{statement}
+use Rattle.pretrade.proofs.is_free.Tie as tie
+
+wallet-at-requires : tie.Need-wallet-at-requires
+wallet-at-requires c κs = row-needs (c .before .before .pre .0)
+
+covers-requires : tie.Need-covers-requires
+covers-requires c κs = search needs
+
+returns : tie.Need-returns
+returns c = let s = c .before .before .before .before in free-is (s .pre .0) (s .pre .1) (s .args .side) _ _ _ (c .before .before .if1 .taken) (c .before .wallet-at .ensures) (c .covers .ensures)
+
+returns-2 : tie.Need-returns-2
+returns-2 c = let s = c .before .before in not-free (s .pre .0) (s .pre .1) (s .args .side) _ (s .fits .hold .fits) (c .if1 .left)
+
+pub is-free-spec : {M : Type 1} → statement M
+is-free-spec = tie.close (tie.spec wallet-at-requires covers-requires returns returns-2)
