@@ -2,7 +2,7 @@
 use Prim.Native.Nat.{ℕ, _*_}
 use mathlib.Core.Path.{_≡_, refl, sym, ap, subst, _∙_}
 use mathlib.Core.Bool.{Bool, true, false, cond, _&&_, and-true, and-false, and-eq-true-iff}
-use mathlib.Core.Option.{Option, none, some}
+use mathlib.Core.Option.{Option}
 use mathlib.Core.List.{List}
 use borrow.Author.Needs.{needs}
 use borrow.Author.Tests.{eq-eqb, ne-eqb, eqb-true}
@@ -13,7 +13,6 @@ use Rattle.orderbook.specs.declared.Event.{Event}
 use Rattle.orderbook.specs.declared.Command.{Command}
 use Rattle.protocol.specs.declared.Inbound.{Inbound}
 use Rattle.protocol.specs.declared.LogoutReason.{LogoutReason}
-use Rattle.protocol.specs.declared.codes.MaybeLogoutReason as M
 use Rattle.protocol.specs.Codes.{logoutOf}
 use Rattle.accounts.specs.declared.Account.{Account}
 use Rattle.risk.specs.declared.MaybePercent as Percent
@@ -28,7 +27,6 @@ use Rattle.store.specs.View as View
 use Rattle.store.specs.View.{gateway, maybe}
 use Rattle.outcome.specs.Between.{Between}
 use Rattle.outcome.specs.Answers.{Ends, Answers, Said}
-use Rattle.protocol.specs.declared.Balance.{Balance}
 use Rattle.balances.specs.declared.MaybeBalance as Ba
 use Rattle.balances.specs.Balances.{maybe-balance}
 use Rattle.commands.specs.declared.MaybeId as Id
@@ -36,10 +34,10 @@ use Rattle.commands.specs.Commands.{maybe-id}
 use Rattle.script.specs.Script.{word-at, message-of, event-of}
 use Rattle.script.specs.Strict.{is-message, is-event, is-command, is-account, message-fits, event-fits, owned-fits, account-fits}
 use Rattle.script.specs.Records.{command-of, account-of}
-use Rattle.edge.specs.declared.Wallet.{Wallet}
-use Rattle.edge.specs.declared.Account as A
+use Rattle.numbers.specs.declared.Wallet.{Wallet}
+use Rattle.numbers.specs.declared.Account as A
 use Rattle.edge.specs.Entering.{Lent, whole, asked, Enters}
-use Rattle.edge.specs.Values.{is-reason, reason-or, wallet-in, no-wallet, IsWallet, account-in, IsAccount}
+use Rattle.numbers.specs.Numbers.{reason-or, wallet-in, no-wallet, IsWallet, account-in, IsAccount}
 
 -- ---- the length
 
@@ -152,31 +150,7 @@ module _ (xs ys : List ℕ) (b d ok : Bool) (kept : Type 0) (tells : Answer → 
   pub collared : (n p : ℕ) (v : Percent.MaybePercent) → percent-of v ≡ maybe n p → Answers (call (gateway (cell xs)) (C.set-paper-collar (percent-of v))) kept tells code xs ys → Enters (asked ok xs (C.set-paper-collar (maybe n p))) kept tells code xs ys
   collared n p v q h = entered-as _ _ (ap C.set-paper-collar q) h
 
--- ---- values
-
-pub reason-yes : (why : ℕ) (m : M.MaybeLogoutReason) (x : LogoutReason) → m ≡ logoutOf why → m ≡ M.the-variants.Some x → true ≡ is-reason (logoutOf why)
-reason-yes why m x e f = rw (← e, f) refl
-
-pub reason-no : (why : ℕ) (m : M.MaybeLogoutReason) → m ≡ logoutOf why → m ≡ M.the-variants.None → false ≡ is-reason (logoutOf why)
-reason-no why m e f = rw (← e, f) refl
-
-pub some-balance : (v : Ba.MaybeBalance) (x : Balance) → v ≡ Ba.the-variants.Some x → maybe-balance v ≡ some x
-some-balance v x e = ap maybe-balance e
-
-pub no-balance : (v : Ba.MaybeBalance) (w : Wallet) → v ≡ Ba.the-variants.None → w ≡ no-wallet 0 → IsWallet v w
-no-balance v w e f = subst (IsWallet v) (sym f) (record { code-is = refl; same = ap maybe-balance e })
-
-pub some-id : (v : Id.MaybeId) (i : ℕ) → v ≡ Id.the-variants.Some i → maybe-id v ≡ some i
-some-id v i e = ap maybe-id e
-
-pub no-id : (v : Id.MaybeId) → v ≡ Id.the-variants.None → maybe-id v ≡ none
-no-id v e = ap maybe-id e
-
-pub no-percent : (n p : ℕ) → n ≡ 0 → percent-of Percent.the-variants.None ≡ maybe n p
-no-percent n p h = rw (eq-eqb n 0 h) refl
-
-pub a-percent : (n p : ℕ) → (n ≡ 0 → ⊥) → percent-of (Percent.the-variants.Some p) ≡ maybe n p
-a-percent n p h = rw (ne-eqb n 0 h) refl
+-- ---- an answer in numbers
 
 module _ (xs ys : List ℕ) where
   pub wallet-told : (a : ℕ) (v : Ba.MaybeBalance) (w : Wallet) → length xs ≡ 565504 → IsWallet v w → Answers (call (gateway (cell xs)) (C.wallet a)) (Unit {0}) (Said (wallet-is (maybe-balance v))) 0 xs ys → Enters (asked true xs (C.wallet a)) (Unit {0}) (Said (wallet-is (wallet-in w))) (w .code) xs ys
@@ -196,4 +170,4 @@ module _ (xs ys : List ℕ) where
       (subst (λ (o : Option ℕ). Enters (asked true xs (C.detach s)) (Unit {0}) (Said (account-was o)) 0 xs ys) (i .same)
       (held xs (Unit {0}) (Said (account-was (maybe-id v))) (C.detach s) 0 ys t h))
 
-pub ruleset laws = (needs, is-whole-yes, is-whole-no, lent-between, between, held, held-no, message-sized, event-sized, command-sized, account-sized, entered, malformed-no, received, redelivered, replayed, joined, ended, levelled, collared, reason-yes, reason-no, some-balance, no-balance, some-id, no-id, no-percent, a-percent, wallet-told, wallet-malformed, account-told)
+pub ruleset laws = (needs, is-whole-yes, is-whole-no, lent-between, between, held, held-no, message-sized, event-sized, command-sized, account-sized, entered, malformed-no, received, redelivered, replayed, joined, ended, levelled, collared, wallet-told, wallet-malformed, account-told)

@@ -15,7 +15,7 @@ use Rattle.store.specs.View.{gateway}
 use Rattle.outcome.specs.Between.{Between}
 use Rattle.outcome.specs.Answers.{Ends, Sent, Listed, Said}
 use Rattle.checkpoint.specs.Written.{Written}
-use Rattle.edge.specs.declared.Reply.{Reply}
+use Rattle.numbers.specs.declared.Reply.{Reply}
 
 -- the caller's part, document 01's premise: bytes of a state's length are the state that the last call left
 pub record Lent (xs : List ℕ) : Type 0 where

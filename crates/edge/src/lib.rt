@@ -2,12 +2,10 @@
 // A slice arrives as its address and its length. Bytes that have not a state's length, a row of another length than its own, and a number outside
 // its enum or its integer type get 11 and change nothing. What the caller has to see to is document 01's premise alone (`Lent`).
 use accounts::Timing;
-use balances::MaybeBalance;
-use commands::MaybeId;
-use protocol::LogoutReason;
-use protocol::codes;
-use protocol::codes::MaybeLogoutReason;
-use risk::MaybePercent;
+use numbers::Account;
+use numbers::Number;
+use numbers::Reply;
+use numbers::Wallet;
 use script::records;
 use script::strict;
 ghost use mathlib.Core.Path.{_≡_};
@@ -16,7 +14,6 @@ ghost use Prim.Native.Nat.{_/_};
 ghost use lib.Dec.{leb};
 ghost use lib.ListN.{length, drop};
 ghost use Rattle.protocol.specs.Codes.{logoutOf};
-ghost use Rattle.risk.specs.Collar.{percent-of};
 ghost use Rattle.gateway.specs.Entry.{nothing, account-was, wallet-is, number-is};
 ghost use Rattle.gateway.specs.Calls as C;
 ghost use Rattle.gateway.specs.Start.{set-up, restore};
@@ -29,41 +26,8 @@ ghost use Rattle.script.specs.Strict.{is-message, is-event, is-command, is-acco
 ghost use Rattle.script.specs.Records.{command-of, account-of, accounts-in};
 ghost use Rattle.opening.specs.Starts.{Starts};
 ghost use Rattle.lists.specs.Lists.{is-listing, are-rows};
+ghost use Rattle.numbers.specs.Numbers as P;
 ghost use Rattle.edge.specs.Entering.{Lent, whole, begins, asked, Gives, Lists, Writes, Says};
-ghost use Rattle.edge.specs.Values as P;
-
-// A code, and how many rows (of a checkpoint: bytes) were written.
-#[repr(C)]
-pub struct Reply {
-    pub code: u64,
-    pub count: usize,
-}
-
-// A code, and a number.
-#[repr(C)]
-pub struct Number {
-    pub code: u64,
-    pub number: u64,
-}
-
-// A code; whether there is an account, and which.
-#[repr(C)]
-pub struct Account {
-    pub code: u64,
-    pub there: u64,
-    pub account: u64,
-}
-
-// A code; whether there is a wallet, and what is in it and held.
-#[repr(C)]
-pub struct Wallet {
-    pub code: u64,
-    pub there: u64,
-    pub cash: i64,
-    pub position: i64,
-    pub cash_held: i64,
-    pub position_held: i64,
-}
 
 // Whether the bytes have a state's length, and what is lent beside them is well formed.
 fn is_whole(m: &[u8], ok: bool) -> bool
@@ -143,35 +107,6 @@ pub extern "C" fn rowanchess_last_seq(m: &[u8]) -> Number
     }
 }
 
-fn wallet_of(b: MaybeBalance) -> Wallet
-    ensures { λ r. ⌜ P.IsWallet b r ⌝ }
-{
-    match b {
-        MaybeBalance::Some(x) => Wallet {
-            code: 0,
-            there: 1,
-            cash: x.cash,
-            position: x.position,
-            cash_held: x.cash_held,
-            position_held: x.position_held,
-        },
-        MaybeBalance::None => no_wallet(0),
-    }
-}
-
-fn no_wallet(code: u64) -> Wallet
-    ensures { λ r. ⌜ r ≡ P.no-wallet code ⌝ }
-{
-    Wallet {
-        code,
-        there: 0,
-        cash: 0,
-        position: 0,
-        cash_held: 0,
-        position_held: 0,
-    }
-}
-
 #[no_mangle]
 pub extern "C" fn rowanchess_wallet(m: &[u8], account: u32) -> Wallet
     requires { ⌜ Lent (now m) ⌝ }
@@ -179,9 +114,9 @@ pub extern "C" fn rowanchess_wallet(m: &[u8], account: u32) -> Wallet
 {
     if m.len() == store::SIZE {
         let b = balances::wallet(m, account);
-        return wallet_of(b);
+        return numbers::wallet_of(b);
     }
-    no_wallet(outcome::MALFORMED)
+    numbers::no_wallet(outcome::MALFORMED)
 }
 
 // The levels of a side, best price first: rows of 3 words. A side is 0 for buy, 1 for sell.
@@ -204,15 +139,6 @@ pub extern "C" fn rowanchess_levels(m: &[u8], side: u64, out: &mut [u8]) -> Repl
     }
 }
 
-fn percent_of(there: u64, percent: u32) -> MaybePercent
-    ensures { λ r. ⌜ percent-of r ≡ View.maybe there percent ⌝ }
-{
-    if there == 0 {
-        return MaybePercent::None;
-    }
-    MaybePercent::Some(percent)
-}
-
 // `there` is 0 for no collar, else 1.
 #[no_mangle]
 pub extern "C" fn rowanchess_set_paper_collar(m: &mut [u8], there: u64, percent: u32) -> u64
@@ -220,7 +146,7 @@ pub extern "C" fn rowanchess_set_paper_collar(m: &mut [u8], there: u64, percent:
     ensures { λ r. ⌜ Says nothing (asked (leb there 1) (now (m .entry)) (C.set-paper-collar (View.maybe there percent))) r (now (m .entry)) (now (m .exit)) ⌝ }
 {
     if is_whole(m, there <= 1) {
-        let p = percent_of(there, percent);
+        let p = numbers::percent_of(there, percent);
         pretrade::collar::set_paper_collar(m, p);
         return 0;
     }
@@ -302,32 +228,14 @@ pub extern "C" fn rowanchess_publish(m: &mut [u8], out: &mut [u8]) -> Reply
     }
 }
 
-fn is_reason(why: u8) -> bool
-    ensures { λ r. ⌜ r ≡ P.is-reason (logoutOf why) ⌝ }
-{
-    match codes::logout_of(why) {
-        MaybeLogoutReason::Some(_) => true,
-        MaybeLogoutReason::None => false,
-    }
-}
-
-fn reason(why: u8) -> LogoutReason
-    ensures { λ r. ⌜ r ≡ P.reason-or (logoutOf why) ⌝ }
-{
-    match codes::logout_of(why) {
-        MaybeLogoutReason::Some(x) => x,
-        MaybeLogoutReason::None => LogoutReason::Requested,
-    }
-}
-
 // `why` is the code of a reason to log out.
 #[no_mangle]
 pub extern "C" fn rowanchess_end(m: &mut [u8], session: usize, why: u8, out: &mut [u8]) -> Reply
     requires { ⌜ Lent (now m) ⌝ }
     ensures { λ r. ⌜ Gives (asked (P.is-reason (logoutOf why)) (now (m .entry)) (C.end-session session (P.reason-or (logoutOf why)) (places (length (now (out .entry)))))) r (now (m .entry)) (now (m .exit)) (now (out .entry)) (now (out .exit)) ⌝ }
 {
-    if is_whole(m, is_reason(why)) {
-        let x = reason(why);
+    if is_whole(m, numbers::is_reason(why)) {
+        let x = numbers::reason(why);
         let r = sessions::end(m, session, x, out);
         return Reply {
             code: r.code,
@@ -369,23 +277,6 @@ pub extern "C" fn rowanchess_disconnect(m: &mut [u8], session: usize) -> u64
     outcome::MALFORMED
 }
 
-fn account_of(a: MaybeId) -> Account
-    ensures { λ r. ⌜ P.IsAccount a r ⌝ }
-{
-    match a {
-        MaybeId::Some(id) => Account {
-            code: 0,
-            there: 1,
-            account: id as u64,
-        },
-        MaybeId::None => Account {
-            code: 0,
-            there: 0,
-            account: 0,
-        },
-    }
-}
-
 #[no_mangle]
 pub extern "C" fn rowanchess_detach(m: &mut [u8], session: usize) -> Account
     requires { ⌜ Lent (now m) ⌝ }
@@ -393,7 +284,7 @@ pub extern "C" fn rowanchess_detach(m: &mut [u8], session: usize) -> Account
 {
     if m.len() == store::SIZE {
         let a = commands::detach(m, session);
-        return account_of(a);
+        return numbers::account_of(a);
     }
     Account {
         code: outcome::MALFORMED,

@@ -14,8 +14,8 @@ use Rattle.balances.specs.declared.MaybeBalance as Ba
 use Rattle.balances.specs.Balances.{maybe-balance}
 use Rattle.commands.specs.declared.MaybeId as Id
 use Rattle.commands.specs.Commands.{maybe-id}
-use Rattle.edge.specs.declared.Wallet.{Wallet}
-use Rattle.edge.specs.declared.Account.{Account}
+use Rattle.numbers.specs.declared.Wallet.{Wallet}
+use Rattle.numbers.specs.declared.Account.{Account}
 
 -- ---- reasons
 

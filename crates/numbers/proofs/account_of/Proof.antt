@@ -1,7 +1,7 @@
-use Rattle.edge.proofs.Laws.{laws}
+use Rattle.numbers.proofs.Laws.{laws}
 use borrow.Author.Needs.{needs}
-use Rattle.edge.proofs.account_of.Statement.{statement}
-use Rattle.edge.proofs.account_of.Tie as tie
+use Rattle.numbers.proofs.account_of.Statement.{statement}
+use Rattle.numbers.proofs.account_of.Tie as tie
 
 enum-known-a : tie.Need-enum-known-a
 enum-known-a c = search needs

@@ -1,7 +1,7 @@
-use Rattle.edge.proofs.Laws.{laws}
+use Rattle.numbers.proofs.Laws.{laws}
 use borrow.Author.Needs.{needs}
-use Rattle.edge.proofs.wallet_of.Statement.{statement}
-use Rattle.edge.proofs.wallet_of.Tie as tie
+use Rattle.numbers.proofs.wallet_of.Statement.{statement}
+use Rattle.numbers.proofs.wallet_of.Tie as tie
 
 enum-known-b : tie.Need-enum-known-b
 enum-known-b c = search needs
