@@ -4,29 +4,13 @@ ghost use Rattle.edge.specs.Entering.{Lent};
 
 // ---- two gateways
 
-// Every account's wallet, and the last number.
-fn are_alike(m: &[u8], s: &[u8]) -> bool
-    requires { ⌜ Lent (now m) × Lent (now s) ⌝ }
-{
-    let mut a: u64 = 0;
-    while a < 256 {
-        let first = playing::standing(m, a);
-        let second = playing::standing(s, a);
-        if !stored::agrees(b"second gateway", &first, &second) {
-            return false;
-        }
-        a += 1;
-    }
-    true
-}
-
 fn play_second(fd: i32, m: &[u8], s: &mut [u8], row: [u8; 128]) -> bool
     requires { ⌜ Lent (now m) × Lent (now s) ⌝ }
     ensures { λ r. ⌜ Lent (now (s .exit)) ⌝ }
 {
     let same = conformance::play_any(fd, s, stored::plain(row));
     if same && stored::gateway_of(&row) == 2 {
-        return are_alike(m, s);
+        return playing::are_alike(m, s);
     }
     same
 }

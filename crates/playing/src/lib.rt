@@ -54,7 +54,7 @@ fn last_seq(m: &[u8], got: &mut [u8])
 }
 
 // An account's wallet and the last number.
-pub fn standing(m: &[u8], account: u64) -> [u8; 128]
+fn standing(m: &[u8], account: u64) -> [u8; 128]
     requires { ⌜ Lent (now m) ⌝ }
 {
     let mut got = [0u8; 128];
@@ -63,6 +63,22 @@ pub fn standing(m: &[u8], account: u64) -> [u8; 128]
     last_seq(m, &mut got);
     wallet(m, &row, &mut got);
     got
+}
+
+// Whether two gateways have every account's wallet and the last number alike.
+pub fn are_alike(m: &[u8], s: &[u8]) -> bool
+    requires { ⌜ Lent (now m) × Lent (now s) ⌝ }
+{
+    let mut a: u64 = 0;
+    while a < 256 {
+        let first = standing(m, a);
+        let second = standing(s, a);
+        if !stored::agrees(b"second gateway", &first, &second) {
+            return false;
+        }
+        a += 1;
+    }
+    true
 }
 
 fn levels(m: &[u8], row: &[u8], got: &mut [u8], out: &mut [u8])

@@ -1,7 +1,7 @@
 use Prim.Native.Nat.{_-_}
 use borrow.Author.Needs.{needs}
-use Rattle.player.proofs.are_alike.Statement.{statement}
-use Rattle.player.proofs.are_alike.Tie as tie
+use Rattle.playing.proofs.are_alike.Statement.{statement}
+use Rattle.playing.proofs.are_alike.Tie as tie
 
 abbrev Inv-loop : tie.InvT-loop
 Inv-loop m s a₀ t6 a = Unit {0}
