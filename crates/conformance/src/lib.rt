@@ -1,5 +1,4 @@
 // A row of a stored file on one gateway: its call is made by the entry points, and the answer held to the Rust's.
-use stored::put;
 use stored::word;
 ghost use Rattle.edge.specs.Entering.{Lent};
 
@@ -20,8 +19,8 @@ fn play(m: &mut [u8], row: [u8; 128], rows: [u8; 24576]) -> bool
 {
     let mut out = [0xa5u8; 24576];
     let mut got = stored::unanswered(row);
-    let lent = stored::bytes_of(&row, word(&row, 1));
-    let given = stored::bytes_of(&row, word(&row, 3));
+    let lent = stored::lent(&row);
+    let given = stored::given(&row);
     call(m, &row, &rows[..given], &mut got, &mut out[..lent]);
     stored::agree(&row, &got, &rows, &out)
 }
@@ -59,12 +58,10 @@ fn play_start(fd: i32, m: &mut [u8], row: [u8; 128]) -> bool
     let mut accounts = [0u8; 14336];
     stored::read_accounts(fd, &mut accounts, n);
     let rows = stored::read_rows(fd, &row);
-    let given = stored::bytes_of(&row, word(&row, 3));
+    let given = stored::given(&row);
     let end = 56 * n;
     let code = replaying::start(m, &row, &accounts[..end], &rows[..given]);
-    let mut got = stored::unanswered(row);
-    put(&mut got, 2, code);
-    stored::answers(&row, &got)
+    stored::answers_code(row, code)
 }
 
 pub fn play_any(fd: i32, m: &mut [u8], row: [u8; 128]) -> bool

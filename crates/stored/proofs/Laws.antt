@@ -1,6 +1,6 @@
 -- The words of a row, the kinds of calls, and what two comparisons tell. Assumes nothing.
 use Prim.Native.Nat.{ℕ, _+_, _*_, _/_, _%_, _^_, _≤_, _<_, min}
-use mathlib.Core.Path.{_≡_, refl, sym, ap, _∙_}
+use mathlib.Core.Path.{_≡_, refl, sym, ap, subst, _∙_}
 use mathlib.Core.Bool.{Bool, true, false, false≢true}
 use mathlib.Core.List.{List, [], _∷_}
 use mathlib.Core.Logic.{inl, inr, ⊎-elim}
@@ -193,5 +193,9 @@ tells-yes b A t e = (λ _. t .0 e, λ _. refl)
 
 pub tells-no : (b : Bool) (A : Type 0) → R.Tells b A → b ≡ false → R.Tells false A
 tells-no b A t e = (λ f. absurd (false≢true f), λ h. sym e ∙ t .1 h)
+
+-- the row that a code alone answers
+pub code-told : (row bare got : List ℕ) (k : ℕ) (r : Bool) → bare ≡ R.unanswered row → got ≡ R.put-at bare 2 k → R.Tells r (row ≡ got) → R.Tells r (row ≡ R.put-at (R.unanswered row) 2 k)
+code-told row bare got k r e f = subst (λ (x : List ℕ). R.Tells r (row ≡ x)) (f ∙ ap (λ (y : List ℕ). R.put-at y 2 k) e)
 
 pub ruleset laws = (needs, not-true, not-false, load-some, load-none, word-in, word-out, put-in, put-out, put-then, plain-is, moved-none, moved-more, moved-all, grows-in, grows-out, grow-yes, grow-no, grown-none, grown-more, grown-all, given-yes, given-no, start-yes, start-no, is-given, is-start, bytes-level, bytes-order, bytes-one, bytes-else, cleared-given, cleared-open, begins-both, begins-not, calls-is, counted-first, counted-more, agree-not, agree-given, agree-rows, tells-yes, tells-no)

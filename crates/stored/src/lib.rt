@@ -141,7 +141,7 @@ pub fn at_most(n: u64, most: usize) -> usize
 }
 
 // The bytes of n places of the call: of a level 24, of a listed order 64, of a checkpoint 1, of all else 96. No more are lent than there are.
-pub fn bytes_of(row: &[u8], n: u64) -> usize
+fn bytes_of(row: &[u8], n: u64) -> usize
     ensures { λ r. ⌜ r ≤ 24576 ⌝ }
     ensures { λ r. ⌜ r ≡ R.bytes-at (now (row .entry)) n ⌝ }
 {
@@ -153,10 +153,26 @@ pub fn bytes_of(row: &[u8], n: u64) -> usize
     }
 }
 
+// Of the places that are lent to the call.
+pub fn lent(row: &[u8]) -> usize
+    ensures { λ r. ⌜ r ≤ 24576 ⌝ }
+    ensures { λ r. ⌜ r ≡ R.bytes-at (now (row .entry)) (R.word-at (now (row .entry)) 1) ⌝ }
+{
+    bytes_of(row, word(row, 1))
+}
+
+// Of the rows that follow the call's.
+pub fn given(row: &[u8]) -> usize
+    ensures { λ r. ⌜ r ≤ 24576 ⌝ }
+    ensures { λ r. ⌜ r ≡ R.bytes-at (now (row .entry)) (R.word-at (now (row .entry)) 3) ⌝ }
+{
+    bytes_of(row, word(row, 3))
+}
+
 // The rows that follow the call's, in whole words.
 pub fn read_rows(fd: i32, row: &[u8]) -> [u8; 24576] {
     let mut rows = [0xa5u8; 24576];
-    let n = bytes_of(row, word(row, 3));
+    let n = given(row);
     let whole = 8 * ((n + 7) / 8);
     io::read_full(fd, &mut rows[..whole]);
     rows
@@ -210,6 +226,15 @@ pub fn unanswered(row: [u8; 128]) -> [u8; 128]
         put(&mut got, 3, 0);
     }
     got
+}
+
+// Whether the row's answer is this code, with nothing else.
+pub fn answers_code(row: [u8; 128], code: u64) -> bool
+    ensures { λ r. ⌜ R.Tells r (row ≡ R.put-at (R.unanswered row) 2 code) ⌝ }
+{
+    let mut got = unanswered(row);
+    put(&mut got, 2, code);
+    answers(&row, &got)
 }
 
 // ---- runs: the last word of a row has how many calls follow that are like it, and in its low 16 bits the words that grow by 1 each time

@@ -7,29 +7,17 @@ use Rattle.conformance.proofs.play.Tie as tie
 unanswered-requires : tie.Need-unanswered-requires
 unanswered-requires c κs = search needs
 
-slice-aggregate-bytes-of : tie.Need-slice-aggregate-bytes-of
-slice-aggregate-bytes-of c = search needs
+slice-aggregate-lent : tie.Need-slice-aggregate-lent
+slice-aggregate-lent c = search needs
 
-slice-aggregate-word : tie.Need-slice-aggregate-word
-slice-aggregate-word c = search needs
+lent-requires : tie.Need-lent-requires
+lent-requires c κs = search needs
 
-word-requires : tie.Need-word-requires
-word-requires c κs = search needs
+slice-aggregate-given : tie.Need-slice-aggregate-given
+slice-aggregate-given c = search needs
 
-bytes-of-requires : tie.Need-bytes-of-requires
-bytes-of-requires c κs = search needs
-
-slice-aggregate-bytes-of-2 : tie.Need-slice-aggregate-bytes-of-2
-slice-aggregate-bytes-of-2 c = search needs
-
-slice-aggregate-word-2 : tie.Need-slice-aggregate-word-2
-slice-aggregate-word-2 c = search needs
-
-word-requires-2 : tie.Need-word-requires-2
-word-requires-2 c κs = search needs
-
-bytes-of-requires-2 : tie.Need-bytes-of-requires-2
-bytes-of-requires-2 c κs = search needs
+given-requires : tie.Need-given-requires
+given-requires c κs = search needs
 
 slice-aggregate-call : tie.Need-slice-aggregate-call
 slice-aggregate-call c = search needs
@@ -66,14 +54,10 @@ play-spec =
     tie.close
     (tie.spec
     unanswered-requires
-    slice-aggregate-bytes-of
-    slice-aggregate-word
-    word-requires
-    bytes-of-requires
-    slice-aggregate-bytes-of-2
-    slice-aggregate-word-2
-    word-requires-2
-    bytes-of-requires-2
+    slice-aggregate-lent
+    lent-requires
+    slice-aggregate-given
+    given-requires
     slice-aggregate-call
     array-share-prefix-rows
     slice-aggregate-call-2

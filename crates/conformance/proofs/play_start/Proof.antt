@@ -25,17 +25,11 @@ slice-aggregate-read-rows c = search needs
 read-rows-requires : tie.Need-read-rows-requires
 read-rows-requires c κs = search needs
 
-slice-aggregate-bytes-of : tie.Need-slice-aggregate-bytes-of
-slice-aggregate-bytes-of c = search needs
+slice-aggregate-given : tie.Need-slice-aggregate-given
+slice-aggregate-given c = search needs
 
-slice-aggregate-word-2 : tie.Need-slice-aggregate-word-2
-slice-aggregate-word-2 c = search needs
-
-word-requires-2 : tie.Need-word-requires-2
-word-requires-2 c κs = search needs
-
-bytes-of-requires : tie.Need-bytes-of-requires
-bytes-of-requires c κs = search needs
+given-requires : tie.Need-given-requires
+given-requires c κs = search needs
 
 mul-end : tie.Need-mul-end
 mul-end c = search needs
@@ -58,17 +52,8 @@ slice-aggregate-start-3 c = simp length-take (omega arith)
 start-requires : tie.Need-start-requires
 start-requires c κs = search needs
 
-unanswered-requires : tie.Need-unanswered-requires
-unanswered-requires c κs = search needs
-
-slice-aggregate-put : tie.Need-slice-aggregate-put
-slice-aggregate-put c = search needs
-
-put-requires : tie.Need-put-requires
-put-requires c κs = search needs
-
-answers-requires : tie.Need-answers-requires
-answers-requires c κs = search needs
+answers-code-requires : tie.Need-answers-code-requires
+answers-code-requires c κs = search needs
 
 same-length : tie.Need-same-length
 same-length c = search needs
@@ -87,10 +72,8 @@ play-start-spec =
     read-accounts-requires
     slice-aggregate-read-rows
     read-rows-requires
-    slice-aggregate-bytes-of
-    slice-aggregate-word-2
-    word-requires-2
-    bytes-of-requires
+    slice-aggregate-given
+    given-requires
     mul-end
     slice-aggregate-start
     array-share-prefix-accounts
@@ -98,9 +81,6 @@ play-start-spec =
     array-share-prefix-rows
     slice-aggregate-start-3
     start-requires
-    unanswered-requires
-    slice-aggregate-put
-    put-requires
-    answers-requires
+    answers-code-requires
     same-length
     returns)

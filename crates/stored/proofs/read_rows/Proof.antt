@@ -4,11 +4,8 @@ use borrow.Author.Needs.{needs}
 use Rattle.stored.proofs.read_rows.Statement.{statement}
 use Rattle.stored.proofs.read_rows.Tie as tie
 
-word-requires : tie.Need-word-requires
-word-requires c κs = search needs
-
-bytes-of-requires : tie.Need-bytes-of-requires
-bytes-of-requires c κs = search needs
+given-requires : tie.Need-given-requires
+given-requires c κs = search needs
 
 add-whole : tie.Need-add-whole
 add-whole c = search needs
@@ -32,8 +29,7 @@ pub read-rows-spec : {M : Type 1} → statement M
 read-rows-spec =
     tie.close
     (tie.spec
-    word-requires
-    bytes-of-requires
+    given-requires
     add-whole
     mul-whole
     array-borrow-prefix-rows
