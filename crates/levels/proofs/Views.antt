@@ -52,9 +52,10 @@ module _ (z : Side) {xs ys : List ℕ} {l : List Row} (d : Did z xs ys l) where
       either (eqb b (block z)) (eqb b C.header) (eqb k (used-cell z) || eqb k (size-cell z)) (cell xs b i k) (cell ys b i k)
       (λ p q.
       sym
-      (d .kept b i k c (eqb-false b (block z) p)
-      (λ e f. true≢false (sym (both (eqb b C.header) (eqb k (used-cell z) || eqb k (size-cell z)) (eq-eqb b C.header e) (first (eqb k (used-cell z)) (eqb k (size-cell z)) (eq-eqb k (used-cell z) f))) ∙ q),
-       λ e f. true≢false (sym (both (eqb b C.header) (eqb k (used-cell z) || eqb k (size-cell z)) (eq-eqb b C.header e) (second (eqb k (used-cell z)) (eqb k (size-cell z)) (eq-eqb k (size-cell z) f))) ∙ q))))
+      (d .kept b i k c (eqb-false b (block z) p) (
+        λ e f. true≢false (sym (both (eqb b C.header) (eqb k (used-cell z) || eqb k (size-cell z)) (eq-eqb b C.header e) (first (eqb k (used-cell z)) (eqb k (size-cell z)) (eq-eqb k (used-cell z) f))) ∙ q),
+        λ e f. true≢false (sym (both (eqb b C.header) (eqb k (used-cell z) || eqb k (size-cell z)) (eq-eqb b C.header e) (second (eqb k (used-cell z)) (eqb k (size-cell z)) (eq-eqb k (size-cell z) f))) ∙ q),
+      )))
 
   pub levels-view : Bounds (cell xs) → gateway (cell ys) ≡ gateway (cell xs)
   levels-view b = sym (gateway-same (cell xs) (mixed z (cell xs) (cell ys)) b mixed-same ∙ unseen z (cell xs) (cell ys))

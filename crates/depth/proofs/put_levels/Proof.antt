@@ -57,9 +57,11 @@ loop-again c =
     let r = p .before .before .before .before in
     let d = r .before in
     let l = d .before .before in
-    let s = l .before .before .before .before in
-    (shown-more (s .args .side) (s .args .m .now) (s .args .out .now) (l .loop .i) (l .loop .j) _ _ (r .read-row .result) (l .loop .inv .0) (l .before .used .ensures) (d .before .loop-test .taken)
-    (d .nth .ensures .0) (r .read-row .ensures) (p .before .before .if1 .taken) (p .put-level .ensures) (search needs), omega (arith, d .before .loop-test .taken))
+    let s = l .before .before .before .before in (
+      shown-more (s .args .side) (s .args .m .now) (s .args .out .now) (l .loop .i) (l .loop .j) _ _ (r .read-row .result) (l .loop .inv .0) (l .before .used .ensures) (d .before .loop-test .taken)
+          (d .nth .ensures .0) (r .read-row .ensures) (p .before .before .if1 .taken) (p .put-level .ensures) (search needs),
+      omega (arith, d .before .loop-test .taken),
+    )
 
 loop-less-2 : tie.Need-loop-less-2 Inv-loop μ-loop
 loop-less-2 c = omega (arith, c .before .before .before .before .loop-test .taken)
@@ -69,9 +71,11 @@ loop-again-2 c =
     let r = c .before .before in
     let d = r .before in
     let l = d .before .before in
-    let s = l .before .before .before .before in
-    (shown-skip (s .args .side) (s .args .m .now) (s .args .out .now) (l .loop .i) (l .loop .j) _ _ (r .read-row .result) (l .loop .inv .0) (l .before .used .ensures) (d .before .loop-test .taken)
-    (d .nth .ensures .0) (r .read-row .ensures) (c .if1 .left), omega (arith, d .before .loop-test .taken))
+    let s = l .before .before .before .before in (
+      shown-skip (s .args .side) (s .args .m .now) (s .args .out .now) (l .loop .i) (l .loop .j) _ _ (r .read-row .result) (l .loop .inv .0) (l .before .used .ensures) (d .before .loop-test .taken)
+          (d .nth .ensures .0) (r .read-row .ensures) (c .if1 .left),
+      omega (arith, d .before .loop-test .taken),
+    )
 
 same-length : tie.Need-same-length Inv-loop μ-loop
 same-length c = c .before .loop .inv .0 .long
