@@ -633,6 +633,7 @@ impl Exchange {
     /// assert_eq!(exchange.deliver(3, trade, &mut Nobody), Err(Refusal::Sequence));
     /// # Ok::<(), Refusal>(())
     /// ```
+    #[inline]
     pub fn deliver(&mut self, seq: Seq, event: Event, mail: &mut impl Mailbox) -> Result<(), Refusal> {
         let row = rows::event(event);
         self.post(mail, |state, out| state.deliver(seq, &row, out))

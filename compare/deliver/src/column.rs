@@ -14,10 +14,10 @@ pub fn funds(account: usize) -> Option<(i64, i64)> {
 /// A gateway under test.
 pub trait Column {
     /// An event as the gateway's own type has it; made before the clock starts.
-    type Event: Copy + From<Event>;
+    type Event: From<Event>;
     fn receive(&mut self, session: usize, message: Message, now: u64);
     fn take_batch(&mut self) -> usize;
-    fn deliver(&mut self, n: u64, event: Self::Event);
+    fn deliver(&mut self, n: u64, event: &Self::Event);
     /// How many messages were sent since the last publishing.
     fn publish(&mut self) -> usize;
     fn wallets(&self) -> Vec<[i64; 4]>;

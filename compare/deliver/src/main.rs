@@ -47,8 +47,8 @@ fn run<C: Column>(column: &mut C, turns: &[Turn], now: &mut u64) -> Spent {
         }
         black_box(column.take_batch());
         let from = Instant::now();
-        for &(n, event) in events {
-            column.deliver(n, event);
+        for (n, event) in events {
+            column.deliver(*n, event);
         }
         spent.deliver += from.elapsed();
         spent.sent += column.publish();
@@ -127,9 +127,9 @@ fn by_kind<C: Column>(column: &mut C, turns: &[Turn]) -> [f64; 4] {
             column.receive(session, message, now);
         }
         black_box(column.take_batch());
-        for (place, &(n, event)) in events::<C>(turn).iter().enumerate() {
+        for (place, (n, event)) in events::<C>(turn).iter().enumerate() {
             let from = Instant::now();
-            column.deliver(n, event);
+            column.deliver(*n, event);
             times[place % 4].push(from.elapsed().as_nanos() as f64);
             let from = Instant::now();
             alone.push(from.elapsed().as_nanos() as f64);

@@ -282,12 +282,12 @@ impl Column for Plain {
         count
     }
 
-    fn deliver(&mut self, n: u64, event: Event) {
+    fn deliver(&mut self, n: u64, event: &Event) {
         while self.flights.front().is_some_and(|f| f.seq < n) {
             self.flights.pop_front();
         }
         self.delivered = n;
-        match event {
+        match *event {
             Event::Accepted { id } => {
                 if let Some(&order) = self.orders.get(&id) {
                     self.report(n, id, &order, Kind::Accepted);

@@ -35,8 +35,8 @@ fn row(words: &[u64]) -> [u8; 128] {
 }
 
 /// What an event's row has: its kind, then its fields.
-fn event_row(event: Event) -> [u8; 128] {
-    match event {
+fn event_row(event: &Event) -> [u8; 128] {
+    match *event {
         Event::Accepted { id } => row(&[0, id]),
         Event::Trade { trade_id, taker, maker, taker_side, price, qty, taker_leaves, maker_leaves } => {
             row(&[2, trade_id, taker, maker, side_code(taker_side), price as u64, qty, taker_leaves, maker_leaves])
@@ -132,7 +132,7 @@ impl Column for Proved {
         edge::take_batch(&mut self.state, &mut self.out).count
     }
 
-    fn deliver(&mut self, n: u64, event: Event) {
+    fn deliver(&mut self, n: u64, event: &Event) {
         let row = event_row(event);
         let reply = edge::deliver(&mut self.state, n, &row, &mut self.out[..4 * MAIL]);
         self.note(reply);

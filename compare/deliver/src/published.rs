@@ -70,8 +70,8 @@ impl Column for Published {
         batch.len()
     }
 
-    fn deliver(&mut self, n: u64, event: Event) {
-        self.exchange.deliver(n, event, &mut self.mail);
+    fn deliver(&mut self, n: u64, event: &Event) {
+        self.exchange.deliver(n, *event, &mut self.mail);
     }
 
     fn publish(&mut self) -> usize {

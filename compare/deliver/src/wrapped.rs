@@ -91,8 +91,8 @@ impl Column for Wrapped {
         batch.len()
     }
 
-    fn deliver(&mut self, n: u64, Made(event): Made) {
-        let done = self.exchange.deliver(n, event, &mut self.mail);
+    fn deliver(&mut self, n: u64, Made(event): &Made) {
+        let done = self.exchange.deliver(n, *event, &mut self.mail);
         self.refused += usize::from(done.is_err());
     }
 
