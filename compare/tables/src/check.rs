@@ -10,7 +10,8 @@ const STEPS: usize = 100_000;
 /// Blocks and cells (docs/STATE.md).
 const HEADER: usize = 0;
 const ORDERS: usize = 5;
-const LEVELS: [(Side, usize, usize); 2] = [(Side::Buy, 6, 15), (Side::Sell, 7, 16)];
+/// Of each side: its block, and the cells with how many rows are in use and how many levels there are.
+const LEVELS: [(Side, usize, usize, usize); 2] = [(Side::Buy, 6, 15, 20), (Side::Sell, 7, 16, 21)];
 const ORDER_ROWS: usize = 12;
 const LIVE_ORDERS: usize = 13;
 const HINTS: usize = 11;
@@ -191,7 +192,7 @@ impl Both {
                 )?;
             }
         }
-        for (side, _, count) in LEVELS {
+        for (side, _, _, count) in LEVELS {
             let size = self.state.cell(HEADER, 0, count);
             equal("size", size as usize, self.levels.half(side).len())?;
             self.most_levels = self.most_levels.max(size as usize);
@@ -238,9 +239,13 @@ impl Both {
     }
 
     fn level_rows(&self) -> Result<(), String> {
-        for (side, block, count) in LEVELS {
-            let size = self.state.cell(HEADER, 0, count) as usize;
-            let rows = (0..size).map(|row| [0, 1, 2].map(|k| self.state.cell(block, row, k)));
+        for (side, block, used, _) in LEVELS {
+            let used = self.state.cell(HEADER, 0, used) as usize;
+            let row = |row| [0, 1, 2].map(|k| self.state.cell(block, row, k));
+            let rows: Vec<_> = (0..used).map(row).collect();
+            equal("rising", rows.is_sorted_by(|a, b| a[0] < b[0]), true)?;
+            // a level without orders is gone
+            let rows = rows.into_iter().filter(|row| row[2] != 0);
             let levels = self.levels.half(side).iter();
             let levels =
                 levels.map(|(&price, level)| [key(price), level.qty, u64::from(level.orders)]);
@@ -251,9 +256,10 @@ impl Both {
 
     /// Every other cell is 0.
     fn other_cells(&self) -> Result<(), String> {
-        let counts = [ORDER_ROWS, LIVE_ORDERS, LEVELS[0].2, LEVELS[1].2];
+        let [bids, asks] = LEVELS;
+        let counts = [ORDER_ROWS, LIVE_ORDERS, bids.2, bids.3, asks.2, asks.3];
         for block in (0..ROWS.len())
-            .filter(|block| ![ORDERS, LEVELS[0].1, LEVELS[1].1, HINTS].contains(block))
+            .filter(|block| ![ORDERS, bids.1, asks.1, HINTS].contains(block))
         {
             for (row, cell) in
                 (0..ROWS[block]).flat_map(|row| (0..WIDTHS[block]).map(move |cell| (row, cell)))
