@@ -23,7 +23,7 @@ use Rattle.orders.proofs.Views.{revised, find-at, live-some}
 use Rattle.sound.specs.Sound.{Sound, State, Becomes}
 use Rattle.sound.proofs.Kept.{becomes}
 use Rattle.sound.proofs.Totals.{open-few}
-use Rattle.live.specs.Live.{At, with-ledger, placing, CanPlace, Seeds, revise, retire, left, pay, place}
+use Rattle.live.specs.Live.{At, hold-word, hold-left, hold-repriced, with-ledger, placing, CanPlace, Seeds, revise, retire, left, pay, place}
 use Rattle.live.proofs.Views.{revise-view, revise-sound, retire-view, retire-sound, open-some}
 use Rattle.live.proofs.Money.{with-wallets, pay-view, pay-sound, pay-elsewhere}
 use Rattle.live.proofs.Placed.{room, word-kept, place-view, place-sound, place-last}
@@ -34,7 +34,26 @@ leaving n f v l = with-orders (Ledger.left n f v (l .orders)) l
 live-row-same : (q r : Row) → Agree 16 q r → live-row q ≡ live-row r
 live-row-same q r h = rw (h C.order-account (omega arith), h C.order-client-ref (omega arith), h C.order-side (omega arith), h C.order-priced (omega arith), h C.order-price (omega arith), h C.order-leaves (omega arith), h C.order-hold (omega arith))
 
-module _ {xs : List ℕ} (st : State xs) {i : ℕ} {o : Live} (a : At i o (cell xs)) where
+-- o is what was read of the row
+pub record Reads (i : ℕ) (o : Live) (s : Store) : Type 0 where
+  pub inside : i < word s C.order-rows
+  pub live : 0 < s C.orders i C.order-live
+  pub is : o ≡ live-row (s C.orders i)
+
+pub reads : {i : ℕ} {o : Live} {s : Store} → At i s → o ≡ live-row (s C.orders i) → Reads i o s
+reads a e = record { inside = a .inside; live = a .live; is = e }
+
+-- what reading it asks
+pub row-fits : {xs : List ℕ} {i : ℕ} → State xs → At i (cell xs) → Holds xs × (i < order-room)
+row-fits st a = (st .holds, omega (arith, a .inside, st .sound .tables .ordered .bounds .orders-fit))
+
+pub left-as : {i : ℕ} {o : Live} {s : Store} → Reads i o s → (h v : ℕ) → h ≡ hold-left v (s C.orders i) → h ≡ hold-word (o .side) (o .priced) (o .price) v
+left-as a h v k = k ∙ sym (ap (λ (o : Live). hold-word (o .side) (o .priced) (o .price) v) (a .is))
+
+pub repriced-as : {i : ℕ} {o : Live} {s : Store} → Reads i o s → (h p v : ℕ) → h ≡ hold-repriced p v (s C.orders i) → h ≡ hold-word (o .side) 1 p v
+repriced-as a h p v k = k ∙ sym (ap (λ (o : Live). hold-word (o .side) 1 p v) (a .is))
+
+module _ {xs : List ℕ} (st : State xs) {i : ℕ} {o : Live} (a : Reads i o (cell xs)) where
   abbrev s : Store
   s = cell xs
 
@@ -99,7 +118,7 @@ module _ {xs : List ℕ} (st : State xs) {i : ℕ} {o : Live} (a : At i o (cell 
       (pay-view (o .account) (side (o .side)) p q s owner-small was (ap (λ x. x .account) (sym (a .is))) (ap (λ x. side (x .side)) (sym (a .is))))
 
   -- the order is still there
-  pub pay-at : {ys : List ℕ} (p q : ℕ) → Is ys (pay (o .account) (side (o .side)) p q s) → At i o (cell ys)
+  pub pay-at : {ys : List ℕ} (p q : ℕ) → Is ys (pay (o .account) (side (o .side)) p q s) → Reads i o (cell ys)
   pay-at {ys} p q h =
       record {
         inside = rw word-is (a .inside);
@@ -122,7 +141,7 @@ module _ {xs : List ℕ} (st : State xs) {i : ℕ} {o : Live} (a : At i o (cell 
       h .same C.orders i C.order-number (order-cell i C.order-number row-small (omega arith))
       ∙ pay-elsewhere (o .account) (side (o .side)) p q s owner-small C.orders i C.order-number (λ e. omega arith)
 
-pub traded-becomes : {xs ys zs : List ℕ} (st : State xs) {i : ℕ} {o : Live} (a : At i o (cell xs)) (p q v : ℕ) →
+pub traded-becomes : {xs ys zs : List ℕ} (st : State xs) {i : ℕ} {o : Live} (a : Reads i o (cell xs)) (p q v : ℕ) →
     Is ys (pay (o .account) (side (o .side)) p q (cell xs)) → Is zs (left i o (o .priced) (o .price) v (cell ys)) →
     Becomes zs (with-ledger (change (Ledger.fill (number-at i (cell xs)) (int p) q v)) (gateway (cell xs)))
 unfolding change Ledger.pay

@@ -17,18 +17,17 @@ use Rattle.gateway.specs.Calls.{Gateway}
 use Rattle.gateway.specs.Entry.{noticing}
 use Rattle.store.specs.Cells as C
 use Rattle.store.specs.Layout.{cell}
-use Rattle.store.specs.View.{Store, word, write, flag, side, maybe-price, wallet, gateway}
+use Rattle.store.specs.View.{Row, Store, word, write, flag, side, maybe-price, wallet, gateway}
 use Rattle.orders.specs.declared.Live.{Live}
-use Rattle.orders.specs.Orders.{live-row, order-of}
+use Rattle.orders.specs.Orders.{order-of}
 use Rattle.orders.specs.Orders as Orders
 use Rattle.clients.specs.Clients as Clients
 use Rattle.sound.specs.Sound.{held-cell, Becomes}
 
--- the row i is that of the live order o
-pub record At (i : ℕ) (o : Live) (s : Store) : Type 0 where
+-- the row i is that of a live order
+pub record At (i : ℕ) (s : Store) : Type 0 where
   pub inside : i < word s C.order-rows
   pub live : 0 < s C.orders i C.order-live
-  pub is : o ≡ live-row (s C.orders i)
 
 abbrev pub with-ledger : (Ledger → Ledger) → Gateway → Gateway
 with-ledger f g = record { core = record { ledger = f (g .core .ledger); flights = g .core .flights; accounts = g .core .accounts }; rest = g .rest }
@@ -39,6 +38,13 @@ with-notices ns g = record { core = g .core; rest = noticing ns (g .rest) }
 -- what an order with these words holds
 unfoldable pub hold-word : ℕ → ℕ → ℕ → ℕ → ℕ
 hold-word z priced price leaves = wrap (hold (side z) (maybe-price priced price) leaves)
+
+-- what the order of a row holds with this much open, and also at another price
+abbrev pub hold-left : ℕ → Row → ℕ
+hold-left leaves r = hold-word (r C.order-side) (r C.order-priced) (r C.order-price) leaves
+
+abbrev pub hold-repriced : ℕ → ℕ → Row → ℕ
+hold-repriced price leaves r = hold-word (r C.order-side) 1 price leaves
 
 -- a part of what account a's orders of a side hold changes
 unfoldable pub shift : ℕ → Side → ℕ → ℕ → Store → Store

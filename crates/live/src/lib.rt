@@ -100,10 +100,11 @@ fn revise(m: &mut [u8], i: usize, o: Live, priced: u64, price: u64, leaves: u64,
 }
 
 // The order's open quantity is now `leaves`: what it holds follows.
-pub fn set_leaves(m: &mut [u8], i: usize, o: Live, leaves: u64, hold: u64)
-    requires { ⌜ State (now m) × P.At i o (cell (now m)) × (hold ≡ P.hold-word (o .side) (o .priced) (o .price) leaves) ⌝ }
+pub fn set_leaves(m: &mut [u8], i: usize, leaves: u64, hold: u64)
+    requires { ⌜ State (now m) × P.At i (cell (now m)) × (hold ≡ P.hold-left leaves (cell (now m) C.orders i)) ⌝ }
     ensures { λ r. ⌜ Becomes (now (m .exit)) (P.with-ledger (Ledger.change (Ledger.set-leaves (number-at i (cell (now (m .entry)))) leaves)) (gateway (cell (now (m .entry))))) ⌝ }
 {
+    let o = orders::live_at(m, i);
     revise(m, i, o, o.priced, o.price, leaves, hold);
 }
 
@@ -120,10 +121,11 @@ fn end(m: &mut [u8], i: usize, o: Live)
 }
 
 // The order has left the book.
-pub fn retire(m: &mut [u8], i: usize, o: Live)
-    requires { ⌜ State (now m) × P.At i o (cell (now m)) ⌝ }
+pub fn retire(m: &mut [u8], i: usize)
+    requires { ⌜ State (now m) × P.At i (cell (now m)) ⌝ }
     ensures { λ r. ⌜ Becomes (now (m .exit)) (P.with-ledger (Ledger.change (Ledger.retire (number-at i (cell (now (m .entry)))))) (gateway (cell (now (m .entry))))) ⌝ }
 {
+    let o = orders::live_at(m, i);
     end(m, i, o);
 }
 
@@ -140,10 +142,11 @@ fn leave(m: &mut [u8], i: usize, o: Live, priced: u64, price: u64, leaves: u64, 
 }
 
 // A modify changed its price and its open quantity.
-pub fn reprice(m: &mut [u8], i: usize, o: Live, price: u64, leaves: u64, hold: u64)
-    requires { ⌜ State (now m) × P.At i o (cell (now m)) × (hold ≡ P.hold-word (o .side) 1 price leaves) ⌝ }
+pub fn reprice(m: &mut [u8], i: usize, price: u64, leaves: u64, hold: u64)
+    requires { ⌜ State (now m) × P.At i (cell (now m)) × (hold ≡ P.hold-repriced price leaves (cell (now m) C.orders i)) ⌝ }
     ensures { λ r. ⌜ Becomes (now (m .exit)) (P.with-ledger (Ledger.change (Ledger.reprice (number-at i (cell (now (m .entry)))) (int price) leaves)) (gateway (cell (now (m .entry))))) ⌝ }
 {
+    let o = orders::live_at(m, i);
     leave(m, i, o, 1, price, leaves, hold);
 }
 
@@ -166,10 +169,11 @@ fn pay(m: &mut [u8], account: usize, side: Side, price: u64, qty: u64)
 }
 
 // The order traded `qty` at `price`, and has `leaves` open.
-pub fn traded(m: &mut [u8], i: usize, o: Live, price: u64, qty: u64, leaves: u64, hold: u64)
-    requires { ⌜ State (now m) × P.At i o (cell (now m)) × (hold ≡ P.hold-word (o .side) (o .priced) (o .price) leaves) ⌝ }
+pub fn traded(m: &mut [u8], i: usize, price: u64, qty: u64, leaves: u64, hold: u64)
+    requires { ⌜ State (now m) × P.At i (cell (now m)) × (hold ≡ P.hold-left leaves (cell (now m) C.orders i)) ⌝ }
     ensures { λ r. ⌜ Becomes (now (m .exit)) (P.with-ledger (Ledger.change (Ledger.fill (number-at i (cell (now (m .entry)))) (int price) qty leaves)) (gateway (cell (now (m .entry))))) ⌝ }
 {
+    let o = orders::live_at(m, i);
     pay(m, o.account as usize, store::side_of(o.side), price, qty);
     leave(m, i, o, o.priced, o.price, leaves, hold);
 }
