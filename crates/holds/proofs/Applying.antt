@@ -23,7 +23,7 @@ use Rattle.gateway.proofs.Base.{split}
 use Rattle.gateway.proofs.Moves.{unchanged, wallets-changed}
 use Rattle.store.specs.Cells as C
 use Rattle.store.specs.Layout.{cell}
-use Rattle.store.specs.View.{Store, word, order, wallet, ledger, gateway}
+use Rattle.store.specs.View.{Row, Store, word, order, wallet, ledger, gateway}
 use Rattle.store.proofs.Listed.{listed-length}
 use Rattle.clients.proofs.Views.{wallet-at-row}
 use Rattle.orders.specs.declared.Live.{Live}
@@ -53,15 +53,15 @@ module _ {ys : List ℕ} (n : ℕ) (x : Move) (g : Gateway) where
 
 -- ---- what it holds then, in the arms of the match
 
-pub after-as : (o : Live) (r : ℕ) {x y : Move} → x ≡ y → r ≡ hold-after-word x o → r ≡ hold-after-word y o
-after-as o r e h = h ∙ ap (λ z. hold-after-word z o) e
+pub after-as : (r : Row) (w : ℕ) {x y : Move} → x ≡ y → w ≡ hold-after-word x r → w ≡ hold-after-word y r
+after-as r w e h = h ∙ ap (λ z. hold-after-word z r) e
 
-after-small : (x : Move) (o : Live) → hold-after-word x o < modulus
+after-small : (x : Move) (r : Row) → hold-after-word x r < modulus
 unfolding L.hold-word
-after-small (Fill p q v) o = wrap-small _
-after-small (Leaves v) o = wrap-small _
-after-small (Reprice p v) o = wrap-small _
-after-small Retire o = omega arith
+after-small (Fill p q v) r = wrap-small _
+after-small (Leaves v) r = wrap-small _
+after-small (Reprice p v) r = wrap-small _
+after-small Retire r = omega arith
 
 -- ---- notices
 
@@ -117,23 +117,24 @@ module _ (xs : List ℕ) (st : State xs) (n : ℕ) (x : Move) (at : Found) (sees
     changed {ys} b = subst (λ k. Becomes ys (with-ledger (change (change-of k x)) (gateway s))) (row .row .1) b
 
     -- `new` is what it holds then
-    module _ (o : Live) (o-is : o ≡ live-row (s C.orders i)) (new : ℕ) (holds : NewHold n x new (ledger s)) where
+    module _ (new : ℕ) (holds : NewHold n x new (ledger s)) where
+     after-is : int new ≡ hold-after c was
+     after-is = holds was (row .order)
+
+     -- what the change asks
+     pub change-needs : new < modulus → State xs × L.At i s × (new ≡ hold-after-word x (s C.orders i))
+     change-needs l = (
+        st,
+        live-at xs st n at sees i found,
+        int-injective new (hold-after-word x (s C.orders i)) l (after-small x (s C.orders i)) (after-is ∙ sym (new-is n x (s C.orders i))),
+      )
+
+     module _ (o : Live) (o-is : o ≡ live-row (s C.orders i)) where
       owner : o .account < owner-slots
       owner = owner-small xs st n at sees i found o o-is
 
       old-is : int (o .hold) ≡ order-hold was
       old-is = ap (λ (w : Live). int (w .hold)) o-is ∙ st .sound .held .rows i (row .row .0) (row .row .2) .hold-is
-
-      after-is : int new ≡ hold-after c was
-      after-is = holds was (row .order)
-
-      -- what the change asks
-      pub change-needs : new < modulus → State xs × L.At i o s × (new ≡ hold-after-word x o)
-      change-needs l = (
-        st,
-        live-at xs st n at sees i found o o-is,
-        int-injective new (hold-after-word x o) l (after-small x o) (after-is ∙ sym (new-is n x (s C.orders i)) ∙ ap (λ w. int (hold-after-word x w)) (sym o-is)),
-      )
 
       -- read from states with as many wallets
       abbrev Alike : Store → Type 0

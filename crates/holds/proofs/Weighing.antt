@@ -22,7 +22,7 @@ use Rattle.gateway.proofs.Base.{split}
 use Rattle.gateway.proofs.Moves.{Of, fills, sets, reprices, retires, names}
 use Rattle.store.specs.Cells as C
 use Rattle.store.specs.Layout.{cell}
-use Rattle.store.specs.View.{Store, side, order, wallet, ledger, gateway, order-room}
+use Rattle.store.specs.View.{Row, Store, side, order, wallet, ledger, gateway, order-room}
 use Rattle.clients.proofs.Views.{wallet-at-row}
 use Rattle.orders.specs.declared.Live.{Live}
 use Rattle.orders.specs.Orders.{Sees, live-row}
@@ -33,7 +33,7 @@ use Rattle.live.proofs.Notices.{stays, differs}
 use Rattle.holds.specs.declared.Move.{Move}
 use Rattle.holds.specs.declared.Move.the-variants.{Fill, Leaves, Reprice, Retire}
 use Rattle.holds.specs.declared.Shift.{Shift}
-use Rattle.holds.specs.Holds.{change-of, part-of, paper-order, Weighs, nothing, hold-after-word, settles, notice-count, row-shift}
+use Rattle.holds.specs.Holds.{change-of, part-of, paper-order, NewHold, Weighs, nothing, hold-after-word, settles, notice-count, shift-of}
 
 pub of : (n : ℕ) (x : Move) → Of n (change-of n x)
 of n (Fill p q v) = fills (int p) q v
@@ -42,18 +42,6 @@ of n (Reprice p v) = reprices (int p) v
 of n Retire = retires
 
 -- ---- in the arms of a match
-
-pub after-fill : (x : Move) (o : Live) (p q v r : ℕ) → x ≡ Fill p q v → r ≡ L.hold-word (o .side) (o .priced) (o .price) v → r ≡ hold-after-word x o
-after-fill x o p q v r e h = h ∙ ap (λ y. hold-after-word y o) (sym e)
-
-pub after-leaves : (x : Move) (o : Live) (v r : ℕ) → x ≡ Leaves v → r ≡ L.hold-word (o .side) (o .priced) (o .price) v → r ≡ hold-after-word x o
-after-leaves x o v r e h = h ∙ ap (λ y. hold-after-word y o) (sym e)
-
-pub after-reprice : (x : Move) (o : Live) (p v r : ℕ) → x ≡ Reprice p v → r ≡ L.hold-word (o .side) 1 p v → r ≡ hold-after-word x o
-after-reprice x o p v r e h = h ∙ ap (λ y. hold-after-word y o) (sym e)
-
-pub after-retire : (x : Move) (o : Live) → x ≡ Retire → 0 ≡ hold-after-word x o
-after-retire x o e = ap (λ y. hold-after-word y o) (sym e)
 
 pub settles-as : (x y : Move) → x ≡ y → settles y ≡ settles x
 settles-as x y e = ap settles (sym e)
@@ -65,18 +53,18 @@ settles-small (Reprice p v) = omega arith
 settles-small Retire = omega arith
 
 -- b: there is a wallet
-pub count-same : (b : Bool) (x : Move) (old new n : ℕ) → b ≡ true → n ≡ settles x → old ≡ new → n ≡ cond b (notice-count x old new) 0
-count-same b x old new n f h e = h ∙ sym (ap₂ (λ c d. cond c (cond d (settles x) (settles x + 1)) 0) f (stays old new e))
+pub count-same : (b : Bool) (k old new : ℕ) → b ≡ true → old ≡ new → k ≡ cond b (notice-count k old new) 0
+count-same b k old new f e = sym (ap₂ (λ c d. cond c (cond d k (k + 1)) 0) f (stays old new e))
 
-pub count-other : (b : Bool) (x : Move) (old new n : ℕ) → b ≡ true → n ≡ settles x → old < modulus → new < modulus → (old ≡ new → ⊥) → n + 1 ≡ cond b (notice-count x old new) 0
-count-other b x old new n f h l m e = ap (λ k. k + 1) h ∙ sym (ap₂ (λ c d. cond c (cond d (settles x) (settles x + 1)) 0) f (differs old new l m e))
+pub count-other : (b : Bool) (k old new : ℕ) → b ≡ true → old < modulus → new < modulus → (old ≡ new → ⊥) → k + 1 ≡ cond b (notice-count k old new) 0
+count-other b k old new f l m e = sym (ap₂ (λ c d. cond c (cond d k (k + 1)) 0) f (differs old new l m e))
 
 -- ---- a row
 
-pub row-weighed : (x : Move) (o : Live) (s : Store) (b : Bool) (h k : ℕ) → h ≡ hold-after-word x o → b ≡ is-some (wallet (s C.accounts (o .account))) → k ≡ cond b (notice-count x (o .hold) h) 0 →
-    record { account = o .account; side = o .side; old = o .hold; new = h; notices = k; funded = b } ≡ row-shift x o s
-row-weighed x o s b h k p e q =
-    λ i. record { account = o .account; side = o .side; old = o .hold; new = p i; notices = (q ∙ ap₂ (λ c w. cond c (notice-count x (o .hold) w) 0) e p) i; funded = e i }
+pub row-weighed : (k new : ℕ) (o : Live) (s : Store) (b : Bool) (n : ℕ) → b ≡ is-some (wallet (s C.accounts (o .account))) → n ≡ cond b (notice-count k (o .hold) new) 0 →
+    record { account = o .account; side = o .side; old = o .hold; new = new; notices = n; funded = b } ≡ shift-of k new o s
+row-weighed k new o s b n e q =
+    λ i. record { account = o .account; side = o .side; old = o .hold; new = new; notices = (q ∙ ap (λ c. cond c (notice-count k (o .hold) new) 0) e) i; funded = e i }
 
 -- ---- notices, by the order
 
@@ -104,7 +92,7 @@ notices-by n x l e = ap (option [] (λ q. cond (is-some (wallet-of (l .wallets) 
 
 -- ---- the order that x changes
 
-pub new-is : (n : ℕ) (x : Move) (r : _) → int (hold-after-word x (live-row r)) ≡ hold-after (change-of n x) (order r)
+pub new-is : (n : ℕ) (x : Move) (r : Row) → int (hold-after-word x r) ≡ hold-after (change-of n x) (order r)
 new-is n (Fill p q v) r = hold-is (r C.order-side) (r C.order-priced) (r C.order-price) v
 new-is n (Leaves v) r = hold-is (r C.order-side) (r C.order-priced) (r C.order-price) v
 new-is n (Reprice p v) r = hold-is (r C.order-side) 1 p v
@@ -117,9 +105,12 @@ module _ (xs : List ℕ) (st : State xs) (n : ℕ) (at : Found) (sees : Sees C.o
   pub none-there : at ≡ Nothing → find n (ledger s .orders) ≡ none
   none-there absent = let u : Sees C.order-live order number-of s n Nothing = rw absent at sees in u .order
 
-  pub weighs-nothing : (x : Move) → at ≡ Nothing → (r : Shift) → r ≡ nothing → Weighs n x r (gateway s)
+  pub holds-nothing : (x : Move) (w : ℕ) → at ≡ Nothing → NewHold n x w (ledger s)
+  holds-nothing x w absent o q = absurd (Option·none-ne-some o (sym (none-there absent) ∙ q))
+
+  pub weighs-nothing : at ≡ Nothing → (r : Shift) → r ≡ nothing → (x : Move) → Weighs n x r (gateway s)
   unfolding paper
-  weighs-nothing x absent r e =
+  weighs-nothing absent r e x =
       let gone = none-there absent in
       subst (λ t. Weighs n x t (gateway s)) (sym e)
       (record {
@@ -127,7 +118,7 @@ module _ (xs : List ℕ) (st : State xs) (n : ℕ) (at : Found) (sees : Sees C.o
         paper-is = ap (option false (λ o. is-some (wallet-of (ledger s .wallets) o))) gone;
         noticed = ap length (notices-by n x (ledger s) gone);
         is = sym (ap (λ w. Option·map (part-of (change-of n x)) (option none (λ o. cond (is-some (wallet-of (ledger s .wallets) o)) (some o) none) w)) gone);
-        holds = λ o q. absurd (Option·none-ne-some o (sym gone ∙ q));
+        holds = holds-nothing x 0 absent;
       })
 
   module _ (i : ℕ) (found : at ≡ At i) where
@@ -143,30 +134,33 @@ module _ (xs : List ℕ) (st : State xs) (n : ℕ) (at : Found) (sees : Sees C.o
     small : was .account < owner-slots
     small = st .sound .held .rows i (there .row .0) (there .row .2) .owner-is
 
+    pub live-at : L.At i s
+    live-at = record { inside = there .row .0; live = there .row .2 }
+
+    holds-row : (x : Move) (w : ℕ) → w ≡ hold-after-word x (s C.orders i) → NewHold n x w (ledger s)
+    holds-row x w e q f = ap int e ∙ new-is n x (s C.orders i) ∙ ap (hold-after (change-of n x)) (Option·some-injective was q (sym (there .order) ∙ f))
+
     module _ (o : Live) (o-is : o ≡ live-row (s C.orders i)) where
       pub owner-small : o .account < owner-slots
       owner-small = rw o-is small
 
-      pub live-at : L.At i o s
-      live-at = record { inside = there .row .0; live = there .row .2; is = o-is }
-
-      pub weighs-row : (x : Move) (r : Shift) → r ≡ row-shift x o s → Weighs n x r (gateway s)
+      pub weighs-row : (k new : ℕ) (r : Shift) → r ≡ shift-of k new o s → (x : Move) → settles x ≡ k → NewHold n x new (ledger s) → Weighs n x r (gateway s)
       unfolding paper
-      weighs-row x r e =
-          subst (λ t. Weighs n x t (gateway s)) (sym (e ∙ ap (λ (w : Live). row-shift x w s) o-is))
+      weighs-row k new r e x k-is new-is =
+          subst (λ t. Weighs n x t (gateway s)) (sym (e ∙ ap (λ (w : Live). shift-of k new w s) o-is))
           (record {
             owned = record { inside = small; has-wallet = λ q. wallet-is ∙ q };
             paper-is = ap (option false (λ q. is-some (wallet-of (ledger s .wallets) q))) (there .order) ∙ wallet-is;
             noticed =
                 ap length (notices-by n x (ledger s) (there .order) ∙ ap (λ c. cond c (order-notices (change-of n x) was) []) wallet-is)
-                ∙ split (λ c. length (cond c (order-notices (change-of n x) was) []) ≡ cond c (notice-count x (s C.orders i C.order-hold) (hold-after-word x (live-row (s C.orders i)))) 0) funded
-                (λ _. counted n x was ∙ ap₂ (λ new old. cond (is-zero (new -ℤ old)) (settles x) (settles x + 1)) (sym (new-is n x (s C.orders i))) (sym old-is)) (λ _. refl);
+                ∙ split (λ c. length (cond c (order-notices (change-of n x) was) []) ≡ cond c (notice-count k (s C.orders i C.order-hold) new) 0) funded
+                (λ _. counted n x was ∙ (λ j. cond (is-zero (sym after-is j -ℤ sym old-is j)) (k-is j) (k-is j + 1))) (λ _. refl);
             is =
-                split (λ c. cond c (some (record { account = was .account; side = was .side; old = int (s C.orders i C.order-hold); new = int (hold-after-word x (live-row (s C.orders i))) })) none ≡
+                split (λ c. cond c (some (record { account = was .account; side = was .side; old = int (s C.orders i C.order-hold); new = int new })) none ≡
                 Option·map (part-of (change-of n x)) (cond c (some was) none)) funded
-                (λ _ j. some (record { account = was .account; side = was .side; old = old-is j; new = new-is n x (s C.orders i) j })) (λ _. refl)
+                (λ _ j. some (record { account = was .account; side = was .side; old = old-is j; new = after-is j })) (λ _. refl)
                 ∙ sym (ap (Option·map (part-of (change-of n x))) order-is);
-            holds = λ q e. new-is n x (s C.orders i) ∙ ap (hold-after (change-of n x)) (Option·some-injective was q (sym (there .order) ∙ e));
+            holds = new-is;
           })
         where
           funded : Bool
@@ -181,4 +175,29 @@ module _ (xs : List ℕ) (st : State xs) (n : ℕ) (at : Found) (sees : Sees C.o
           old-is : int (s C.orders i C.order-hold) ≡ order-hold was
           old-is = st .sound .held .rows i (there .row .0) (there .row .2) .hold-is
 
-pub ruleset weighing = (after-fill, after-leaves, after-reprice, after-retire, settles-as, count-same, count-other, row-weighed, weighs-nothing, row-small, owner-small, live-at, weighs-row, arith)
+          after-is : int new ≡ hold-after (change-of n x) was
+          after-is = new-is was (there .order)
+
+      -- what it holds then, in words
+      pub left-holds : (v r : ℕ) → r ≡ L.hold-word (o .side) (o .priced) (o .price) v → NewHold n (Leaves v) r (ledger s)
+      left-holds v r e = holds-row (Leaves v) r (e ∙ ap (λ (w : Live). L.hold-word (w .side) (w .priced) (w .price) v) o-is)
+
+      pub repriced-holds : (p v r : ℕ) → r ≡ L.hold-word (o .side) 1 p v → NewHold n (Reprice p v) r (ledger s)
+      repriced-holds p v r e = holds-row (Reprice p v) r (e ∙ ap (λ (w : Live). L.hold-word (w .side) 1 p v) o-is)
+
+-- ---- in the arms of a match
+
+module _ (n : ℕ) (x : Move) (l : Ledger) (w : ℕ) where
+  pub after-fill : (p q v : ℕ) → x ≡ Fill p q v → NewHold n (Leaves v) w l → NewHold n x w l
+  after-fill p q v e h = subst (λ y. NewHold n y w l) (sym e) h
+
+  pub after-leaves : (v : ℕ) → x ≡ Leaves v → NewHold n (Leaves v) w l → NewHold n x w l
+  after-leaves v e h = subst (λ y. NewHold n y w l) (sym e) h
+
+  pub after-reprice : (p v : ℕ) → x ≡ Reprice p v → NewHold n (Reprice p v) w l → NewHold n x w l
+  after-reprice p v e h = subst (λ y. NewHold n y w l) (sym e) h
+
+pub after-retire : (n : ℕ) (x : Move) (l : Ledger) → x ≡ Retire → NewHold n x 0 l
+after-retire n x l e = subst (λ y. NewHold n y 0 l) (sym e) (λ o _. int-zero)
+
+pub ruleset weighing = (settles-as, count-same, count-other, row-weighed, holds-nothing, weighs-nothing, row-small, owner-small, live-at, weighs-row, left-holds, repriced-holds, after-fill, after-leaves, after-reprice, after-retire, arith)

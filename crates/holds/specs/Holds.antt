@@ -15,9 +15,9 @@ use Rattle.gateway.specs.Deliver.{hold-after, change-notices}
 use Rattle.gateway.specs.Entry.{is-zero}
 use Rattle.gateway.specs.Calls.{Gateway}
 use Rattle.store.specs.Cells as C
-use Rattle.store.specs.View.{Store, side, wallet}
+use Rattle.store.specs.View.{Row, Store, side, wallet}
 use Rattle.orders.specs.declared.Live.{Live}
-use Rattle.live.specs.Live.{with-ledger, with-notices, hold-word}
+use Rattle.live.specs.Live.{with-ledger, with-notices, hold-left, hold-repriced}
 use Rattle.holds.specs.declared.Move.{Move}
 use Rattle.holds.specs.declared.Move.the-variants.{Fill, Leaves, Reprice, Retire}
 use Rattle.holds.specs.declared.Shift.{Shift}
@@ -103,11 +103,12 @@ pair-fits s t l =
 abbrev pub nothing : Shift
 nothing = record { account = 0; side = 0; old = 0; new = 0; notices = 0; funded = false }
 
-abbrev pub hold-after-word : Move → Live → ℕ
-hold-after-word (Fill p q v) o = hold-word (o .side) (o .priced) (o .price) v
-hold-after-word (Leaves v) o = hold-word (o .side) (o .priced) (o .price) v
-hold-after-word (Reprice p v) o = hold-word (o .side) 1 p v
-hold-after-word Retire o = 0
+-- what the order of a row holds after x
+abbrev pub hold-after-word : Move → Row → ℕ
+hold-after-word (Fill p q v) r = hold-left v r
+hold-after-word (Leaves v) r = hold-left v r
+hold-after-word (Reprice p v) r = hold-repriced p v r
+hold-after-word Retire r = 0
 
 -- 1 where money moves
 abbrev pub settles : Move → ℕ
@@ -116,17 +117,18 @@ settles (Leaves v) = 0
 settles (Reprice p v) = 0
 settles Retire = 0
 
--- and one notice more where the hold changes
-abbrev pub notice-count : Move → ℕ → ℕ → ℕ
-notice-count x old new = cond (is-zero (int new -ℤ int old)) (settles x) (settles x + 1)
+-- k notices, and one more where the hold changes
+abbrev pub notice-count : ℕ → ℕ → ℕ → ℕ
+notice-count k old new = cond (is-zero (int new -ℤ int old)) k (k + 1)
 
-abbrev pub row-shift : Move → Live → Store → Shift
-row-shift x o s =
+-- o holds `new`, and money moves where k is 1
+abbrev pub shift-of : ℕ → ℕ → Live → Store → Shift
+shift-of k new o s =
     record {
       account = o .account;
       side = o .side;
       old = o .hold;
-      new = hold-after-word x o;
-      notices = cond (is-some (wallet (s C.accounts (o .account)))) (notice-count x (o .hold) (hold-after-word x o)) 0;
+      new = new;
+      notices = cond (is-some (wallet (s C.accounts (o .account)))) (notice-count k (o .hold) new) 0;
       funded = is-some (wallet (s C.accounts (o .account)));
     }

@@ -18,6 +18,7 @@ ghost use Rattle.orders.specs.Orders.{Sees, number-at};
 ghost use Rattle.sound.specs.Sound.{State, Becomes};
 ghost use Rattle.live.specs.Live.{At, with-ledger};
 ghost use Rattle.outcome.specs.Between.{Between};
+ghost use Rattle.holds.specs.declared.Move.{Move};
 ghost use Rattle.holds.specs.declared.Move.the-variants.{Fill, Leaves, Reprice, Retire};
 ghost use Rattle.holds.specs.Holds as P;
 
@@ -39,14 +40,39 @@ pub struct Shift {
     pub funded: bool,
 }
 
-// What the order holds afterwards: a fill leaves it its own price.
-fn hold_after(o: Live, x: Move) -> u64
-    ensures { λ r. ⌜ r ≡ P.hold-after-word x o ⌝ }
+// What the order `id`, which is at `at`, holds with this much open: of no live order 0.
+pub fn left(m: &[u8], id: u64, at: Found, leaves: u64) -> u64
+    requires { ⌜ State (now m) × Sees C.order-live order number-of (cell (now m)) id at ⌝ }
+    ensures { λ r. ⌜ P.NewHold id (Leaves leaves) r (ledger (cell (now (m .entry)))) ⌝ }
+{
+    if let Found::At(i) = at {
+        let o = orders::live_at(m, i);
+        return live::hold_of(o.side, o.priced, o.price, leaves);
+    }
+    0
+}
+
+// And at another price.
+pub fn repriced(m: &[u8], id: u64, at: Found, price: u64, leaves: u64) -> u64
+    requires { ⌜ State (now m) × Sees C.order-live order number-of (cell (now m)) id at ⌝ }
+    ensures { λ r. ⌜ P.NewHold id (Reprice price leaves) r (ledger (cell (now (m .entry)))) ⌝ }
+{
+    if let Found::At(i) = at {
+        let o = orders::live_at(m, i);
+        return live::hold_of(o.side, 1, price, leaves);
+    }
+    0
+}
+
+// After x: a fill leaves the order its own price.
+fn after(m: &[u8], id: u64, at: Found, x: Move) -> u64
+    requires { ⌜ State (now m) × Sees C.order-live order number-of (cell (now m)) id at ⌝ }
+    ensures { λ r. ⌜ P.NewHold id x r (ledger (cell (now (m .entry)))) ⌝ }
 {
     match x {
-        Move::Fill { leaves, .. } => live::hold_of(o.side, o.priced, o.price, leaves),
-        Move::Leaves { leaves } => live::hold_of(o.side, o.priced, o.price, leaves),
-        Move::Reprice { price, leaves } => live::hold_of(o.side, 1, price, leaves),
+        Move::Fill { leaves, .. } => left(m, id, at, leaves),
+        Move::Leaves { leaves } => left(m, id, at, leaves),
+        Move::Reprice { price, leaves } => repriced(m, id, at, price, leaves),
         Move::Retire => 0,
     }
 }
@@ -64,11 +90,11 @@ fn settles(x: Move) -> u64
 }
 
 // A wallet's notices: one where money moves, one where what is held changes.
-fn count_notices(funded: bool, x: Move, old: u64, new: u64) -> u64
-    ensures { λ r. ⌜ r ≡ cond funded (P.notice-count x old new) 0 ⌝ }
+fn count_notices(funded: bool, settles: u64, old: u64, new: u64) -> u64
+    requires { ⌜ settles ≤ 1 ⌝ }
+    ensures { λ r. ⌜ r ≡ cond funded (P.notice-count settles old new) 0 ⌝ }
 {
-    let n = settles(x);
-    let notices = if old == new { n } else { n + 1 };
+    let notices = if old == new { settles } else { settles + 1 };
     if funded { notices } else { 0 }
 }
 
@@ -85,13 +111,12 @@ fn nothing() -> Shift
     }
 }
 
-fn weigh_row(m: &[u8], o: Live, x: Move) -> Shift
-    requires { ⌜ State (now m) × (o .account < owner-slots) ⌝ }
-    ensures { λ r. ⌜ r ≡ P.row-shift x o (cell (now (m .entry))) ⌝ }
+fn shift_of(m: &[u8], o: Live, settles: u64, new: u64) -> Shift
+    requires { ⌜ State (now m) × (o .account < owner-slots) × (settles ≤ 1) ⌝ }
+    ensures { λ r. ⌜ r ≡ P.shift-of settles new o (cell (now (m .entry))) ⌝ }
 {
-    let new = hold_after(o, x);
     let funded = clients::is_funded(m, o.account as usize);
-    let notices = count_notices(funded, x, o.hold, new);
+    let notices = count_notices(funded, settles, o.hold, new);
     Shift {
         account: o.account,
         side: o.side,
@@ -102,14 +127,14 @@ fn weigh_row(m: &[u8], o: Live, x: Move) -> Shift
     }
 }
 
-// What x would do to the order `id`, which is at `at`.
-pub fn weigh(m: &[u8], id: u64, at: Found, x: Move) -> Shift
-    requires { ⌜ State (now m) × Sees C.order-live order number-of (cell (now m)) id at ⌝ }
-    ensures { λ r. ⌜ P.Weighs id x r (gateway (cell (now (m .entry)))) ⌝ }
+// What it would do to the order `id`, which is at `at`, that it holds `new`; `settles` is 1 where money moves too.
+pub fn weigh(m: &[u8], id: u64, at: Found, settles: u64, new: u64) -> Shift
+    requires { ⌜ State (now m) × Sees C.order-live order number-of (cell (now m)) id at × (settles ≤ 1) ⌝ }
+    ensures { λ r. ⌜ ((x : Move) → P.settles x ≡ settles → P.NewHold id x new (ledger (cell (now (m .entry)))) → P.Weighs id x r (gateway (cell (now (m .entry))))) ⌝ }
 {
     if let Found::At(i) = at {
         let o = orders::live_at(m, i);
-        return weigh_row(m, o, x);
+        return shift_of(m, o, settles, new);
     }
     nothing()
 }
@@ -164,7 +189,7 @@ pub fn fill(m: &mut [u8], id: u64, at: Found, new: u64, price: u64, qty: u64, le
 {
     if let Found::At(i) = at {
         let o = orders::live_at(m, i);
-        live::traded(m, i, o, price, qty, leaves, new);
+        live::traded(m, i, price, qty, leaves, new);
         live::notice(m, o.account);
         live::notice_hold(m, o.account, o.hold, new);
     }
@@ -177,7 +202,7 @@ pub fn set_leaves(m: &mut [u8], id: u64, at: Found, new: u64, leaves: u64)
 {
     if let Found::At(i) = at {
         let o = orders::live_at(m, i);
-        live::set_leaves(m, i, o, leaves, new);
+        live::set_leaves(m, i, leaves, new);
         live::notice_hold(m, o.account, o.hold, new);
     }
 }
@@ -189,7 +214,7 @@ pub fn reprice(m: &mut [u8], id: u64, at: Found, new: u64, price: u64, leaves: u
 {
     if let Found::At(i) = at {
         let o = orders::live_at(m, i);
-        live::reprice(m, i, o, price, leaves, new);
+        live::reprice(m, i, price, leaves, new);
         live::notice_hold(m, o.account, o.hold, new);
     }
 }
@@ -201,22 +226,31 @@ pub fn retire(m: &mut [u8], id: u64, at: Found)
 {
     if let Found::At(i) = at {
         let o = orders::live_at(m, i);
-        live::retire(m, i, o);
+        live::retire(m, i);
         live::notice_hold(m, o.account, o.hold, 0);
     }
 }
 
 // ---- replayed
 
-fn change_row(m: &mut [u8], i: usize, o: Live, x: Move, new: u64)
-    requires { ⌜ State (now m) × At i o (cell (now m)) × (new ≡ P.hold-after-word x o) ⌝ }
+// What x would do to it.
+pub fn weigh_move(m: &[u8], id: u64, at: Found, x: Move) -> Shift
+    requires { ⌜ State (now m) × Sees C.order-live order number-of (cell (now m)) id at ⌝ }
+    ensures { λ r. ⌜ P.Weighs id x r (gateway (cell (now (m .entry)))) ⌝ }
+{
+    let new = after(m, id, at, x);
+    weigh(m, id, at, settles(x), new)
+}
+
+fn change_row(m: &mut [u8], i: usize, x: Move, new: u64)
+    requires { ⌜ State (now m) × At i (cell (now m)) × (new ≡ P.hold-after-word x (cell (now m) C.orders i)) ⌝ }
     ensures { λ r. ⌜ Becomes (now (m .exit)) (with-ledger (change (P.change-of (number-at i (cell (now (m .entry)))) x)) (gateway (cell (now (m .entry))))) ⌝ }
 {
     match x {
-        Move::Fill { price, qty, leaves } => live::traded(m, i, o, price, qty, leaves, new),
-        Move::Leaves { leaves } => live::set_leaves(m, i, o, leaves, new),
-        Move::Reprice { price, leaves } => live::reprice(m, i, o, price, leaves, new),
-        Move::Retire => live::retire(m, i, o),
+        Move::Fill { price, qty, leaves } => live::traded(m, i, price, qty, leaves, new),
+        Move::Leaves { leaves } => live::set_leaves(m, i, leaves, new),
+        Move::Reprice { price, leaves } => live::reprice(m, i, price, leaves, new),
+        Move::Retire => live::retire(m, i),
     }
 }
 
@@ -225,9 +259,8 @@ pub fn change(m: &mut [u8], id: u64, at: Found, x: Move)
     requires { ⌜ State (now m) × Sees C.order-live order number-of (cell (now m)) id at ⌝ }
     ensures { λ r. ⌜ Becomes (now (m .exit)) (with-ledger (change (P.change-of id x)) (gateway (cell (now (m .entry))))) ⌝ }
 {
+    let new = after(m, id, at, x);
     if let Found::At(i) = at {
-        let o = orders::live_at(m, i);
-        let new = hold_after(o, x);
-        change_row(m, i, o, x, new);
+        change_row(m, i, x, new);
     }
 }

@@ -16,7 +16,7 @@ traded-requires c κs =
     let l = c .before in
     let a = l .before .before .before in
     let s = a .before .before .before in
-    change-needs _ (s .pre .0) _ (Fill (s .args .price) (s .args .qty) (s .args .leaves)) _ (s .pre .1) _ (a .at .given .1) _ (l .live-at .ensures) _ (s .pre .2) (s .fits .new .fits)
+    change-needs _ (s .pre .0) _ (Fill (s .args .price) (s .args .qty) (s .args .leaves)) _ (s .pre .1) _ (a .at .given .1) _ (s .pre .2) (s .fits .new .fits)
 
 notice-requires : tie.Need-notice-requires
 notice-requires c κs =
@@ -24,7 +24,7 @@ notice-requires c κs =
     let l = t .before .before in
     let a = l .before .before .before in
     let s = a .before .before .before in
-    money-needs _ (s .pre .0) _ (Fill (s .args .price) (s .args .qty) (s .args .leaves)) _ (s .pre .1) _ (a .at .given .1) _ (l .live-at .ensures) _ (s .pre .2) (s .pre .3) (t .traded .ensures)
+    money-needs _ (s .pre .0) _ (Fill (s .args .price) (s .args .qty) (s .args .leaves)) _ (s .pre .1) _ (a .at .given .1) _ (s .pre .2) _ (l .live-at .ensures) (s .pre .3) (t .traded .ensures)
 
 notice-hold-requires : tie.Need-notice-hold-requires
 notice-hold-requires c κs =
@@ -33,7 +33,7 @@ notice-hold-requires c κs =
     let l = t .before .before in
     let a = l .before .before .before in
     let s = a .before .before .before in
-    hold-needs _ (s .pre .0) _ (Fill (s .args .price) (s .args .qty) (s .args .leaves)) _ (s .pre .1) _ (a .at .given .1) _ (l .live-at .ensures) _ (s .pre .2) (s .pre .3) (t .traded .ensures) (k .notice .ensures)
+    hold-needs _ (s .pre .0) _ (Fill (s .args .price) (s .args .qty) (s .args .leaves)) _ (s .pre .1) _ (a .at .given .1) _ (s .pre .2) _ (l .live-at .ensures) (s .pre .3) (t .traded .ensures) (k .notice .ensures)
 
 enum-told : tie.Need-enum-told
 enum-told c = search needs
@@ -49,7 +49,7 @@ returns c =
     let l = t .before .before in
     let a = l .before .before .before in
     let s = a .before .before .before in
-    row-moved _ (s .pre .0) _ (Fill (s .args .price) (s .args .qty) (s .args .leaves)) _ (s .pre .1) _ (a .at .given .1) _ (l .live-at .ensures) _ (s .pre .2) (s .pre .3) (t .traded .ensures) (k .notice .ensures) (h .notice-hold .ensures)
+    row-moved _ (s .pre .0) _ (Fill (s .args .price) (s .args .qty) (s .args .leaves)) _ (s .pre .1) _ (a .at .given .1) _ (s .pre .2) _ (l .live-at .ensures) (s .pre .3) (t .traded .ensures) (k .notice .ensures) (h .notice-hold .ensures)
 
 returns-2 : tie.Need-returns-2
 returns-2 c = let s = c .before .before .before in nothing-moved _ (s .pre .0) _ (Fill (s .args .price) (s .args .qty) (s .args .leaves)) _ (s .pre .1) (c .enum-told .given .1)

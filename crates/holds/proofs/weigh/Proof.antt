@@ -9,8 +9,8 @@ enum-known-at c = search needs
 live-at-requires : tie.Need-live-at-requires
 live-at-requires c κs = search weighing
 
-weigh-row-requires : tie.Need-weigh-row-requires
-weigh-row-requires c κs = search weighing
+shift-of-requires : tie.Need-shift-of-requires
+shift-of-requires c κs = search weighing
 
 returns : tie.Need-returns
 returns c = search weighing
@@ -30,7 +30,7 @@ weigh-spec =
     (tie.spec
     enum-known-at
     live-at-requires
-    weigh-row-requires
+    shift-of-requires
     returns
     enum-told
     nothing-requires

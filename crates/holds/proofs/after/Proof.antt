@@ -1,25 +1,25 @@
 use Rattle.holds.proofs.Weighing.{weighing}
 use borrow.Author.Needs.{needs}
-use Rattle.holds.proofs.hold_after.Statement.{statement}
-use Rattle.holds.proofs.hold_after.Tie as tie
+use Rattle.holds.proofs.after.Statement.{statement}
+use Rattle.holds.proofs.after.Tie as tie
 
 enum-known-x : tie.Need-enum-known-x
 enum-known-x c = search needs
 
-hold-of-requires : tie.Need-hold-of-requires
-hold-of-requires c κs = search needs
+left-requires : tie.Need-left-requires
+left-requires c κs = search needs
 
 enum-known-x-2 : tie.Need-enum-known-x-2
 enum-known-x-2 c = search needs
 
-hold-of-requires-2 : tie.Need-hold-of-requires-2
-hold-of-requires-2 c κs = search needs
+left-requires-2 : tie.Need-left-requires-2
+left-requires-2 c κs = search needs
 
 enum-known-x-3 : tie.Need-enum-known-x-3
 enum-known-x-3 c = search needs
 
-hold-of-requires-3 : tie.Need-hold-of-requires-3
-hold-of-requires-3 c κs = search needs
+repriced-requires : tie.Need-repriced-requires
+repriced-requires c κs = search needs
 
 enum-told : tie.Need-enum-told
 enum-told c = search needs
@@ -34,18 +34,18 @@ returns-3 : tie.Need-returns-3
 returns-3 c = search weighing
 
 returns-4 : tie.Need-returns-4
-returns-4 c = search needs
+returns-4 c = search weighing
 
-pub hold-after-spec : {M : Type 1} → statement M
-hold-after-spec =
+pub after-spec : {M : Type 1} → statement M
+after-spec =
     tie.close
     (tie.spec
     enum-known-x
-    hold-of-requires
+    left-requires
     enum-known-x-2
-    hold-of-requires-2
+    left-requires-2
     enum-known-x-3
-    hold-of-requires-3
+    repriced-requires
     enum-told
     returns
     returns-2
