@@ -3,7 +3,7 @@ use Prim.Native.Nat.{ℕ, _+_, _≤_, _<_}
 use mathlib.Core.Path.{_≡_}
 use mathlib.Core.Bool.{Bool, true, false, cond, _&&_}
 use mathlib.Core.Option.{Option, none, some, Option·map}
-use lib.Dec.{eqb, leb}
+use lib.Dec.{eqb, leb, ltb}
 use lib.IntN.{ℤ, _+ℤ_, _-ℤ_}
 use lib.ListN.{length, getD}
 use Rattle.orderbook.specs.declared.Side.{Side}
@@ -17,6 +17,7 @@ use Rattle.gateway.specs.Calls.{Gateway}
 use Rattle.store.specs.Cells as C
 use Rattle.store.specs.View.{Row, Store, side, wallet}
 use Rattle.orders.specs.declared.Live.{Live}
+use Rattle.sound.specs.Sound.{held-cell}
 use Rattle.live.specs.Live.{with-ledger, with-notices, hold-left, hold-repriced}
 use Rattle.holds.specs.declared.Move.{Move}
 use Rattle.holds.specs.declared.Move.the-variants.{Fill, Leaves, Reprice, Retire}
@@ -132,3 +133,10 @@ shift-of k new o s =
       notices = cond (is-some (wallet (s C.accounts (o .account)))) (notice-count k (o .hold) new) 0;
       funded = is-some (wallet (s C.accounts (o .account)));
     }
+
+-- what s changes, and the total that it is a part of, are below 2^61
+abbrev pub small : ℕ
+small = 2305843009213693952
+
+abbrev pub is-small : Shift → Store → Bool
+is-small s c = ltb (c C.accounts (s .account) (held-cell (side (s .side)))) small && (ltb (s .old) small && ltb (s .new) small)

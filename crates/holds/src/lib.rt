@@ -171,6 +171,30 @@ pub fn pair_fits(m: &[u8], s: Shift, t: Shift) -> bool
     first && second
 }
 
+// Numbers below 2^61: whatever is added of five of them fits.
+const SMALL: u64 = 2_305_843_009_213_693_952;
+
+fn is_small(m: &[u8], s: Shift) -> bool
+    requires { ⌜ State (now m) × (s .account < owner-slots) ⌝ }
+    ensures { λ r. ⌜ r ≡ P.is-small s (cell (now (m .entry))) ⌝ }
+{
+    let held = live::held_at(m, s.account as usize, store::side_of(s.side));
+    (held < SMALL) & (s.old < SMALL) & (s.new < SMALL)
+}
+
+// As `pair_fits`, for numbers that are small as a rule. The shifts are copied where they are not, so that only then they stand in memory.
+pub fn both_fit(m: &[u8], s: Shift, t: Shift) -> bool
+    requires { ⌜ Between (now m) × P.Owned s (ledger (cell (now m))) × P.Owned t (ledger (cell (now m))) ⌝ }
+    ensures { λ r. ⌜ r ≡ P.pair-fits s t (ledger (cell (now (m .entry)))) ⌝ }
+{
+    if is_small(m, s) & is_small(m, t) {
+        return true;
+    }
+    let a = s;
+    let b = t;
+    pair_fits(m, a, b)
+}
+
 // Code 5: there is room for this many notices.
 pub fn few(m: &[u8], notices: u64) -> bool
     requires { ⌜ State (now m) × (notices ≤ 4) ⌝ }

@@ -36,7 +36,8 @@ pub fn hold_of(side: u64, priced: u64, price: u64, leaves: u64) -> u64
     wallet::held(store::side_of(side), priced != 0, price, leaves)
 }
 
-fn held_at(m: &[u8], account: usize, side: Side) -> u64
+// What the account's orders of a side hold.
+pub fn held_at(m: &[u8], account: usize, side: Side) -> u64
     requires { ⌜ Holds (now m) × (account < owner-slots) ⌝ }
     ensures { λ r. ⌜ r ≡ cell (now (m .entry)) C.accounts account (held-cell side) ⌝ }
 {
