@@ -1,6 +1,5 @@
 // What the engine answers to a command, and to a stop: events of one order that leave the book as it is, each judged in 01's order before a byte is written (`deliver` of exchange.rs).
 use delivery::Tests;
-use holds::Move;
 use holds::Shift;
 use orderbook::MaybePrice;
 use orderbook::RejectReason;
@@ -146,7 +145,7 @@ fn order_refused(m: &mut [u8], n: u64, reason: RejectReason, out: &mut [u8]) -> 
     ensures { λ r. ⌜ Gives (call (gateway (cell (now (m .entry)))) (deliver-event n (Rejected n reason) (places (length (now (out .entry)))))) r (now (m .entry)) (now (m .exit)) (now (out .entry)) (now (out .exit)) ⌝ }
 {
     let live = orders::find_live(m, n);
-    let h = holds::weigh(m, n, live, Move::Retire);
+    let h = holds::weigh(m, n, live, 0, 0);
     let t = reporting::sender(m, n, n, live);
     let code = judge_order(m, n, h, t, mailbox::room(out));
     if code != 0 {

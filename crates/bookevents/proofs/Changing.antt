@@ -40,12 +40,13 @@ use Rattle.outcome.proofs.Laws.{then-becomes}
 use Rattle.reporting.specs.declared.Told.{Told}
 use Rattle.reporting.specs.Reporting.{told-mail, told-rows, Tells}
 use Rattle.reporting.proofs.Laws.{told-length, rows-are}
+use Rattle.delivery.specs.declared.Tests.{Tests}
 use Rattle.delivery.specs.Delivery.{tests, call-tests, Judges, landed, after}
 use Rattle.delivery.proofs.Calls.{judged-is, deliver-refused, deliver-done, trades-few, all-pass, told-room}
 use Rattle.holds.specs.declared.Move.{Move}
 use Rattle.holds.specs.declared.Move.the-variants.{Retire, Reprice}
 use Rattle.holds.specs.declared.Shift.{Shift}
-use Rattle.holds.specs.Holds.{change-of, moved, Weighs, shift-fits}
+use Rattle.holds.specs.Holds.{change-of, moved, Weighs, shift-fits, few-notices}
 use Rattle.holds.proofs.Laws.{one-fits, notices-come, few-noticed, few-is, weighed, noticed-room}
 use Rattle.shows.proofs.Judged.{few-after}
 use Rattle.store.specs.Cells as C
@@ -98,13 +99,17 @@ modifying n i p q v w h =
       fits = (h .price-fits, h .leaves-fit);
     }
 
+-- its tests, by what was weighed and whom it is told
+abbrev weighed-tests : (n i : ℕ) → Shift → Told → (room : ℕ) → Gateway → Tests
+weighed-tests n i h t room g = changed-tests n i (shift-fits h (g .core .ledger)) (few-notices h g) (told-rows t) room g
+
 -- room for the level of an order, where it rests
 touched-roomy : (g : Gateway) → Ok g → (i : ℕ) (f : D.Resting → Depth → Depth) → Acts f → touched-few i (g .rest .depth) ≡ true → Roomy (where-resting i f (g .rest .depth))
 touched-roomy g ok i f acts h =
     omega (arith, ap length (Depths.after i f (g .rest .depth) (ok .rest-is .feed .ascending) acts .changed-is), leb-true (length (touched i (g .rest .depth .resting) (g .rest .depth .changed))) most-changed h)
 
 module _ {n i : ℕ} {x : Move} {f : D.Resting → Depth → Depth} {k : ReportKind} {e : Event} (s : Changing n i x f k e) (g : Gateway) where
-  changing-judges : Ok g → (h : Shift) → Weighs i x h g → (t : Told) → Tells i t g → (room : ℕ) → Judges n e room g (changed-tests n i h t room g)
+  changing-judges : Ok g → (h : Shift) → Weighs i x h g → (t : Told) → Tells i t g → (room : ℕ) → Judges n e room g (weighed-tests n i h t room g)
   unfolding step
   changing-judges ok h w t tells room =
       let o = ok .rest-is .feed in
@@ -126,11 +131,11 @@ module _ {n i : ℕ} {x : Move} {f : D.Resting → Depth → Depth} {k : ReportK
   changing-after = rw (s .one-change, s .applies (g .rest .depth), s .no-tick, append-nil (g .rest .trades), append-nil (change-notices (change-of i x) (g .core .ledger))) refl
 
 module _ {n i : ℕ} {x : Move} {f : D.Resting → Depth → Depth} {k : ReportKind} {e : Event} (s : Changing n i x f k e) (xs out : List ℕ) (b : Between xs) (h : Shift) (w : Weighs i x h (gateway (cell xs))) (t : Told)
-    (tells : Tells i t (gateway (cell xs))) (p v : ℕ) (room : p ≡ places (length out)) (v-is : v ≡ verdict (tests (changed-tests n i h t p (gateway (cell xs))))) where
+    (tells : Tells i t (gateway (cell xs))) (p v : ℕ) (room : p ≡ places (length out)) (v-is : v ≡ verdict (tests (weighed-tests n i h t p (gateway (cell xs))))) where
   whole : v ≡ verdict (call-tests n e (places (length out)) (gateway (cell xs)))
   whole =
-      v-is ∙ ap (λ r. verdict (tests (changed-tests n i h t r (gateway (cell xs))))) room
-      ∙ judged-is n e (places (length out)) (gateway (cell xs)) (changed-tests n i h t (places (length out)) (gateway (cell xs))) (changing-judges s (gateway (cell xs)) (b .ok) h w t tells (places (length out)))
+      v-is ∙ ap (λ r. verdict (tests (weighed-tests n i h t r (gateway (cell xs))))) room
+      ∙ judged-is n e (places (length out)) (gateway (cell xs)) (weighed-tests n i h t (places (length out)) (gateway (cell xs))) (changing-judges s (gateway (cell xs)) (b .ok) h w t tells (places (length out)))
 
   changing-refused : (v ≡ 0 → ⊥) → Gives (call (gateway (cell xs)) (deliver-event n e (places (length out)))) (record { code = v; count = 0 }) xs xs out out
   changing-refused = deliver-refused xs out n e (s .fits) b v whole
@@ -138,7 +143,7 @@ module _ {n i : ℕ} {x : Move} {f : D.Resting → Depth → Depth} {k : ReportK
   module _ (z : v ≡ 0) where
     can-change : CanChange n i x f (gateway (cell xs))
     can-change =
-        let a = all-pass (changed-tests n i h t p (gateway (cell xs))) v v-is z in
+        let a = all-pass (weighed-tests n i h t p (gateway (cell xs))) v v-is z in
         record {
           flying = a .0;
           noticed = few-noticed (gateway (cell xs)) w (a .1 .1 .1 .1 .1 .1 .1 .1 .0);
@@ -146,7 +151,7 @@ module _ {n i : ℕ} {x : Move} {f : D.Resting → Depth → Depth} {k : ReportK
         }
 
     changing-room : 0 + told-rows t ≤ places (length out)
-    changing-room = told-room (changed-tests n i h t p (gateway (cell xs))) v (told-rows t) p (places (length out)) v-is z refl room
+    changing-room = told-room (weighed-tests n i h t p (gateway (cell xs))) v (told-rows t) p (places (length out)) v-is z refl room
 
     changing-done : {ys zs end : List ℕ} (m : ℕ) → m ≡ told-rows t → Becomes ys (in-book n i x f (gateway (cell xs))) → Sends 0 (told-mail n i k t) (λ y. y) ys zs out end →
         Gives (call (gateway (cell xs)) (deliver-event n e (places (length out)))) (record { code = 0; count = m }) xs zs out end
@@ -157,7 +162,7 @@ module _ {n i : ℕ} {x : Move} {f : D.Resting → Depth → Depth} {k : ReportK
 -- ---- cancelled, and modified
 
 module _ (xs out : List ℕ) (n i : ℕ) (b : Between xs) (h : Shift) (t : Told) (tells : Tells i t (gateway (cell xs))) (p v : ℕ) (room : p ≡ places (length out))
-    (v-is : v ≡ verdict (tests (changed-tests n i h t p (gateway (cell xs))))) where
+    (v-is : v ≡ verdict (tests (weighed-tests n i h t p (gateway (cell xs))))) where
   module _ (q : ℕ) (why : CancelReason) (w : Weighs i Retire h (gateway (cell xs))) where
     pub cancelled-refused : (v ≡ 0 → ⊥) → Gives (call (gateway (cell xs)) (deliver-event n (Cancelled i q why) (places (length out)))) (record { code = v; count = 0 }) xs xs out out
     cancelled-refused = changing-refused (cancelling n i q why) xs out b h w t tells p v room v-is
@@ -212,10 +217,14 @@ repriced-as {v = v} {w = w} e r = subst (λ (k : ℤ). Repriced k v w) e r
 
 -- ---- the judge
 
-pub changing-judged : (xs : List ℕ) (n i : ℕ) (h : Shift) (t : Told) (room k v : ℕ) (f a d w : Bool) → f ≡ in-flight n (gateway (cell xs) .core) → a ≡ shift-fits h (ledger (cell xs)) →
-    d ≡ touched-few i (depth (cell xs)) → w ≡ leb (h .notices + word (cell xs) C.notice-rows) most-notices → k ≡ told-rows t →
-    v ≡ verdict (tests (record { flying = f; below = true; numbers = leb i n; agrees = true; holds = a; levels = true; depth = d; trades = true; notices = w; room = leb k room })) →
-    v ≡ verdict (tests (changed-tests n i h t room (gateway (cell xs))))
-changing-judged xs n i h t room k v f a d w f-is a-is d-is w-is k-is e = rw (f-is, a-is, d-is, few-is xs h w w-is, k-is) at e
+module _ (xs : List ℕ) (n i : ℕ) (room k v : ℕ) (a w : Bool) where
+  pub changing-judged : (f d : Bool) → f ≡ in-flight n (gateway (cell xs) .core) → d ≡ touched-few i (depth (cell xs)) →
+      v ≡ verdict (tests (record { flying = f; below = true; numbers = leb i n; agrees = true; holds = a; levels = true; depth = d; trades = true; notices = w; room = leb k room })) →
+      v ≡ verdict (tests (changed-tests n i a w k room (gateway (cell xs))))
+  changing-judged f d f-is d-is e = rw (f-is, d-is) at e
+
+  pub by-weight : (h : Shift) (t : Told) → a ≡ shift-fits h (ledger (cell xs)) → w ≡ leb (h .notices + word (cell xs) C.notice-rows) most-notices → k ≡ told-rows t →
+      v ≡ verdict (tests (changed-tests n i a w k room (gateway (cell xs)))) → v ≡ verdict (tests (weighed-tests n i h t room (gateway (cell xs))))
+  by-weight h t a-is w-is k-is e = rw (a-is, few-is xs h w w-is, k-is) at e
 
 pub ruleset changing = (cancelled-refused, cancelled-done, can-cancel, modified-refused, can-modify, modified-done, still-roomy, still-flying, in-book-becomes, changing-judged, weighed, noticed-room, arith)

@@ -1,7 +1,7 @@
 -- Events of one order that change the book: the tests in the code's words, what is asked before they are applied, and the gateway after them.
 use Prim.Native.Nat.{ℕ, _+_, _≤_}
 use mathlib.Core.Path.{_≡_}
-use mathlib.Core.Bool.{true, not}
+use mathlib.Core.Bool.{Bool, true, not}
 use mathlib.Core.Option.{none}
 use lib.Dec.{leb}
 use lib.IntN.{ℤ}
@@ -31,19 +31,20 @@ use Rattle.shows.specs.Shows.{touched-few}
 
 -- ---- a live order changes, and its level where it rests
 
-abbrev pub changed-tests : (n i : ℕ) → Shift → Told → (room : ℕ) → Gateway → T.Tests
-changed-tests n i h t room g =
+-- of an event whose hold fits, whose notices are few, and that is told in this many rows
+abbrev pub changed-tests : (n i : ℕ) (fits few : Bool) (rows room : ℕ) → Gateway → T.Tests
+changed-tests n i fits few rows room g =
     record {
       flying = in-flight n (g .core);
       below = true;
       numbers = leb i n;
       agrees = true;
-      holds = shift-fits h (g .core .ledger);
+      holds = fits;
       levels = true;
       depth = touched-few i (g .rest .depth);
       trades = true;
-      notices = few-notices h g;
-      room = leb (told-rows t) room;
+      notices = few;
+      room = leb rows room;
     }
 
 -- what x does to the live order i, and f where it rests

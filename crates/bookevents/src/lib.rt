@@ -1,6 +1,5 @@
 // Events of one order that change the book, or what a live order holds, each judged in 01's order before a byte is written (`deliver` of exchange.rs).
 use delivery::Tests;
-use holds::Move;
 use holds::Shift;
 use orderbook::CancelReason;
 use orderbook::Side;
@@ -35,15 +34,22 @@ ghost use Rattle.bookevents.specs.BookEvents as P;
 
 // ---- a live order changes, and its level where it rests
 
-fn judge_changed(m: &[u8], n: u64, id: u64, at: Found, h: Shift, t: Told, room: usize) -> u64
-    requires { ⌜ Between (now m) × Sees C.order-resting resting D.resting-number (cell (now m)) id at × Holds.Weighed h (ledger (cell (now m))) ⌝ }
-    ensures { λ r. ⌜ r ≡ verdict (Delivery.tests (P.changed-tests n id h t room (gateway (cell (now (m .entry)))))) ⌝ }
+// The hold and the notices are tested before: so this is short enough to stand where it is called.
+fn judge_changed(
+    m: &[u8],
+    n: u64,
+    id: u64,
+    at: Found,
+    fits: bool,
+    few: bool,
+    rows: usize,
+    room: usize,
+) -> u64
+    requires { ⌜ Between (now m) × Sees C.order-resting resting D.resting-number (cell (now m)) id at ⌝ }
+    ensures { λ r. ⌜ r ≡ verdict (Delivery.tests (P.changed-tests n id fits few rows room (gateway (cell (now (m .entry)))))) ⌝ }
 {
     let flying = delivery::is_flying(m, n);
-    let fits = holds::fits(m, h);
     let depth = shows::has_room(m, id, at);
-    let few = holds::few(m, h.notices);
-    let rows = reporting::rows(t);
     delivery::code_of(Tests {
         flying,
         below: true,
@@ -82,13 +88,15 @@ pub fn cancelled(
     let at = orders::look(m, id);
     let live = at.live;
     let resting = at.resting;
-    let h = holds::weigh(m, id, live, Move::Retire);
+    let h = holds::weigh(m, id, live, 0, 0);
     let t = reporting::owner(m, id, live);
-    let code = judge_changed(m, n, id, resting, h, t, mailbox::room(out));
+    let k = reporting::rows(t);
+    let fits = holds::fits(m, h);
+    let few = holds::few(m, h.notices);
+    let code = judge_changed(m, n, id, resting, fits, few, k, mailbox::room(out));
     if code != 0 {
         return Reply { code, count: 0 };
     }
-    let k = reporting::rows(t);
     apply_cancelled(m, n, id, live, resting);
     reporting::report(m, out, 0, n, id, t, ReportKind::Cancelled { qty, reason });
     Reply { code: 0, count: k }
@@ -136,13 +144,16 @@ pub fn modified(
     let at = orders::look(m, id);
     let live = at.live;
     let resting = at.resting;
-    let h = holds::weigh(m, id, live, Move::Reprice { price: p, leaves });
+    let new = holds::repriced(m, id, live, p, leaves);
+    let h = holds::weigh(m, id, live, 0, new);
     let t = reporting::owner(m, id, live);
-    let code = judge_changed(m, n, id, resting, h, t, mailbox::room(out));
+    let k = reporting::rows(t);
+    let fits = holds::fits(m, h);
+    let few = holds::few(m, h.notices);
+    let code = judge_changed(m, n, id, resting, fits, few, k, mailbox::room(out));
     if code != 0 {
         return Reply { code, count: 0 };
     }
-    let k = reporting::rows(t);
     apply_modified(m, n, id, live, resting, p, leaves, h.new);
     reporting::report(
         m,
@@ -312,7 +323,8 @@ pub fn rested(
     let live = at.live;
     let resting = at.resting;
     let place = marketdata::place_of(m, o.side, o.price);
-    let h = holds::weigh(m, id, live, Move::Leaves { leaves: qty });
+    let new = holds::left(m, id, live, qty);
+    let h = holds::weigh(m, id, live, 0, new);
     let t = reporting::owner(m, id, live);
     let code = judge_rested(m, n, id, resting, o, place, h, t, mailbox::room(out));
     if code != 0 {

@@ -87,7 +87,7 @@ fn one(m: &mut [u8], n: u64, id: u64, x: Move) -> u64
     ensures { λ r. ⌜ ((e : E.Event) → P.Moves n id x e → Says nothing (call (gateway (cell (now (m .entry)))) (replay-event n e)) r (now (m .entry)) (now (m .exit))) ⌝ }
 {
     let at = orders::find_live(m, id);
-    let h = holds::weigh(m, id, at, x);
+    let h = holds::weigh_move(m, id, at, x);
     let fits = holds::fits(m, h);
     let code = judge(m, n, true, id <= n, fits);
     if code != 0 {
@@ -179,7 +179,7 @@ fn deal(m: &mut [u8], n: u64, d: Deal) -> u64
 {
     let at = orders::find_live(m, d.taker);
     let maker_at = orders::find_live(m, d.maker);
-    let taker = holds::weigh(
+    let taker = holds::weigh_move(
         m,
         d.taker,
         at,
@@ -189,7 +189,7 @@ fn deal(m: &mut [u8], n: u64, d: Deal) -> u64
             leaves: d.taker_leaves,
         },
     );
-    let maker = holds::weigh(
+    let maker = holds::weigh_move(
         m,
         d.maker,
         maker_at,

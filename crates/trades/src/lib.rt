@@ -1,6 +1,5 @@
 // A trade of two orders: the taker is settled and reported before the maker (`deliver` of exchange.rs).
 use delivery::Tests;
-use holds::Move;
 use holds::Shift;
 use orderbook::Side;
 use orders::Places;
@@ -131,7 +130,7 @@ fn judge(m: &[u8], n: u64, d: Deal, taker: Party, maker: Party, room: usize) -> 
     let flying = delivery::is_flying(m, n);
     let numbers = numbers_agree(n, d.taker, d.maker);
     let agrees = both_show(m, d, maker_at, taker_at);
-    let fits = holds::pair_fits(m, taker.shift, maker.shift);
+    let fits = holds::both_fit(m, taker.shift, maker.shift);
     let depth = shows::pair_room(m, d.maker, maker_at, d.taker, taker_at);
     let trades = has_room(m);
     let few = few_notices(m, taker.shift, maker.shift);
@@ -308,26 +307,10 @@ fn weigh(m: &mut [u8], n: u64, d: Deal, at: Places, maker_at: Places, out: &mut 
 {
     let live = at.live;
     let maker_live = maker_at.live;
-    let shift = holds::weigh(
-        m,
-        d.taker,
-        live,
-        Move::Fill {
-            price: d.price,
-            qty: d.qty,
-            leaves: d.taker_leaves,
-        },
-    );
-    let maker_shift = holds::weigh(
-        m,
-        d.maker,
-        maker_live,
-        Move::Fill {
-            price: d.price,
-            qty: d.qty,
-            leaves: d.maker_leaves,
-        },
-    );
+    let new = holds::left(m, d.taker, live, d.taker_leaves);
+    let shift = holds::weigh(m, d.taker, live, 1, new);
+    let maker_new = holds::left(m, d.maker, maker_live, d.maker_leaves);
+    let maker_shift = holds::weigh(m, d.maker, maker_live, 1, maker_new);
     find_owners(m, n, d, at, shift, maker_at, maker_shift, out)
 }
 

@@ -1,5 +1,8 @@
+use mathlib.Core.Path.{refl}
 use Rattle.words.proofs.Int.{read}
-use Rattle.bookevents.proofs.Changing.{changing, can-modify, modify-room, modified-done, repriced-as, modified-refused}
+use Rattle.holds.specs.declared.Move.the-variants.{Reprice}
+use Rattle.holds.proofs.Laws.{weighed}
+use Rattle.bookevents.proofs.Changing.{by-weight, can-modify, modify-room, modified-done, repriced-as, modified-refused}
 use borrow.Author.Needs.{needs}
 use Rattle.bookevents.proofs.modified.Statement.{statement}
 use Rattle.bookevents.proofs.modified.Tie as tie
@@ -10,17 +13,40 @@ price-of-requires c κs = search needs
 look-requires : tie.Need-look-requires
 look-requires c κs = search needs
 
+repriced-requires : tie.Need-repriced-requires
+repriced-requires c κs = search needs
+
 weigh-requires : tie.Need-weigh-requires
 weigh-requires c κs = search needs
 
 owner-requires : tie.Need-owner-requires
 owner-requires c κs = search needs
 
+rows-requires : tie.Need-rows-requires
+rows-requires c κs = search needs
+
+fits-requires : tie.Need-fits-requires
+fits-requires c κs =
+    let h = c .before .before .before .before in
+    let n = h .before .before in
+    let s = n .before .before .before .before .before .before .before in
+    (s .pre, (h .weigh .ensures (Reprice _ _) refl (n .repriced .ensures)) .owned)
+
+few-requires : tie.Need-few-requires
+few-requires c κs =
+    let h = c .before .before .before .before .before .before in
+    let n = h .before .before in
+    let s = n .before .before .before .before .before .before .before in
+    (s .pre .state, weighed _ _ _ _ (h .weigh .ensures (Reprice _ _) refl (n .repriced .ensures)) .few)
+
 room-requires : tie.Need-room-requires
 room-requires c κs = search needs
 
 judge-changed-requires : tie.Need-judge-changed-requires
-judge-changed-requires c κs = search changing
+judge-changed-requires c κs =
+    let l = c .before .before .before .before .before .before .before .before .before .before .before .before .before .before in
+    let s = l .before .before .before .before .before in
+    (s .pre, l .look .ensures .1)
 
 same-length : tie.Need-same-length
 same-length c = search needs
@@ -30,41 +56,50 @@ same-length-2 c = search needs
 
 returns : tie.Need-returns
 returns c =
-    let a = c in
-    let b = a .before in
-    let d = b .before in
-    let e = d .before .before .before in
-    let f = e .before .before in
-    let g = f .before .before .before .before in
-    let h = g .before .before .before in
-    modified-refused (h .args .m .now) (h .args .out .now) (h .args .n) (h .args .id) (h .pre) _ _ (e .owner .ensures) _ _ (d .room .ensures) (b .judge-changed .ensures) (h .args .price) (h .args .qty) _ _ (repriced-as (read {x = h .args .price} (h .fits .price .sfits)) (g .price-of .ensures)) (f .weigh .ensures) (a .if1 .taken)
-
-rows-requires : tie.Need-rows-requires
-rows-requires c κs = search needs
+    let i = c in
+    let j = i .before in
+    let p = j .before in
+    let w = p .before .before .before in
+    let f = w .before .before in
+    let r = f .before .before in
+    let o = r .before in
+    let h = o .before .before in
+    let n = h .before .before in
+    let d = n .before .before .before .before in
+    let s = d .before .before .before in
+    modified-refused (s .args .m .now) (s .args .out .now) (s .args .n) (s .args .id) (s .pre) _ _ (o .owner .ensures) _ _ (p .room .ensures) (by-weight _ _ _ _ _ _ _ _ (h .weigh .result) (o .owner .result) (f .fits2 .ensures) (w .few .ensures) (r .rows .ensures .0) (j .judge-changed .ensures)) (s .args .price) (s .args .qty) _ _ (repriced-as (read {x = s .args .price} (s .fits .price .sfits)) (d .price-of .ensures)) (h .weigh .ensures (Reprice _ _) refl (n .repriced .ensures)) (i .if1 .taken)
 
 apply-modified-requires : tie.Need-apply-modified-requires
 apply-modified-requires c κs =
-    let a = c .before .before in
-    let b = a .before in
-    let d = b .before in
-    let e = d .before .before .before in
-    let f = e .before .before in
-    let g = f .before .before in
-    let h = g .before .before in
-    let i = h .before .before .before in
-    (i .pre .state, g .look .ensures .0, f .weigh .ensures .holds, can-modify (i .args .m .now) (i .args .out .now) (i .args .n) (i .args .id) (i .pre) _ _ (e .owner .ensures) _ _ (d .room .ensures) (b .judge-changed .ensures) (i .args .price) (i .args .qty) _ _ (repriced-as (read {x = i .args .price} (i .fits .price .sfits)) (h .price-of .ensures)) (f .weigh .ensures) (a .if1 .left))
+    let i = c .before in
+    let j = i .before in
+    let p = j .before in
+    let w = p .before .before .before in
+    let f = w .before .before in
+    let r = f .before .before in
+    let o = r .before in
+    let h = o .before .before in
+    let n = h .before .before in
+    let l = n .before .before in
+    let d = l .before .before in
+    let s = d .before .before .before in
+    (s .pre .state, l .look .ensures .0, (h .weigh .ensures (Reprice _ _) refl (n .repriced .ensures)) .holds, can-modify (s .args .m .now) (s .args .out .now) (s .args .n) (s .args .id) (s .pre) _ _ (o .owner .ensures) _ _ (p .room .ensures) (by-weight _ _ _ _ _ _ _ _ (h .weigh .result) (o .owner .result) (f .fits2 .ensures) (w .few .ensures) (r .rows .ensures .0) (j .judge-changed .ensures)) (s .args .price) (s .args .qty) _ _ (repriced-as (read {x = s .args .price} (s .fits .price .sfits)) (d .price-of .ensures)) (h .weigh .ensures (Reprice _ _) refl (n .repriced .ensures)) (i .if1 .left))
 
 report-requires : tie.Need-report-requires
 report-requires c κs =
     let a = c .before .before .before .before in
-    let b = a .before .before .before in
-    let d = b .before in
-    let e = d .before in
-    let f = e .before .before .before in
-    let g = f .before .before in
-    let h = g .before .before .before .before in
-    let i = h .before .before .before in
-    (a .apply-modified .ensures .state, f .owner .ensures .slot, modify-room (i .args .m .now) (i .args .out .now) (i .args .n) (i .args .id) (i .pre) _ _ (f .owner .ensures) _ _ (e .room .ensures) (d .judge-changed .ensures) (i .args .price) (i .args .qty) _ _ (repriced-as (read {x = i .args .price} (i .fits .price .sfits)) (h .price-of .ensures)) (g .weigh .ensures) (b .if1 .left))
+    let i = a .before .before in
+    let j = i .before in
+    let p = j .before in
+    let w = p .before .before .before in
+    let f = w .before .before in
+    let r = f .before .before in
+    let o = r .before in
+    let h = o .before .before in
+    let n = h .before .before in
+    let d = n .before .before .before .before in
+    let s = d .before .before .before in
+    (a .apply-modified .ensures .state, o .owner .ensures .slot, modify-room (s .args .m .now) (s .args .out .now) (s .args .n) (s .args .id) (s .pre) _ _ (o .owner .ensures) _ _ (p .room .ensures) (by-weight _ _ _ _ _ _ _ _ (h .weigh .result) (o .owner .result) (f .fits2 .ensures) (w .few .ensures) (r .rows .ensures .0) (j .judge-changed .ensures)) (s .args .price) (s .args .qty) _ _ (repriced-as (read {x = s .args .price} (s .fits .price .sfits)) (d .price-of .ensures)) (h .weigh .ensures (Reprice _ _) refl (n .repriced .ensures)) (i .if1 .left))
 
 same-length-3 : tie.Need-same-length-3
 same-length-3 c = search needs
@@ -74,17 +109,20 @@ same-length-4 c = search needs
 
 returns-2 : tie.Need-returns-2
 returns-2 c =
-    let a = c .before .before .before .before in
-    let b = a .before .before .before .before .before in
-    let d = b .before .before in
-    let e = d .before in
-    let f = e .before in
-    let g = f .before in
-    let h = g .before .before .before in
-    let i = h .before .before in
-    let j = i .before .before .before .before in
-    let k = j .before .before .before in
-    modified-done (k .args .m .now) (k .args .out .now) (k .args .n) (k .args .id) (k .pre) _ _ (h .owner .ensures) _ _ (g .room .ensures) (f .judge-changed .ensures) (k .args .price) (k .args .qty) _ _ (repriced-as (read {x = k .args .price} (k .fits .price .sfits)) (j .price-of .ensures)) (i .weigh .ensures) _ _ (read {x = k .args .price} (k .fits .price .sfits)) (e .if1 .left) (d .rows .ensures .0) (b .apply-modified .ensures) (a .report .ensures)
+    let e = c .before .before .before .before in
+    let a = e .before .before .before .before .before in
+    let i = a .before .before in
+    let j = i .before in
+    let p = j .before in
+    let w = p .before .before .before in
+    let f = w .before .before in
+    let r = f .before .before in
+    let o = r .before in
+    let h = o .before .before in
+    let n = h .before .before in
+    let d = n .before .before .before .before in
+    let s = d .before .before .before in
+    modified-done (s .args .m .now) (s .args .out .now) (s .args .n) (s .args .id) (s .pre) _ _ (o .owner .ensures) _ _ (p .room .ensures) (by-weight _ _ _ _ _ _ _ _ (h .weigh .result) (o .owner .result) (f .fits2 .ensures) (w .few .ensures) (r .rows .ensures .0) (j .judge-changed .ensures)) (s .args .price) (s .args .qty) _ _ (repriced-as (read {x = s .args .price} (s .fits .price .sfits)) (d .price-of .ensures)) (h .weigh .ensures (Reprice _ _) refl (n .repriced .ensures)) _ _ (read {x = s .args .price} (s .fits .price .sfits)) (i .if1 .left) (r .rows .ensures .0) (a .apply-modified .ensures) (e .report .ensures)
 
 pub modified-spec : {M : Type 1} → statement M
 modified-spec =
@@ -92,14 +130,17 @@ modified-spec =
     (tie.spec
     price-of-requires
     look-requires
+    repriced-requires
     weigh-requires
     owner-requires
+    rows-requires
+    fits-requires
+    few-requires
     room-requires
     judge-changed-requires
     same-length
     same-length-2
     returns
-    rows-requires
     apply-modified-requires
     report-requires
     same-length-3
