@@ -12,8 +12,8 @@ numbers-agree-requires c κs = search needs
 both-show-requires : tie.Need-both-show-requires
 both-show-requires c κs = search needs
 
-pair-fits-requires : tie.Need-pair-fits-requires
-pair-fits-requires c κs = search needs
+both-fit-requires : tie.Need-both-fit-requires
+both-fit-requires c κs = search needs
 
 pair-room-requires : tie.Need-pair-room-requires
 pair-room-requires c κs = search needs
@@ -46,7 +46,7 @@ judge-spec =
     is-flying-requires
     numbers-agree-requires
     both-show-requires
-    pair-fits-requires
+    both-fit-requires
     pair-room-requires
     has-room-requires
     few-notices-requires
