@@ -371,6 +371,13 @@ pub fn session_of(m: &[u8], a: usize) -> u64
     store::get(m, store::ACCOUNTS, a, cells::ACCOUNT_SESSION)
 }
 
+pub fn is_closing(m: &[u8], s: usize) -> bool
+    requires { ⌜ Holds (now m) × (s < session-slots) ⌝ }
+    ensures { λ r. ⌜ r ≡ flag (cell (now (m .entry)) C.sessions s C.session-closing) ⌝ }
+{
+    is_set(m, store::SESSIONS, s, cells::SESSION_CLOSING)
+}
+
 pub fn connect(m: &mut [u8], s: usize, at: u64)
     requires { ⌜ Holds (now m) × (s < session-slots) ⌝ }
     ensures { λ r. ⌜ Is (now (m .exit)) (P.connect s at (cell (now (m .entry)))) ⌝ }

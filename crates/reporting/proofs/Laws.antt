@@ -3,7 +3,7 @@ use mathlib.Core.Path.{_≡_, refl, sym, ap, _∙_}
 use mathlib.Core.Bool.{Bool, true, false, cond, not, _&&_, false≢true}
 use mathlib.Core.Logic.{⊎-elim}
 use mathlib.Core.List.{List, [], _∷_}
-use mathlib.Core.Option.{Option, none, some}
+use mathlib.Core.Option.{Option, none, some, Option·none-ne-some}
 use Prim.Native.Nat.{ℕ, _+_, _-_, _≤_, _<_}
 use native.Mathlib.Omega.{arith}
 use borrow.Author.Tests.{eq-eqb, ne-eqb}
@@ -15,17 +15,18 @@ use Rattle.protocol.specs.declared.ReportKind.{ReportKind}
 use Rattle.protocol.specs.declared.Outbound.the-variants as Out
 use Rattle.table.specs.declared.Found.{Found}
 use Rattle.table.specs.declared.Found.the-variants.{At, Nothing}
-use Rattle.gateway.specs.Basics.{option}
+use Rattle.gateway.specs.Basics.{option, is-some}
 use Rattle.gateway.specs.Core.{drop-below, in-flight}
 use Rattle.gateway.specs.Core as C2
 use Rattle.gateway.specs.Limits.{owner-slots, session-slots}
 use Rattle.gateway.specs.Ledger.{Order, number-of, find}
-use Rattle.gateway.specs.Rest.{Mail, Rest, send, session-at, session-of, account-of, is-open, logged-in, report, report-to}
+use Rattle.gateway.specs.Rest.{Session, Mail, Rest, send, session-at, session-of, account-of, is-open, logged-in, report, report-to}
 use Rattle.gateway.specs.Deliver.{about, tell-owner, tell-sender, refused-ref}
 use Rattle.gateway.specs.Calls.{Gateway}
 use Rattle.store.specs.Cells as C
 use Rattle.store.specs.Layout.{cell, Holds}
-use Rattle.store.specs.View.{optional, order, ledger, gateway, order-room, in-slot, Ready}
+use Rattle.store.specs.View.{Row, flag, session, optional, order, ledger, gateway, order-room, in-slot, Ready}
+use Rattle.store.proofs.Listed.{listed-at}
 use Rattle.clients.proofs.Links.{session-of-cell}
 use Rattle.orders.specs.declared.Live.{Live}
 use Rattle.orders.specs.Orders.{Sorted, Sees, live-row}
@@ -47,6 +48,11 @@ none-is s h = rw (eq-eqb s 0 h) refl
 
 -- ---- the listener
 
+-- a session that is logged in is open unless it is closing
+unless-closing : {a : ℕ} (c : Bool) (y : Session) → account-of (cond c (some y) none) ≡ some a → is-open (cond c (some y) none) ≡ not (y .closing)
+unless-closing true y e = ap (λ w. is-some w && not (y .closing)) e
+unless-closing {a} false y e = absurd (Option·none-ne-some a e)
+
 module _ {xs : List ℕ} (st : State xs) (a s : ℕ) (l : a < owner-slots) (s-is : s ≡ cell xs C.accounts a C.account-session) where
   session-is : session-of a (rest-of xs) ≡ optional s
   session-is = session-of-cell (cell xs) a (st .sound .clients .linked) l ∙ ap optional (sym s-is)
@@ -54,19 +60,33 @@ module _ {xs : List ℕ} (st : State xs) (a s : ℕ) (l : a < owner-slots) (s-is
   pub slot-of : (s ≡ 0 → ⊥) → s ≤ session-slots
   slot-of h = let u = st .sound .clients .linked .back a (s - 1) l (omega arith) in omega (arith, u .0)
 
+  pub slot-below : (s ≡ 0 → ⊥) → s - 1 < session-slots
+  slot-below h = omega (arith, slot-of h, h)
+
   pub nobody-listens : s ≡ 0 → Hears a 0 (rest-of xs)
   nobody-listens h = record { slot = omega arith; is = sym (ap (option none (λ t. cond (is-open (session-at t (rest-of xs))) (some t) none)) (session-is ∙ none-is s h)) }
 
-  module _ (h : s ≡ 0 → ⊥) (b : Bool) (b-is : b ≡ is-open (session-at (s - 1) (rest-of xs))) where
-    open-is : where-open (session-of a (rest-of xs)) (rest-of xs) ≡ cond b (some (s - 1)) none
+  module _ (h : s ≡ 0 → ⊥) (b : Bool) (b-is : b ≡ flag (cell xs C.sessions (s - 1) C.session-closing)) where
+    abbrev row : Row
+    row = cell xs C.sessions (s - 1)
+
+    link : (s - 1 < session-slots) × (account-of (session row) ≡ some a)
+    link = st .sound .clients .linked .back a (s - 1) l (sym s-is ∙ omega arith)
+
+    open-row : is-open (session-at (s - 1) (rest-of xs)) ≡ not b
+    open-row =
+        ap is-open (listed-at (λ j. session (cell xs C.sessions j)) session-slots (s - 1) none (link .0)) ∙ unless-closing (flag (row C.session-connected)) _ (link .1) ∙ ap not (sym b-is)
+
+    open-is : where-open (session-of a (rest-of xs)) (rest-of xs) ≡ cond (not b) (some (s - 1)) none
     open-is =
-        ap (option none (λ t. cond (is-open (session-at t (rest-of xs))) (some t) none)) (session-is ∙ some-is s h) ∙ ap (λ (d : Bool). cond d (some (s - 1)) none) (sym b-is)
+        ap (option none (λ t. cond (is-open (session-at t (rest-of xs))) (some t) none)) (session-is ∙ some-is s h)
+        ∙ ap (λ (d : Bool). cond d (some (s - 1)) none) open-row
 
-    pub listens : b ≡ true → Hears a s (rest-of xs)
-    listens e = record { slot = slot-of h; is = some-is s h ∙ sym (open-is ∙ ap (λ (d : Bool). cond d (some (s - 1)) none) e) }
+    pub listens : b ≡ false → Hears a s (rest-of xs)
+    listens e = record { slot = slot-of h; is = some-is s h ∙ sym (open-is ∙ ap (λ (d : Bool). cond (not d) (some (s - 1)) none) e) }
 
-    pub is-deaf : b ≡ false → Hears a 0 (rest-of xs)
-    is-deaf e = record { slot = omega arith; is = sym (open-is ∙ ap (λ (d : Bool). cond d (some (s - 1)) none) e) }
+    pub is-deaf : b ≡ true → Hears a 0 (rest-of xs)
+    is-deaf e = record { slot = omega arith; is = sym (open-is ∙ ap (λ (d : Bool). cond (not d) (some (s - 1)) none) e) }
 
 pub session-count : (xs : List ℕ) → length (rest-of xs .sessions) ≡ session-slots
 session-count xs = slots xs
@@ -226,4 +246,4 @@ module _ {xs : List ℕ} (st : State xs) (n i : ℕ) (f : Flight.Flight) (f-is :
   pub told-placer : (f .places ≡ 0 → ⊥) → (ref : ℕ) → ref ≡ option 0 (λ o. o .client-ref) (find i (ledger (cell xs) .orders)) → TellsSender n i (record { to = to; «client_ref» = ref }) (gateway (cell xs))
   told-placer h ref ref-is = record { slot = sends .slot; mail = refused-mail ref (rw (ne-eqb (f .places) 0 h) (sym ref-is)) }
 
-pub ruleset reports = (nobody-listens, listens, is-deaf, told-nobody, told-owner, no-rows, one-row, no-report, one-report, row-small, owner-small, ref-there, ref-none, speaks-not, speaks-other, speaks, sent-by-nobody, sent-by-other, sent-by, session-count, told-refused, told-placer, arith)
+pub ruleset reports = (slot-below, nobody-listens, listens, is-deaf, told-nobody, told-owner, no-rows, one-row, no-report, one-report, row-small, owner-small, ref-there, ref-none, speaks-not, speaks-other, speaks, sent-by-nobody, sent-by-other, sent-by, session-count, told-refused, told-placer, arith)

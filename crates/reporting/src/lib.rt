@@ -33,10 +33,11 @@ pub fn listener(m: &[u8], account: usize) -> u64
     if s == 0 {
         return 0;
     }
-    if clients::is_open(m, (s - 1) as usize) {
-        return s;
+    // A session that an account names is logged in: it is open unless it is closing.
+    if clients::is_closing(m, (s - 1) as usize) {
+        return 0;
     }
-    0
+    s
 }
 
 // For the owner of the live order `id`, which stands at `at`.

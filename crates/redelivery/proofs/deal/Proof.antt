@@ -10,11 +10,11 @@ find-live-requires c κs = search needs
 find-live-requires-2 : tie.Need-find-live-requires-2
 find-live-requires-2 c κs = search needs
 
-weigh-requires : tie.Need-weigh-requires
-weigh-requires c κs = search needs
+weigh-move-requires : tie.Need-weigh-move-requires
+weigh-move-requires c κs = search needs
 
-weigh-requires-2 : tie.Need-weigh-requires-2
-weigh-requires-2 c κs = search needs
+weigh-move-requires-2 : tie.Need-weigh-move-requires-2
+weigh-move-requires-2 c κs = search needs
 
 judge-trade-requires : tie.Need-judge-trade-requires
 judge-trade-requires c κs = search needs
@@ -28,7 +28,7 @@ returns c = search orders
 apply-trade-requires : tie.Need-apply-trade-requires
 apply-trade-requires c κs =
     let s = c .before .before .before .before .before .before .before .before .before .before .before .before .before .before .before in
-    (s .pre .0 .state, c .before .before .before .before .before .before .before .before .before .before .before .before .find-live .ensures, trade-flying (s .args .m .now) (s .pre .0) (s .args .n) (s .args .d) (s .pre .1) _ _ (c .before .before .before .before .before .before .before .before .weigh .ensures) (c .before .before .before .before .before .before .weigh2 .ensures) _ (c .before .before .before .before .judge-trade .ensures) (c .before .before .before .if1 .left))
+    (s .pre .0 .state, c .before .before .before .before .before .before .before .before .before .before .before .before .find-live .ensures, trade-flying (s .args .m .now) (s .pre .0) (s .args .n) (s .args .d) (s .pre .1) _ _ (c .before .before .before .before .before .before .before .before .weigh-move .ensures) (c .before .before .before .before .before .before .weigh-move2 .ensures) _ (c .before .before .before .before .judge-trade .ensures) (c .before .before .before .if1 .left))
 
 same-length-2 : tie.Need-same-length-2
 same-length-2 c = search needs
@@ -36,7 +36,7 @@ same-length-2 c = search needs
 returns-2 : tie.Need-returns-2
 returns-2 c =
     let s = c .before .before .before .before .before .before .before .before .before .before .before .before .before .before .before .before .before .before in
-    trade-done (s .args .m .now) (s .pre .0) (s .args .n) (s .args .d) (s .pre .1) _ _ (c .before .before .before .before .before .before .before .before .before .before .before .weigh .ensures) (c .before .before .before .before .before .before .before .before .before .weigh2 .ensures) _ (c .before .before .before .before .before .before .before .judge-trade .ensures) _ refl (c .before .before .before .before .before .before .if1 .left) (c .before .before .apply-trade .ensures)
+    trade-done (s .args .m .now) (s .pre .0) (s .args .n) (s .args .d) (s .pre .1) _ _ (c .before .before .before .before .before .before .before .before .before .before .before .weigh-move .ensures) (c .before .before .before .before .before .before .before .before .before .weigh-move2 .ensures) _ (c .before .before .before .before .before .before .before .judge-trade .ensures) _ refl (c .before .before .before .before .before .before .if1 .left) (c .before .before .apply-trade .ensures)
 
 pub deal-spec : {M : Type 1} → statement M
 deal-spec =
@@ -44,8 +44,8 @@ deal-spec =
     (tie.spec
     find-live-requires
     find-live-requires-2
-    weigh-requires
-    weigh-requires-2
+    weigh-move-requires
+    weigh-move-requires-2
     judge-trade-requires
     same-length
     returns

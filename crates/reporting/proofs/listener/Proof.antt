@@ -9,11 +9,11 @@ session-of-requires c κs = search needs
 returns : tie.Need-returns
 returns c = search reports
 
-sub-is-open : tie.Need-sub-is-open
-sub-is-open c = search needs
+sub-is-closing : tie.Need-sub-is-closing
+sub-is-closing c = search needs
 
-is-open-requires : tie.Need-is-open-requires
-is-open-requires c κs = search needs
+is-closing-requires : tie.Need-is-closing-requires
+is-closing-requires c κs = search reports
 
 returns-2 : tie.Need-returns-2
 returns-2 c = search reports
@@ -24,4 +24,4 @@ returns-3 c = search reports
 pub listener-spec : {M : Type 1} → statement M
 listener-spec =
     tie.close
-    (tie.spec session-of-requires returns sub-is-open is-open-requires returns-2 returns-3)
+    (tie.spec session-of-requires returns sub-is-closing is-closing-requires returns-2 returns-3)
