@@ -435,6 +435,16 @@ module _ (s : Side) {xs : List ℕ} (t : Table s xs) where
             ⊎-elim (λ (g : j < i - 1). omega (arith, t .asc j (i - 1) g (omega arith), w, ap key q))
             (λ (g : i - 1 ≤ j). let e : j ≡ i - 1 = omega arith in rw e (omega (arith, w, ap key q))) (lt-or-le j (i - 1))
 
+  -- the row that bears k is that one
+  pub bears-is : (k i n : ℕ) (r : Row) → n ≡ used s (cell xs) → i < n → r ≡ row s (cell xs) i → r .key ≡ k → Sought s xs k i
+  bears-is k i n r e h q w =
+      record {
+        inside = omega arith;
+        top = omega arith;
+        below = λ j l. omega (arith, t .asc j i l (omega arith), w, ap key q);
+        above = above-is k i (omega arith) (λ _. omega (arith, w, ap key q));
+      }
+
   pub join-is : {ys : List ℕ} (i v : ℕ) (r : Row) → i < used s (cell xs) → 0 < row s (cell xs) i .orders → Joins v (row s (cell xs) i) → r ≡ row s (cell xs) i → r .key < modulus →
       ys ≡ puts widths xs (base s + 32 * i) (r .key ∷ (r .qty + v) ∷ (r .orders + 1) ∷ []) → Did s xs ys (replace key (one-more v (row s (cell xs) i)) (entries s (cell xs)))
   join-is {ys} i v r h l j e f w =
@@ -642,4 +652,4 @@ pub put-down-is : (s : Side) {xs : List ℕ} (ys : List ℕ) {zs us : List ℕ} 
     Did s xs us (insert key (opened k x) (entries s (cell xs)))
 put-down-is s ys n v b i d k x p q h kf xf n-is v-is e o w c = down-did s ys p q h x kf xf (rw e at o) w n v n-is v-is c
 
-pub ruleset laws = (read-is, write-is, used-is, size-is, recount-is, sorted-at, sought-is, past-is, here-is, not-here-is, low-is, join-is, show-is, remove-last-is, remove-one-is, add-join-is, add-new-is, take-out-is, some-level, size-few, none-seen, none-below, one-below, dead-is, grown-in, grown-behind, put-up-is, put-down-is, arith)
+pub ruleset laws = (read-is, write-is, used-is, size-is, recount-is, sorted-at, sought-is, past-is, here-is, not-here-is, low-is, bears-is, join-is, show-is, remove-last-is, remove-one-is, add-join-is, add-new-is, take-out-is, some-level, size-few, none-seen, none-below, one-below, dead-is, grown-in, grown-behind, put-up-is, put-down-is, arith)

@@ -131,6 +131,19 @@ fn seek_near(m: &[u8], side: Side, key: u64, hint: usize) -> usize
     seek(m, side, key)
 }
 
+// As `seek`, of a key that the row `hint` may bear.
+fn seek_at(m: &[u8], side: Side, key: u64, hint: usize) -> usize
+    requires { ⌜ L.Table side (now m) ⌝ }
+    ensures { λ r. ⌜ L.Sought side (now (m .entry)) key r ⌝ }
+{
+    if hint < used(m, side) {
+        if read_row(m, side, hint).key == key {
+            return hint;
+        }
+    }
+    seek(m, side, key)
+}
+
 // The first row whose key is not below `key`.
 pub fn seek(m: &[u8], side: Side, key: u64) -> usize
     requires { ⌜ L.Table side (now m) ⌝ }
@@ -300,12 +313,12 @@ pub fn add(m: &mut [u8], side: Side, key: u64, visible: u64, hint: usize)
     put_in(m, side, i, key, visible);
 }
 
-// An order that showed `before` shows `after`.
-pub fn show(m: &mut [u8], side: Side, key: u64, before: u64, after: u64)
+// An order that showed `before` shows `after`. Its level may be in the row `hint`.
+pub fn show(m: &mut [u8], side: Side, key: u64, before: u64, after: u64, hint: usize)
     requires { ⌜ L.Table side (now m) × L.CanShow before after (look L.key key (L.entries side (cell (now m)))) ⌝ }
     ensures { λ r. ⌜ L.Did side (now (m .entry)) (now (m .exit)) (L.shown key before after (L.entries side (cell (now (m .entry))))) ⌝ }
 {
-    let i = seek(m, side, key);
+    let i = seek_at(m, side, key, hint);
     let r = read_row(m, side, i);
     write_row(
         m,
@@ -339,12 +352,12 @@ fn take_out(m: &mut [u8], side: Side, i: usize, key: u64)
     recount(m, side, n, k - 1);
 }
 
-// An order that showed `visible` goes.
-pub fn remove(m: &mut [u8], side: Side, key: u64, visible: u64)
+// An order that showed `visible` goes. Its level may be in the row `hint`.
+pub fn remove(m: &mut [u8], side: Side, key: u64, visible: u64, hint: usize)
     requires { ⌜ L.Table side (now m) × L.CanRemove visible (look L.key key (L.entries side (cell (now m)))) ⌝ }
     ensures { λ r. ⌜ L.Did side (now (m .entry)) (now (m .exit)) (L.removed key visible (L.entries side (cell (now (m .entry))))) ⌝ }
 {
-    let i = seek(m, side, key);
+    let i = seek_at(m, side, key, hint);
     let r = read_row(m, side, i);
     if r.orders == 1 {
         take_out(m, side, i, key);

@@ -1,6 +1,5 @@
 // A book listing in a lent list of rows, for set-up and `finish`: its entries, how often a number is listed, its price levels, and its resting
 // orders as they come to stand in the depth (`Depth::of` of marketdata/src/lib.rs).
-use orders::Resting;
 use store::limits;
 use table::Found;
 ghost use mathlib.Core.Path.{_≡_};
@@ -221,13 +220,16 @@ fn rest_row(m: &mut [u8], list: &[u8], j: usize)
 {
     let e = entry_at(list, j);
     if e.kind == 0 {
-        let o = Resting {
-            side: e.side,
-            price: e.price,
-            visible: e.visible,
-            leaves: e.leaves,
-        };
-        marketdata::rest(m, e.number, o, Found::Nothing, 0);
+        marketdata::rest(
+            m,
+            e.number,
+            e.side,
+            e.price,
+            e.visible,
+            e.leaves,
+            Found::Nothing,
+            0,
+        );
     }
 }
 

@@ -136,6 +136,7 @@ pub extern "C" fn tables_levels_find(m: &[u8], code: u32, key: u64) -> u64
     shown(m, side_of(code), key)
 }
 
+// The hint of a level's row is always 0, so that what is timed is the search.
 #[no_mangle]
 pub extern "C" fn tables_levels_add(m: &mut [u8], code: u32, key: u64, visible: u64)
     requires { ⌜ L.Table (side code) (now m) × L.CanAdd (L.size (side code) (cell (now m))) visible (look L.key key (L.entries (side code) (cell (now m)))) ⌝ }
@@ -149,7 +150,7 @@ pub extern "C" fn tables_levels_show(m: &mut [u8], code: u32, key: u64, before: 
     requires { ⌜ L.Table (side code) (now m) × L.CanShow before after (look L.key key (L.entries (side code) (cell (now m)))) ⌝ }
     ensures { λ r. ⌜ L.Did (side code) (now (m .entry)) (now (m .exit)) (L.shown key before after (L.entries (side code) (cell (now (m .entry))))) ⌝ }
 {
-    levels::show(m, side_of(code), key, before, after);
+    levels::show(m, side_of(code), key, before, after, 0);
 }
 
 #[no_mangle]
@@ -157,5 +158,5 @@ pub extern "C" fn tables_levels_remove(m: &mut [u8], code: u32, key: u64, visibl
     requires { ⌜ L.Table (side code) (now m) × L.CanRemove visible (look L.key key (L.entries (side code) (cell (now m)))) ⌝ }
     ensures { λ r. ⌜ L.Did (side code) (now (m .entry)) (now (m .exit)) (L.removed key visible (L.entries (side code) (cell (now (m .entry))))) ⌝ }
 {
-    levels::remove(m, side_of(code), key, visible);
+    levels::remove(m, side_of(code), key, visible, 0);
 }

@@ -217,8 +217,8 @@ module _ {xs : List ℕ} (s : State xs) (i n : ℕ) (o : Resting) (f : Free i n 
     pub rest-asks : Holds ys × (i < order-room) × (word (cell ys) C.resting-orders < order-room)
     rest-asks = let t = rest-can s n o j k kq added i (f .inside) (f .number-is) (f .free) in (d .table .holds, t .0, t .1)
 
-    pub join-done : {zs : List ℕ} → Is zs (Orders.rest i o (cell ys)) → Becomes zs (with-depth (with-resting (insert D.resting-number (resting-of n o))) (gateway (cell xs)))
-    join-done h = rest-done s n o j k kq added i (f .inside) (f .number-is) (f .free) h
+    pub join-done : (l : ℕ) {zs : List ℕ} → Is zs (Orders.rest i o l (cell ys)) → Becomes zs (with-depth (with-resting (insert D.resting-number (resting-of n o))) (gateway (cell xs)))
+    join-done l h = rest-done s n o j k kq added i (f .inside) (f .number-is) (f .free) l h
 
 module _ {xs : List ℕ} (s : State xs) (n : ℕ) (o : Resting) (c : CanAdd (resting-of n o) (cell xs)) where
   abbrev r″ : D.Resting

@@ -100,25 +100,26 @@ module _ {xs : List ℕ} (s : State xs) (n : ℕ) (o : Resting) (judged : Judged
       pub rest-can : (i < order-room) × (word (cell ys) C.resting-orders < order-room)
       rest-can = (omega (arith, inside-kept s z d i inside, follows .ordered .bounds .orders-fit), omega (arith, follows .resting-few))
 
-      does : Did (cell ys) (rest i o (cell ys)) (ledger (cell ys) .orders) more
-      does =
-          subst (λ rs. Did (cell ys) (rest i o (cell ys)) (ledger (cell ys) .orders) rs)
-          (ap₂ (λ (m : ℕ) (l : List D.Resting). insert D.resting-number (resting-of m o) l) (cell-kept s z d i inside C.order-number (omega arith) ∙ number-is) (list-kept s z d))
-          (rest-view (cell ys) i (follows .ordered) (inside-kept s z d i inside) o (cell-kept s z d i inside C.order-resting (omega arith) ∙ free))
+      module _ (l : ℕ) where
+        does : Did (cell ys) (rest i o l (cell ys)) (ledger (cell ys) .orders) more
+        does =
+            subst (λ rs. Did (cell ys) (rest i o l (cell ys)) (ledger (cell ys) .orders) rs)
+            (ap₂ (λ (m : ℕ) (rs : List D.Resting). insert D.resting-number (resting-of m o) rs) (cell-kept s z d i inside C.order-number (omega arith) ∙ number-is) (list-kept s z d))
+            (rest-view (cell ys) i (follows .ordered) (inside-kept s z d i inside) o l (cell-kept s z d i inside C.order-resting (omega arith) ∙ free))
 
-      beyond : Beyond (cell ys) (rest i o (cell ys))
-      unfolding rest fill
-      beyond = beyond-same (cell ys) (rest i o (cell ys)) refl
+        beyond : Beyond (cell ys) (rest i o l (cell ys))
+        unfolding rest fill
+        beyond = beyond-same (cell ys) (rest i o l (cell ys)) refl
 
-      rows-are : word (rest i o (cell ys)) C.order-rows ≡ word (cell ys) C.order-rows
-      unfolding rest fill
-      rows-are = refl
+        rows-are : word (rest i o l (cell ys)) C.order-rows ≡ word (cell ys) C.order-rows
+        unfolding rest fill
+        rows-are = refl
 
-      -- as many as the list has
-      count-few : word (rest i o (cell ys)) C.resting-orders ≤ most-orders
-      count-few = omega (arith, does .ordered .counted .resting-count, ap (λ g. length (g .rest .depth .resting)) (does .view), few .0)
+        -- as many as the list has
+        count-few : word (rest i o l (cell ys)) C.resting-orders ≤ most-orders
+        count-few = omega (arith, does .ordered .counted .resting-count, ap (λ g. length (g .rest .depth .resting)) (does .view), few .0)
 
-      pub rest-done : {zs : List ℕ} → Is zs (rest i o (cell ys)) → Becomes zs (with-depth (with-resting (insert D.resting-number r)) (gateway (cell xs)))
-      rest-done h =
-          let t = rest-touched (cell ys) i (follows .ordered) (inside-kept s z d i inside) o in
-          row-done s z d (rest i o (cell ys)) h follows does beyond (rows-touched i _ t refl rows-are beyond follows) count-few
+        pub rest-done : {zs : List ℕ} → Is zs (rest i o l (cell ys)) → Becomes zs (with-depth (with-resting (insert D.resting-number r)) (gateway (cell xs)))
+        rest-done h =
+            let t = rest-touched (cell ys) i (follows .ordered) (inside-kept s z d i inside) o l in
+            row-done s z d (rest i o l (cell ys)) h follows does beyond (rows-touched i _ t refl rows-are beyond follows) count-few

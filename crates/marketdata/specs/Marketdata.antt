@@ -41,6 +41,10 @@ pub record Free (i n : ℕ) (s : Store) : Type 0 where
 abbrev pub resting-at : ℕ → Store → D.Resting
 resting-at i s = resting (s C.orders i)
 
+-- an order's words as one
+abbrev pub words : ℕ → ℕ → ℕ → ℕ → Resting
+words side price visible leaves = record { side = side; price = price; visible = visible; leaves = leaves }
+
 -- i is the place of the level at a price
 abbrev pub Placed : Side → ℤ → List ℕ → ℕ → Type 0
 Placed z p xs i = (k : ℕ) → L.price k ≡ p → L.Sought z xs k i

@@ -63,7 +63,14 @@ fn strike(m: &mut [u8], i: usize, o: Resting)
     requires { ⌜ State (now m) × P.At i o (cell (now m)) ⌝ }
     ensures { λ r. ⌜ Becomes (now (m .exit)) (P.with-depth (P.with-resting (without D.resting-number (P.resting-at i (cell (now (m .entry))) .number))) (gateway (cell (now (m .entry))))) ⌝ }
 {
-    levels::remove(m, store::side_of(o.side), words::raised(o.price), o.visible);
+    let hint = orders::level_hint(m, i);
+    levels::remove(
+        m,
+        store::side_of(o.side),
+        words::raised(o.price),
+        o.visible,
+        hint,
+    );
     orders::take_off(m, i);
 }
 
@@ -81,12 +88,14 @@ fn reshow(m: &mut [u8], i: usize, o: Resting, visible: u64, leaves: u64)
     requires { ⌜ State (now m) × P.At i o (cell (now m)) × P.Fits (o .visible) (D.showing visible leaves (P.resting-at i (cell (now m)))) (D.show (D.showing visible leaves (P.resting-at i (cell (now m)))) (depth (cell (now m)))) ⌝ }
     ensures { λ r. ⌜ Becomes (now (m .exit)) (P.with-depth (P.with-resting (replace D.resting-number (D.showing visible leaves (P.resting-at i (cell (now (m .entry))))))) (gateway (cell (now (m .entry))))) ⌝ }
 {
+    let hint = orders::level_hint(m, i);
     levels::show(
         m,
         store::side_of(o.side),
         words::raised(o.price),
         o.visible,
         visible,
+        hint,
     );
     orders::show(m, i, visible, leaves);
 }
@@ -160,16 +169,35 @@ fn join(m: &mut [u8], i: usize, o: Resting, place: usize)
         o.visible,
         place,
     );
-    orders::rest(m, i, o);
+    orders::rest(m, i, o, place);
 }
 
-// The order of that number rests; its level is not remembered.
-pub fn rest(m: &mut [u8], number: u64, o: Resting, at: Found, place: usize)
-    requires { ⌜ State (now m) × P.CanAdd (resting-of number o) (cell (now m)) ⌝ }
-    ensures { λ r. ⌜ Becomes (now (m .exit)) (P.with-depth (P.with-resting (insert D.resting-number (resting-of number o))) (gateway (cell (now (m .entry))))) ⌝ }
+// The order of that number rests, with these words; its level is not remembered.
+pub fn rest(
+    m: &mut [u8],
+    number: u64,
+    side: u64,
+    price: u64,
+    visible: u64,
+    leaves: u64,
+    at: Found,
+    place: usize,
+)
+    requires { ⌜ State (now m) × P.CanAdd (resting-of number (P.words side price visible leaves)) (cell (now m)) ⌝ }
+    ensures { λ r. ⌜ Becomes (now (m .exit)) (P.with-depth (P.with-resting (insert D.resting-number (resting-of number (P.words side price visible leaves)))) (gateway (cell (now (m .entry))))) ⌝ }
 {
     let i = row_for(m, number, at);
-    join(m, i, o, place);
+    join(
+        m,
+        i,
+        Resting {
+            side: side,
+            price: price,
+            visible: visible,
+            leaves: leaves,
+        },
+        place,
+    );
 }
 
 // The order of that number rests, and its level has changed.
@@ -177,7 +205,7 @@ pub fn add(m: &mut [u8], number: u64, o: Resting, at: Found, place: usize)
     requires { ⌜ State (now m) × P.CanAdd (resting-of number o) (cell (now m)) ⌝ }
     ensures { λ r. ⌜ Becomes (now (m .exit)) (P.with-depth (D.add (resting-of number o)) (gateway (cell (now (m .entry))))) ⌝ }
 {
-    rest(m, number, o, at, place);
+    rest(m, number, o.side, o.price, o.visible, o.leaves, at, place);
     remember(m, o.side, o.price);
 }
 

@@ -56,13 +56,16 @@ strike-is k other c i kept n h l kl cl ke ne p q r =
     (then-set (then-set (then-set (is-itself h) (order-cell i k l kl) p) (order-cell i C.order-kept l (omega arith)) q)
     (header-cell c cl) r)
 
-pub rest-is : (xs : List ℕ) {ys zs us : List ℕ} (i n : ℕ) (o : Resting) → n ≡ cell xs C.header 0 C.resting-orders →
+pub rest-is : (xs : List ℕ) {ys zs us vs : List ℕ} (i l n : ℕ) (o : Resting) → i < order-room → n ≡ cell xs C.header 0 C.resting-orders →
     Is ys (fill C.orders i C.order-rest-side (o .side ∷ o .price ∷ o .visible ∷ o .leaves ∷ []) (cell xs)) →
-    Is zs (fill C.orders i C.order-resting (1 ∷ 1 ∷ []) (cell ys)) →
-    Set zs us C.header 0 C.resting-orders (n + 1) → Is us (rest i o (cell xs))
-unfolding rest
-rest-is xs i n o e p q r =
-    rw (← e) (then-set (then-fill C.orders i C.order-resting (1 ∷ 1 ∷ []) p q) (header-cell C.resting-orders (omega arith)) r)
+    Set ys zs C.orders i C.order-level l →
+    Is us (fill C.orders i C.order-resting (1 ∷ 1 ∷ []) (cell zs)) →
+    Set us vs C.header 0 C.resting-orders (n + 1) → Is vs (rest i o l (cell xs))
+unfolding rest fill
+rest-is xs i l n o h e p t q r =
+    rw (← e)
+    (then-set (then-fill C.orders i C.order-resting (1 ∷ 1 ∷ []) (then-set p (order-cell i C.order-level h (omega arith)) t) q)
+    (header-cell C.resting-orders (omega arith)) r)
 
 pub put-row-is : (xs : List ℕ) {ys zs us vs : List ℕ} (i n : ℕ) (o : Live) → i < order-room →
     Is ys (fill C.orders i C.order-number (n ∷ 1 ∷ 0 ∷ 1 ∷ []) (cell xs)) →

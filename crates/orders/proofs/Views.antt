@@ -398,18 +398,18 @@ module _ (s : Store) (i : ℕ) (d : Ordered s) (l : i < word s C.order-rows) whe
       (still _ t c refl C.order-live order refl refl)
       (shown-strike D.resting-number (changed i _ s t c C.order-resting resting (word s C.order-rows) l) (rising C.order-resting resting D.resting-number (λ r. refl)) (ap (λ (q : Row). q C.order-resting) (c .here)))
 
-  pub rest-touched : (o : Resting) → Touched i (put-cells C.order-resting (1 ∷ 1 ∷ []) (put-cells C.order-rest-side (o .side ∷ o .price ∷ o .visible ∷ o .leaves ∷ []) was)) s (rest i o s)
+  pub rest-touched : (o : Resting) (h : ℕ) → Touched i (put-cells C.order-resting (1 ∷ 1 ∷ []) (put-cells C.order-rest-side (o .side ∷ o .price ∷ o .visible ∷ o .leaves ∷ h ∷ []) was)) s (rest i o h s)
   unfolding rest
-  rest-touched o =
+  rest-touched o h =
       count-touched i C.resting-orders (word s C.resting-orders + 1) _ s _ (λ j x y z. z)
-      (fill-touched i C.order-resting (1 ∷ 1 ∷ []) _ s _ (fill-touched i C.order-rest-side (o .side ∷ o .price ∷ o .visible ∷ o .leaves ∷ []) was s s (untouched i s)))
+      (fill-touched i C.order-resting (1 ∷ 1 ∷ []) _ s _ (fill-touched i C.order-rest-side (o .side ∷ o .price ∷ o .visible ∷ o .leaves ∷ h ∷ []) was s s (untouched i s)))
 
-  pub rest-view : (o : Resting) → was C.order-resting ≡ 0 → Did s (rest i o s) (ledger s .orders) (insert D.resting-number (resting-of (was C.order-number) o) (depth s .resting))
+  pub rest-view : (o : Resting) (h : ℕ) → was C.order-resting ≡ 0 → Did s (rest i o h s) (ledger s .orders) (insert D.resting-number (resting-of (was C.order-number) o) (depth s .resting))
   unfolding rest fill
-  rest-view o m =
+  rest-view o h m =
       let f = d .sorted .flags i l in
-      let t = rest i o s in
-      let c = rest-touched o in
+      let t = rest i o h s in
+      let c = rest-touched o h in
       row-did _ t c refl _ _ refl refl
       (record { live-is = f .live-is; resting-is = omega arith; kept-is = either-one (was C.order-live) })
       refl (omega (arith, m))

@@ -129,12 +129,12 @@ retire = strike C.order-live C.order-resting C.live-orders
 abbrev pub take-off : ℕ → Store → Store
 take-off = strike C.order-resting C.order-live C.resting-orders
 
--- an order of the table rests
-unfoldable pub rest : ℕ → Resting → Store → Store
-rest i o s =
+-- an order of the table rests; its level may be in the row l
+unfoldable pub rest : ℕ → Resting → ℕ → Store → Store
+rest i o l s =
     write C.header 0 C.resting-orders (word s C.resting-orders + 1)
     (fill C.orders i C.order-resting (1 ∷ 1 ∷ [])
-    (fill C.orders i C.order-rest-side (o .side ∷ o .price ∷ o .visible ∷ o .leaves ∷ []) s))
+    (fill C.orders i C.order-rest-side (o .side ∷ o .price ∷ o .visible ∷ o .leaves ∷ l ∷ []) s))
 
 -- a live order behind the others
 unfoldable pub append : ℕ → Live → Store → Store

@@ -6,6 +6,7 @@ use store::cells::ORDER_CLIENT_REF;
 use store::cells::ORDER_HOLD;
 use store::cells::ORDER_KEPT;
 use store::cells::ORDER_LEAVES;
+use store::cells::ORDER_LEVEL;
 use store::cells::ORDER_LIVE;
 use store::cells::ORDER_NUMBER;
 use store::cells::ORDER_PRICE;
@@ -180,6 +181,14 @@ pub fn resting_at(m: &[u8], i: usize) -> Resting
     }
 }
 
+// The row where the order's level may be.
+pub fn level_hint(m: &[u8], i: usize) -> usize
+    requires { ⌜ Holds (now m) × (i < order-room) ⌝ }
+    ensures { λ r. ⌜ r ≡ cell (now (m .entry)) C.orders i C.order-level ⌝ }
+{
+    store::get(m, store::ORDERS, i, ORDER_LEVEL) as usize
+}
+
 // Two cells of a row, from k on.
 fn set_two(m: &mut [u8], b: usize, i: usize, k: usize, v: u64, w: u64)
     requires { ⌜ Holds (now m) × Cell b i (k + 1) × (k < 32) ⌝ }
@@ -249,13 +258,14 @@ pub fn take_off(m: &mut [u8], i: usize)
     strike(m, ORDER_RESTING, ORDER_LIVE, RESTING_ORDERS, i);
 }
 
-// An order of the table rests.
-pub fn rest(m: &mut [u8], i: usize, o: Resting)
+// An order of the table rests. Its level may be in the row `level`.
+pub fn rest(m: &mut [u8], i: usize, o: Resting, level: usize)
     requires { ⌜ Holds (now m) × (i < order-room) × (word (cell (now m)) C.resting-orders < order-room) ⌝ }
-    ensures { λ r. ⌜ Is (now (m .exit)) (rest i o (cell (now (m .entry)))) ⌝ }
+    ensures { λ r. ⌜ Is (now (m .exit)) (rest i o level (cell (now (m .entry)))) ⌝ }
 {
     let n = store::get(m, store::HEADER, 0, RESTING_ORDERS);
     set_four(m, i, ORDER_REST_SIDE, o.side, o.price, o.visible, o.leaves);
+    store::set(m, store::ORDERS, i, ORDER_LEVEL, level as u64);
     set_two(m, store::ORDERS, i, ORDER_RESTING, 1, 1);
     store::set(m, store::HEADER, 0, RESTING_ORDERS, n + 1);
 }

@@ -244,6 +244,10 @@ order-visible = 13
 abbrev pub order-rest-leaves : ℕ
 order-rest-leaves = 14
 
+-- the place of its level when it came to rest; it may be wrong
+abbrev pub order-level : ℕ
+order-level = 15
+
 -- ---- ascending by price; a level without orders is gone
 abbrev pub bids : ℕ
 bids = 6

@@ -152,6 +152,9 @@ pub const ORDER_VISIBLE: usize = 13;
 
 pub const ORDER_REST_LEAVES: usize = 14;
 
+// the place of its level when it came to rest; it may be wrong
+pub const ORDER_LEVEL: usize = 15;
+
 // ascending by price; a level without orders is gone
 pub const LEVEL_PRICE: usize = 0;
 

@@ -7,21 +7,21 @@ use Rattle.levels.proofs.Laws.{laws}
 use Rattle.levels.proofs.remove.Statement.{statement}
 use Rattle.levels.proofs.remove.Tie as tie
 
-seek-requires : tie.Need-seek-requires
-seek-requires c κs = search needs
+seek-at-requires : tie.Need-seek-at-requires
+seek-at-requires c κs = search needs
 
 read-row-requires : tie.Need-read-row-requires
 read-row-requires c κs =
     let k = c .before in
     let s = k .before .before .before in
-    let h = remove-in _ (s .pre .0) _ _ _ (k .seek .ensures) (s .pre .1) in
+    let h = remove-in _ (s .pre .0) _ _ _ (k .seek-at .ensures) (s .pre .1) in
     (s .pre .0 .holds, omega (arith, h .0, s .pre .0 .few))
 
 take-out-requires : tie.Need-take-out-requires
 take-out-requires c κs =
     let k = c .before .before .before .before .before in
     let s = k .before .before .before in
-    let h = remove-in _ (s .pre .0) _ _ _ (k .seek .ensures) (s .pre .1) in
+    let h = remove-in _ (s .pre .0) _ _ _ (k .seek-at .ensures) (s .pre .1) in
     (s .pre .0, h .0, h .2, sym (h .1))
 
 same-length : tie.Need-same-length
@@ -30,25 +30,25 @@ same-length c = search needs
 returns : tie.Need-returns
 returns c = search laws
 
-sub-t18 : tie.Need-sub-t18
-sub-t18 c =
+sub-t19 : tie.Need-sub-t19
+sub-t19 c =
     let r = c .before .before .before .before in
     let k = r .before .before in
     let s = k .before .before .before in
-    omega (arith, ap (λ (x : Row). x .qty) (r .read-row .ensures), remove-in _ (s .pre .0) _ _ _ (k .seek .ensures) (s .pre .1) .3 .0)
+    omega (arith, ap (λ (x : Row). x .qty) (r .read-row .ensures), remove-in _ (s .pre .0) _ _ _ (k .seek-at .ensures) (s .pre .1) .3 .0)
 
-sub-t19 : tie.Need-sub-t19
-sub-t19 c =
+sub-t20 : tie.Need-sub-t20
+sub-t20 c =
     let r = c .before .before .before .before .before in
     let k = r .before .before in
     let s = k .before .before .before in
-    omega (arith, ap (λ (x : Row). x .orders) (r .read-row .ensures), remove-in _ (s .pre .0) _ _ _ (k .seek .ensures) (s .pre .1) .3 .1)
+    omega (arith, ap (λ (x : Row). x .orders) (r .read-row .ensures), remove-in _ (s .pre .0) _ _ _ (k .seek-at .ensures) (s .pre .1) .3 .1)
 
 write-row-requires : tie.Need-write-row-requires
 write-row-requires c κs =
     let k = c .before .before .before .before .before .before .before in
     let s = k .before .before .before in
-    let h = remove-in _ (s .pre .0) _ _ _ (k .seek .ensures) (s .pre .1) in
+    let h = remove-in _ (s .pre .0) _ _ _ (k .seek-at .ensures) (s .pre .1) in
     (s .pre .0 .holds, omega (arith, h .0, s .pre .0 .few))
 
 same-length-2 : tie.Need-same-length-2
@@ -61,13 +61,13 @@ pub remove-spec : {M : Type 1} → statement M
 remove-spec =
     tie.close
     (tie.spec
-    seek-requires
+    seek-at-requires
     read-row-requires
     take-out-requires
     same-length
     returns
-    sub-t18
     sub-t19
+    sub-t20
     write-row-requires
     same-length-2
     returns-2)

@@ -28,7 +28,7 @@ returns c =
     let t = c .before .before in
     let l = t .before .before .before .before in
     let a = l .before .before .before .before .before in
-    join-done (a .pre .0) _ _ (a .args .o) (a .pre .1) (a .pre .2) _ _ (l .before .before .side-of .ensures) (l .before .raised .ensures) (l .add .ensures) (t .rest .ensures)
+    join-done (a .pre .0) _ _ (a .args .o) (a .pre .1) (a .pre .2) _ _ (l .before .before .side-of .ensures) (l .before .raised .ensures) (l .add .ensures) _ (t .rest .ensures)
 
 pub join-spec : {M : Type 1} → statement M
 join-spec =
