@@ -30,9 +30,9 @@ use Rattle.pending.specs.declared.changed.Changed as L
 abbrev pub push-row : ℕ → ℕ → List ℕ → Store → Store
 push-row b k vs s = write C.header 0 k (word s k + 1) (fill b (word s k) 0 vs s)
 
--- the wallet of account a changed
-abbrev pub notice : ℕ → Store → Store
-notice a = push-row C.notices C.notice-rows (a ∷ [])
+-- account a behind the last notice, where it counts as k of them: 0 or 1
+abbrev pub notices : ℕ → ℕ → Store → Store
+notices a k s = write C.header 0 C.notice-rows (word s C.notice-rows + k) (write C.notices (word s C.notice-rows) C.notice-account a s)
 
 -- a trade; its side and its price are a code and a word
 abbrev pub trade : ℕ → ℕ → ℕ → ℕ → ℕ → Store → Store

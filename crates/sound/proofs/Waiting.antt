@@ -67,10 +67,10 @@ module _ (s : Store) (d : Sound s) where
   kept : {t : Store} → chains t ≡ chains s → P.Chained t
   kept e = chained-same e (d .tables .chained)
 
-  pub notice-sound : (a : ℕ) → word s C.notice-rows < most-notices → Sound (P.notice a s)
-  unfolding fill
-  notice-sound a l =
-      sound-untouched (search arith) (record { bounds = let c = b in search (arith, l); last-is = omega arith; run = d .tables .run; chained = kept refl }) f d
+  pub notices-sound : (a k : ℕ) → k + word s C.notice-rows ≤ most-notices → Sound (P.notices a k s)
+  notices-sound a k l =
+      let m : word s C.notice-rows + k ≤ most-notices = omega arith in
+      sound-untouched (search arith) (record { bounds = let c = b in search (arith, m); last-is = omega arith; run = d .tables .run; chained = kept refl }) f d
 
   pub trade-sound : (seq id x p q : ℕ) → word s C.trade-rows < most-trades → Sound (P.trade seq id x p q s)
   unfolding fill
