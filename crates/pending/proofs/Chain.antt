@@ -1,7 +1,7 @@
 -- The chains of the changed levels: what they lead past is no such level, and what keeps them. Assumes nothing.
 use mathlib.Core.Path.{_≡_, refl, sym, ap, ap₂, subst, _∙_}
 use mathlib.Core.Logic.{⊎-elim}
-use mathlib.Core.Bool.{Bool, true, false, cond, _&&_, _||_, and-eq-true-iff, true≢false}
+use mathlib.Core.Bool.{Bool, true, false, cond, _&&_, _||_, and-eq-true-iff, and-false, true≢false}
 use mathlib.Core.List.{List, [], _∷_}
 use Prim.Native.Nat.{ℕ, zero, suc, _+_, _-_, _%_, _≤_, _<_}
 use native.Mathlib.Nat.{not-suc-le-zero, eq-or-lt-of-le}
@@ -18,14 +18,15 @@ use Rattle.table.proofs.Live.{same?}
 use Rattle.gateway.proofs.Holds.{side-is}
 use Rattle.gateway.specs.Depth.{Key, same-key, is-changed}
 use Rattle.gateway.specs.Ledger.{same-side}
+use Rattle.gateway.specs.Limits.{most-changed}
 use Rattle.gateway.proofs.Base.{split}
 use Rattle.gateway.proofs.Counted.{same-is}
 use Rattle.store.specs.Cells as C
-use Rattle.store.specs.Layout.{cell, Set}
+use Rattle.store.specs.Layout.{cell, Holds, Set}
 use Rattle.store.specs.View.{Row, Store, listed, flag, side, word, write, fill, changed-key, depth, Is}
-use Rattle.store.proofs.Places.{top-cell}
+use Rattle.store.proofs.Places.{changed-cell, top-cell}
 use Rattle.store.proofs.Rows.{then-set}
-use Rattle.pending.specs.Pending.{Chained, key, side-slots, first-slot, slot, slots, slot-at, newest, top, push-row, push-level}
+use Rattle.pending.specs.Pending.{Chained, key, side-slots, first-slot, slot, slots, slot-at, newest, top, push-row, push-level, forget-tops}
 use Rattle.pending.proofs.Keys.{last-first, scan-none, scan-hit, scan-miss}
 
 -- ---- slots
@@ -305,3 +306,34 @@ push-is xs {ys} {zs} x p n k t a b c h e =
     let d : t ≡ top (cell xs) (slot (key x p)) = c ∙ ap (top (cell xs)) b in
     subst (Is zs) (λ i. write C.tops (b i) C.top-row (a i + 1) (push-row C.changed C.changed-rows (x ∷ p ∷ d i ∷ []) (cell xs)))
     (then-set h (top-cell k C.top-row (slot-fits k x p b) (omega arith)) e)
+
+-- ---- the tops of the first n rows' slots are forgotten
+
+pub forget-none : (xs : List ℕ) → Holds xs → Is xs (forget-tops 0 (cell xs))
+unfolding newest
+forget-none xs h = record { holds = h; same = λ b i k c. ap (λ t. cond t 0 (cell xs b i k)) (sym (and-false (eqb b C.tops))) }
+
+-- a, x and c: whether it is a top, whether an earlier row has its slot, and whether it is a top's cell
+again : (a x c : Bool) (v : ℕ) → cond (a && c) 0 (cond (a && (x && c)) 0 v) ≡ cond (a && c) 0 v
+again false x c v = refl
+again true x true v = refl
+again true x false v = ap (λ t. cond t 0 v) (and-false x)
+
+pub slot-at-small : (s : Store) (j k : ℕ) → k ≡ slot-at s j → k < slots
+slot-at-small s j k e = rw e (slot-small (changed-key (s C.changed j)))
+
+module _ (s : Store) (n : ℕ) where
+  forget-one : (b k l : ℕ) → write C.tops (slot-at s n) C.top-row 0 (forget-tops n s) b k l ≡ forget-tops (n + 1) s b k l
+  forget-one b k l =
+      ⊎-elim
+      (λ (e : k ≡ slot-at s n).
+      rw (newest-here s k n (sym e), eq-eqb k (slot-at s n) e, ne-eqb (n + 1) 0 (λ q. omega arith)) (again (eqb b C.tops) (flag (newest s k n)) (eqb l C.top-row) (s b k l)))
+      (λ e. rw (newest-past s k n (λ q. e (sym q)), ne-eqb k (slot-at s n) e, and-false (eqb b C.tops)) refl)
+      (same? k (slot-at s n))
+
+  pub forget-more : (ys zs : List ℕ) (k : ℕ) → n < most-changed → Is ys (forget-tops n s) → k ≡ slot-at (cell ys) n → Set ys zs C.tops k C.top-row 0 → Is zs (forget-tops (n + 1) s)
+  forget-more ys zs k l p e q =
+      let at : (j : ℕ) → j < 3 → cell ys C.changed n j ≡ s C.changed n j = λ j h. p .same C.changed n j (changed-cell n j l h) in
+      let r : k ≡ slot-at s n = e ∙ (λ z. slot (side (at C.changed-side (omega arith) z), int (at C.changed-price (omega arith) z))) in
+      let t = then-set p (top-cell k C.top-row (slot-at-small s n k r) (omega arith)) q in
+      record { holds = t .holds; same = λ b i j c. t .same b i j c ∙ ap (λ x. write C.tops x C.top-row 0 (forget-tops n s) b i j) r ∙ forget-one b i j }

@@ -25,12 +25,12 @@ module _ {xs : List ℕ} (r : Ready xs) where
       rw (← e)
       (then-set (then-set (is-itself (r .holds)) (notice-cell n C.notice-account (omega (arith, e, r .bounds .notices-fit)) (omega arith)) p) (header-cell C.notice-rows (omega arith)) q)
 
-  pub published-is : {a b c zs : List ℕ} (d : ℕ) → d ≡ word (cell xs) C.delivered →
-      Set xs a C.header 0 C.trade-rows 0 → Set a b C.header 0 C.notice-rows 0 → Set b c C.header 0 C.changed-rows 0 → Set c zs C.header 0 C.published d →
+  pub published-is : {a b c d zs : List ℕ} (v n : ℕ) → v ≡ word (cell xs) C.delivered → n ≡ word (cell xs) C.changed-rows → Is a (P.forget-tops n (cell xs)) →
+      Set a b C.header 0 C.trade-rows 0 → Set b c C.header 0 C.notice-rows 0 → Set c d C.header 0 C.changed-rows 0 → Set d zs C.header 0 C.published v →
       Is zs (P.published (cell xs))
-  published-is d e p₁ p₂ p₃ p₄ =
-      rw (← e)
-      (then-set (then-set (then-set (then-set (is-itself (r .holds)) (header-cell C.trade-rows (omega arith)) p₁)
+  published-is v n e f p p₁ p₂ p₃ p₄ =
+      rw (← e, ← f)
+      (then-set (then-set (then-set (then-set p (header-cell C.trade-rows (omega arith)) p₁)
       (header-cell C.notice-rows (omega arith)) p₂) (header-cell C.changed-rows (omega arith)) p₃) (header-cell C.published (omega arith)) p₄)
 
   pub take-off-is : {a b zs : List ℕ} (last flying x y z : ℕ) → last ≡ word (cell xs) C.last → flying ≡ word (cell xs) C.flying →

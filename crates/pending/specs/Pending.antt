@@ -38,12 +38,6 @@ notices a k s = write C.header 0 C.notice-rows (word s C.notice-rows + k) (write
 abbrev pub trade : ℕ → ℕ → ℕ → ℕ → ℕ → Store → Store
 trade seq id side price qty = push-row C.trades C.trade-rows (seq ∷ id ∷ side ∷ price ∷ qty ∷ [])
 
--- nothing waits any more, and what was delivered is published
-abbrev pub published : Store → Store
-published s =
-    write C.header 0 C.published (word s C.delivered)
-    (write C.header 0 C.changed-rows 0 (write C.header 0 C.notice-rows 0 (write C.header 0 C.trade-rows 0 s)))
-
 -- the next command is in flight: its sender is one more than a session's number, or 0
 abbrev pub take-off : ℕ → ℕ → ℕ → Store → Store
 take-off sender owner places s =
@@ -115,6 +109,17 @@ push-level x p s =
 -- the level changed: it is listed once
 unfoldable pub remember : ℕ → ℕ → Store → Store
 remember x p s = cond (is-changed (key x p) (depth s .changed)) s (push-level x p s)
+
+-- the slots of the first n rows have no top any more
+abbrev pub forget-tops : ℕ → Store → Store
+forget-tops n s b k l = cond (eqb b C.tops && (flag (newest s k n) && eqb l C.top-row)) 0 (s b k l)
+
+-- nothing waits any more, and what was delivered is published
+abbrev pub published : Store → Store
+published s =
+    write C.header 0 C.published (word s C.delivered)
+    (write C.header 0 C.changed-rows 0
+    (write C.header 0 C.notice-rows 0 (write C.header 0 C.trade-rows 0 (forget-tops (word s C.changed-rows) s))))
 
 -- ---- the batch
 

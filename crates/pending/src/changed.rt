@@ -124,6 +124,19 @@ pub fn remember(m: &mut [u8], side: u64, price: u64)
     push(m, side, price, k, t);
 }
 
+// The slots of the first n rows have no top any more.
+pub fn forget_tops(m: &mut [u8], n: usize)
+    requires { ⌜ Holds (now m) × (n ≤ most-changed) ⌝ }
+    ensures { λ r. ⌜ Is (now (m .exit)) (P.forget-tops n (cell (now (m .entry)))) ⌝ }
+{
+    let mut i: usize = 0;
+    while i < n {
+        let k = slot_at(m, i);
+        store::set(m, store::TOPS, k, cells::TOP_ROW, 0);
+        i += 1;
+    }
+}
+
 // A changed level: its side a code, its price a word.
 pub struct Changed {
     pub side: u64,

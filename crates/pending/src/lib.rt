@@ -97,6 +97,8 @@ pub fn set_published(m: &mut [u8])
     ensures { λ r. ⌜ Is (now (m .exit)) (P.published (cell (now (m .entry)))) ⌝ }
 {
     let delivered = store::get(m, store::HEADER, 0, cells::DELIVERED);
+    let n = store::get(m, store::HEADER, 0, cells::CHANGED_ROWS);
+    changed::forget_tops(m, n as usize);
     store::set(m, store::HEADER, 0, cells::TRADE_ROWS, 0);
     store::set(m, store::HEADER, 0, cells::NOTICE_ROWS, 0);
     store::set(m, store::HEADER, 0, cells::CHANGED_ROWS, 0);
