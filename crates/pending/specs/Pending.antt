@@ -3,7 +3,7 @@ use Prim.Native.Nat.{ℕ, zero, suc, _+_, _-_, _%_, _^_, _<_}
 use mathlib.Core.Path.{_≡_}
 use mathlib.Core.List.{List, [], _∷_}
 use mathlib.Core.Bool.{cond, _&&_}
-use lib.Dec.{eqb, leb}
+use lib.Dec.{eqb}
 use lib.ListN.{getD}
 use mir.Syntax.{w64}
 use mir.Val.{SFits}
@@ -89,11 +89,9 @@ unfoldable pub newest : Store → ℕ → ℕ → ℕ
 newest s k zero = 0
 newest s k (suc n) = cond (eqb (slot-at s n) k) (suc n) (newest s k n)
 
--- the stored top of the slot k, or 0 where it is stale: it leads to no row in use, or to one of another slot
-unfoldable pub top : Store → ℕ → ℕ
-top s k =
-    let t = s C.tops k C.top-row in
-    cond (flag t && (leb t (word s C.changed-rows) && eqb (slot-at s (t - 1)) k)) t 0
+-- the top of the slot k
+abbrev pub top : Store → ℕ → ℕ
+top s k = s C.tops k C.top-row
 
 -- a row leads to the last one before it of its slot, and a slot to its newest row
 pub record Chained (s : Store) : Type 0 where

@@ -63,17 +63,12 @@ fn slot_at(m: &[u8], i: usize) -> usize
     slot(side, store::get(m, store::CHANGED, i, cells::CHANGED_PRICE))
 }
 
-// One more than the newest row of the slot k, or 0. A top from before the last publishing leads to no row in use, or to one of another slot.
+// One more than the newest row of the slot k, or 0.
 fn top(m: &[u8], k: usize) -> usize
-    requires { ⌜ Ready (now m) × (k < P.slots) ⌝ }
+    requires { ⌜ Holds (now m) × (k < P.slots) ⌝ }
     ensures { λ r. ⌜ r ≡ P.top (cell (now (m .entry))) k ⌝ }
 {
-    let t = store::get(m, store::TOPS, k, cells::TOP_ROW) as usize;
-    let rows = store::get(m, store::HEADER, 0, cells::CHANGED_ROWS) as usize;
-    if t == 0 || rows < t {
-        return 0;
-    }
-    if slot_at(m, t - 1) == k { t } else { 0 }
+    store::get(m, store::TOPS, k, cells::TOP_ROW) as usize
 }
 
 // Whether that level is in the chain of its slot, whose top is t.
