@@ -8,7 +8,7 @@ use native.Mathlib.Nat.{not-suc-le-zero}
 use native.Mathlib.Numerals.{add-one}
 use native.Mathlib.Omega.{arith}
 use borrow.Author.Tests.{eq-eqb, ne-eqb, lt-ltb, le-ltb}
-use lib.Dec.{ltb}
+use lib.Dec.{eqb, ltb}
 use lib.ListN.{length}
 use Rattle.orderbook.specs.declared.Side.the-variants.{Buy, Sell}
 use Rattle.le.proofs.Laws.{lt-or-le}
@@ -27,7 +27,8 @@ use Rattle.orders.specs.Orders.{either, Flags}
 use Rattle.orders.proofs.Shown.{shown, shown-ext, shown-dead}
 use Rattle.orders.proofs.Views.{with-lists}
 use Rattle.levels.specs.Levels.{used, size, entries}
-use Rattle.pending.proofs.Chain.{chained-none}
+use Rattle.pending.specs.Pending.{forget-tops}
+use Rattle.pending.proofs.Chain.{chained-none, forgotten}
 use Rattle.sound.specs.Sound.{Stored, Sound, State, Becomes}
 use Rattle.sound.proofs.Kept.{clients-kept, becomes}
 use Rattle.outcome.specs.Parts.{with-rest}
@@ -79,11 +80,26 @@ pub more-unrested : (s : Store) (ys zs : List ℕ) (i : ℕ) → i < order-room 
 more-unrested s ys zs i l p q =
     record { holds = q .holds; same = λ b j k c. q .same b j k c ∙ same-unrest i (cell ys) (unrested i s) l (p .same) b j k c ∙ one-more s i b j k }
 
-pub cleared-is : (xs : List ℕ) {ys zs us : List ℕ} (n last : ℕ) → n ≡ word (cell xs) C.order-rows → last ≡ word (cell xs) C.last → Is ys (unrested n (cell xs)) →
-    Is zs (fill C.header 0 C.resting-orders (0 ∷ 0 ∷ 0 ∷ 0 ∷ 0 ∷ 0 ∷ 0 ∷ 0 ∷ []) (cell ys)) → Is us (fill C.header 0 C.delivered (last ∷ last ∷ []) (cell zs)) → Is us (cleared (cell xs))
+same-unrested : (n : ℕ) (s t : Store) → Same s t → Same (unrested n s) (unrested n t)
+unfolding unrested
+same-unrested n s t e b i k c =
+    ⊎-elim
+    (λ (p : b ≡ C.orders).
+    let d = rw p at c in
+    let l = e C.orders i C.order-live (order-cell i C.order-live (d .row-is) (omega arith)) in
+    let v = e C.orders i k d in
+    rw p (λ z. cond (ltb i n) (cond (eqb k C.order-kept) (l z) (cond (eqb k C.order-resting) 0 (v z))) (v z)))
+    (λ p. rw (ne-eqb b C.orders p) (e b i k c))
+    (same? b C.orders)
+
+pub cleared-is : (xs : List ℕ) {us ys zs vs : List ℕ} (n last rows : ℕ) → n ≡ word (cell xs) C.order-rows → last ≡ word (cell xs) C.last → rows ≡ word (cell xs) C.changed-rows →
+    Is us (forget-tops rows (cell xs)) → Is ys (unrested n (cell us)) →
+    Is zs (fill C.header 0 C.resting-orders (0 ∷ 0 ∷ 0 ∷ 0 ∷ 0 ∷ 0 ∷ 0 ∷ 0 ∷ []) (cell ys)) → Is vs (fill C.header 0 C.delivered (last ∷ last ∷ []) (cell zs)) → Is vs (cleared (cell xs))
 unfolding cleared
-cleared-is xs n last n-is last-is p q r =
-    rw (← n-is, ← last-is) (then-fill C.header 0 C.delivered (last ∷ last ∷ []) (then-fill C.header 0 C.resting-orders (0 ∷ 0 ∷ 0 ∷ 0 ∷ 0 ∷ 0 ∷ 0 ∷ 0 ∷ []) p q) r)
+cleared-is xs {us} {ys} n last rows n-is last-is rows-is f p q r =
+    let g : Is ys (unrested n (forget-tops rows (cell xs))) =
+    record { holds = p .holds; same = λ b i k c. p .same b i k c ∙ same-unrested n (cell us) (forget-tops rows (cell xs)) (f .same) b i k c } in
+    rw (← n-is, ← last-is, ← rows-is) (then-fill C.header 0 C.delivered (last ∷ last ∷ []) (then-fill C.header 0 C.resting-orders (0 ∷ 0 ∷ 0 ∷ 0 ∷ 0 ∷ 0 ∷ 0 ∷ 0 ∷ []) g q) r)
 
 -- ---- the gateway
 
@@ -182,7 +198,7 @@ module _ (s : Store) where
                 resting-few = omega arith;
                 numbered = λ j h. rw (number-same j h) (d .tables .numbered j h);
                 run = d .tables .run;
-                chained = chained-none t refl;
+                chained = chained-none t refl (forgotten s (d .tables .chained));
               };
           held =
               record {

@@ -8,6 +8,7 @@ use Rattle.gateway.specs.Ledger.{Order, find}
 use Rattle.gateway.specs.Listing.{listed-number, listed-times, entry-agrees}
 use Rattle.store.specs.Cells as C
 use Rattle.store.specs.View.{Row, Store, word, write, fill}
+use Rattle.pending.specs.Pending.{forget-tops}
 
 -- a row whose order rests no more: it is kept where the order is live
 abbrev pub off : Row → Row
@@ -24,7 +25,7 @@ unrested n s b i k = cond (eqb b C.orders && ltb i n) (off (s b i) k) (s b i k)
 unfoldable pub cleared : Store → Store
 cleared s =
     fill C.header 0 C.delivered (word s C.last ∷ word s C.last ∷ [])
-    (fill C.header 0 C.resting-orders (0 ∷ 0 ∷ 0 ∷ 0 ∷ 0 ∷ 0 ∷ 0 ∷ 0 ∷ []) (unrested (word s C.order-rows) s))
+    (fill C.header 0 C.resting-orders (0 ∷ 0 ∷ 0 ∷ 0 ∷ 0 ∷ 0 ∷ 0 ∷ 0 ∷ []) (unrested (word s C.order-rows) (forget-tops (word s C.changed-rows) s)))
 
 -- an entry of a listing agrees with the live orders, and its number is listed once
 abbrev pub agrees-once : List Listed → List Order → Listed → Bool

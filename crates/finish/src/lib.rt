@@ -123,13 +123,15 @@ fn unrest_rows(m: &mut [u8], n: usize)
     }
 }
 
-// The eight counts from the resting orders to the levels are 0.
+// The eight counts from the resting orders to the levels are 0, and no changed level has a top.
 fn clear(m: &mut [u8])
     requires { ⌜ Ready (now m) ⌝ }
     ensures { λ r. ⌜ Is (now (m .exit)) (P.cleared (cell (now (m .entry)))) ⌝ }
 {
     let n = pending::header::word_at(m, cells::ORDER_ROWS);
     let last = pending::header::word_at(m, cells::LAST);
+    let changed = pending::header::word_at(m, cells::CHANGED_ROWS);
+    pending::changed::forget_tops(m, changed as usize);
     unrest_rows(m, n as usize);
     store::fill(
         m,

@@ -26,7 +26,7 @@ use Rattle.store.specs.Cells as C
 use Rattle.store.specs.Layout.{cell, Holds, Set}
 use Rattle.store.specs.View.{Row, Store, Is, write, flag, side, wallet}
 use Rattle.store.proofs.Places.{account-cell}
-use Rattle.store.proofs.Rows.{same-write, then-set, is-itself}
+use Rattle.store.proofs.Rows.{same-write, write-same, then-set, is-itself}
 use Rattle.orders.specs.declared.Live.{Live}
 use Rattle.orders.specs.Orders as Orders
 use Rattle.orders.proofs.Laws.{then-append}
@@ -83,28 +83,37 @@ pub left-open : {ys : List ℕ} (s : Store) (i : ℕ) (o : Live) (c p v : ℕ) �
 unfolding left
 left-open s i o c p v e h = rw (ne-eqb v 0 e) h
 
-pub settle-is : (xs : List ℕ) {ys : List ℕ} (a : ℕ) (z : Side) (p q : ℕ) (w r : Wallet) → w ≡ Clients.wallet-words (cell xs C.accounts a) → r .cash < modulus → r .position < modulus →
-    W.balance-of r ≡ W.settled z (int p) q (W.balance-of w) → Is ys (Clients.set-money a (r .cash) (r .position) (cell xs)) → Is ys (settle a z p q (cell xs))
-unfolding settle
-settle-is xs a z p q w r e c d g s =
-    let b : W.settle z (int p) q (W.funds (W.balance-of w)) ≡ W.settle z (int p) q (funds a (cell xs)) = ap (λ x. W.settle z (int p) q (W.funds (W.balance-of x))) e in
-    let u : r .cash ≡ wrap (W.settle z (int p) q (funds a (cell xs)) .cash) = sym (wrap-int (r .cash) c) ∙ ap wrap (ap (λ (x : Balance). x .cash) g ∙ ap (λ x. x .cash) b) in
-    let v : r .position ≡ wrap (W.settle z (int p) q (funds a (cell xs)) .position) = sym (wrap-int (r .position) d) ∙ ap wrap (ap (λ (x : Balance). x .position) g ∙ ap (λ x. x .position) b) in
-    rw (← u, ← v) s
-
 -- a wallet is there where its flag is set
 funded-is : (r : Row) → is-some (wallet r) ≡ flag (r C.account-funded)
 funded-is r =
     let f : Funds = record { cash = int (r C.account-cash); position = int (r C.account-position) } in
     split (λ b. is-some (cond b (some f) none) ≡ b) (flag (r C.account-funded)) (λ e. refl) (λ e. refl)
 
-pub pay-some : (xs : List ℕ) {ys : List ℕ} (a : ℕ) (z : Side) (p q : ℕ) (b : Bool) → b ≡ is-some (wallet (cell xs C.accounts a)) → b ≡ true → Is ys (settle a z p q (cell xs)) → Is ys (pay a z p q (cell xs))
-unfolding pay
-pay-some xs {ys} a z p q b e t h = subst (λ c. Is ys (cond c (settle a z p q (cell xs)) (cell xs))) (sym t ∙ e ∙ funded-is (cell xs C.accounts a)) h
+-- what is written is the settled wallet or, where there is none, what the cells have
+module _ (xs : List ℕ) (a : ℕ) (z : Side) (p q : ℕ) (w r : Wallet) (w-is : w ≡ Clients.wallet-words (cell xs C.accounts a)) where
+  settle-is : {ys : List ℕ} → r .cash < modulus → r .position < modulus →
+      W.balance-of r ≡ W.settled z (int p) q (W.balance-of w) → Is ys (Clients.set-money a (r .cash) (r .position) (cell xs)) → Is ys (settle a z p q (cell xs))
+  unfolding settle
+  settle-is c d g s =
+      let b : W.settle z (int p) q (W.funds (W.balance-of w)) ≡ W.settle z (int p) q (funds a (cell xs)) = ap (λ x. W.settle z (int p) q (W.funds (W.balance-of x))) w-is in
+      let u : r .cash ≡ wrap (W.settle z (int p) q (funds a (cell xs)) .cash) = sym (wrap-int (r .cash) c) ∙ ap wrap (ap (λ (x : Balance). x .cash) g ∙ ap (λ x. x .cash) b) in
+      let v : r .position ≡ wrap (W.settle z (int p) q (funds a (cell xs)) .position) = sym (wrap-int (r .position) d) ∙ ap wrap (ap (λ (x : Balance). x .position) g ∙ ap (λ x. x .position) b) in
+      rw (← u, ← v) s
 
-pub pay-none : {xs : List ℕ} (a : ℕ) (z : Side) (p q : ℕ) (b : Bool) → Holds xs → b ≡ is-some (wallet (cell xs C.accounts a)) → b ≡ false → Is xs (pay a z p q (cell xs))
-unfolding pay
-pay-none {xs} a z p q b h e t = subst (λ c. Is xs (cond c (settle a z p q (cell xs)) (cell xs))) (sym t ∙ e ∙ funded-is (cell xs C.accounts a)) (is-itself h)
+  unpaid : Clients.set-money a (w .cash) (w .position) (cell xs) ≡ cell xs
+  unfolding Clients.put-cells
+  unpaid =
+      ap (λ v. Clients.set-money a (v .cash) (v .position) (cell xs)) w-is
+      ∙ ap (write C.accounts a C.account-position (cell xs C.accounts a C.account-position)) (write-same C.accounts a C.account-cash (cell xs))
+      ∙ write-same C.accounts a C.account-position (cell xs)
+
+  pub pay-is : {ys : List ℕ} (b : Bool) (c d : ℕ) → b ≡ is-some (wallet (cell xs C.accounts a)) → r .cash < modulus → r .position < modulus → W.balance-of r ≡ W.settled z (int p) q (W.balance-of w) →
+      c ≡ cond b (r .cash) (w .cash) → d ≡ cond b (r .position) (w .position) → Is ys (Clients.set-money a c d (cell xs)) → Is ys (pay a z p q (cell xs))
+  unfolding pay
+  pay-is {ys} b c d e f g s u v h =
+      subst (λ t. Is ys (cond t (settle a z p q (cell xs)) (cell xs))) (e ∙ funded-is (cell xs C.accounts a))
+      (split (λ t. Is ys (Clients.set-money a (cond t (r .cash) (w .cash)) (cond t (r .position) (w .position)) (cell xs)) → Is ys (cond t (settle a z p q (cell xs)) (cell xs))) b
+      (λ _ k. settle-is f g s k) (λ _ k. subst (Is ys) unpaid k) (rw (← u, ← v) h))
 
 pub place-is : (xs : List ℕ) {ys zs us vs : List ℕ} (n : ℕ) (o : Live) (h c : ℕ) (w : Side) → o .account < owner-slots → h ≡ hold-word (o .side) (o .priced) (o .price) (o .leaves) →
     c ≡ cell xs C.accounts (o .account) C.account-open-orders → w ≡ side (o .side) → Is ys (Orders.make-room (cell xs)) →
@@ -133,4 +142,4 @@ module _ (s : Store) (a : ℕ) (z : Side) (t : ℕ) (t-is : t ≡ s C.accounts a
   unfolding fits
   both-fit old new old2 new2 e = r-is ∙ ap is-some e ∙ ap (λ h. is-some (fit (int h -ℤ int old +ℤ int new -ℤ int old2 +ℤ int new2))) t-is
 
-pub ruleset laws = (hold-of-is, shift-is, revise-is, retire-is, left-done, left-open, settle-is, pay-none, pay-some, arith)
+pub ruleset laws = (hold-of-is, shift-is, revise-is, retire-is, left-done, left-open, pay-is, arith)

@@ -1,41 +1,31 @@
 -- A notice is pushed, or none: the list of notices grows as the definitions say, and the state stays sound. Assumes nothing.
 use mathlib.Core.Path.{_≡_, refl, sym, ap, _∙_}
-use mathlib.Core.Bool.{Bool, true, false, cond}
-use mathlib.Core.List.{List, [], _∷_, append-nil}
+use mathlib.Core.Logic.{⊎-elim}
+use mathlib.Core.Bool.{Bool, true, false, cond, not, _&&_, and-true}
+use mathlib.Core.List.{List, [], _∷_}
 use Prim.Native.Nat.{ℕ, _+_, _≤_, _<_}
 use native.Mathlib.Omega.{arith}
+use borrow.Author.Tests.{eq-eqb, ne-eqb}
+use lib.Dec.{eqb}
 use lib.ListN.{length}
 use lib.IntN.{ℤ, pos, _+ℤ_, _-ℤ_, +ℤ-idl, +ℤ-invr, -ℤ-+ℤ-cancel}
 use Rattle.words.specs.Words.{int, modulus}
 use Rattle.words.proofs.Int.{int-injective}
+use Rattle.table.proofs.Live.{same?}
 use Rattle.gateway.specs.Limits.{most-notices}
 use Rattle.gateway.specs.Basics.{is-some}
 use Rattle.gateway.specs.Entry.{is-zero}
-use Rattle.gateway.specs.Calls.{Gateway}
 use Rattle.gateway.proofs.Base.{split}
 use Rattle.gateway.proofs.Counted.{same-is}
 use Rattle.store.specs.Cells as C
 use Rattle.store.specs.Layout.{cell}
 use Rattle.store.specs.View.{Store, word, wallet, gateway, Is, Ready}
 use Rattle.pending.specs.Pending as Pending
-use Rattle.pending.proofs.Views.{notice-view}
+use Rattle.pending.proofs.Views.{notices-view}
 use Rattle.sound.specs.Sound.{State, Becomes}
 use Rattle.sound.proofs.Kept.{becomes}
-use Rattle.sound.proofs.Waiting.{notice-sound}
-use Rattle.live.specs.Live.{with-notices, wallet-notice, hold-notice}
-
--- nothing is noticed
-nothing-noticed : {xs : List ℕ} → State xs → (ns : List ℕ) → ns ≡ [] → Becomes xs (with-notices ns (gateway (cell xs)))
-nothing-noticed {xs} st ns e =
-    record {
-      state = st;
-      gateway-is = sym (ap (λ ms. with-notices ms (gateway (cell xs))) e ∙ ap (λ ms. with-all ms (gateway (cell xs))) (append-nil (gateway (cell xs) .rest .notices)));
-    }
-  where
-    with-all : List ℕ → Gateway → Gateway
-    with-all ms g =
-        let r = g .rest in
-        record { core = g .core; rest = record { timing = r .timing; clock = r .clock; sessions = r .sessions; buckets = r .buckets; batch = r .batch; delivered = r .delivered; published = r .published; depth = r .depth; trades = r .trades; notices = ms; collar = r .collar } }
+use Rattle.sound.proofs.Waiting.{notices-sound}
+use Rattle.live.specs.Live.{with-notices, notice-where, wallet-notice, hold-notice}
 
 -- whether there is a wallet
 pub no-wallet : (s : Store) (a : ℕ) (b : Bool) → b ≡ is-some (wallet (s C.accounts a)) → b ≡ false → wallet-notice a s ≡ []
@@ -65,29 +55,33 @@ same-hold s a old new e = rw (stays old new e) (split (λ b. cond b nobody nobod
 pub other-hold : (s : Store) (a old new : ℕ) → old < modulus → new < modulus → (old ≡ new → ⊥) → hold-notice a (int old) (int new) s ≡ wallet-notice a s
 other-hold s a old new f g n = rw (differs old new f g n) refl
 
--- one is pushed
-pub push-becomes : {xs ys : List ℕ} → State xs → (a : ℕ) (b : Bool) → b ≡ is-some (wallet (cell xs C.accounts a)) → b ≡ true → length (wallet-notice a (cell xs)) + word (cell xs) C.notice-rows ≤ most-notices →
-    Is ys (Pending.notice a (cell xs)) → Becomes ys (with-notices (wallet-notice a (cell xs)) (gateway (cell xs)))
-push-becomes {xs} st a b e f l h =
-    let w = a-wallet (cell xs) a b e f in
-    becomes h (notice-sound (cell xs) (st .sound) a (omega (arith, ap (λ ns. length ns) w))) (notice-view a (cell xs) ∙ sym (ap (λ ns. with-notices ns (gateway (cell xs))) w))
+module _ (xs : List ℕ) (a : ℕ) (b : Bool) (b-is : b ≡ is-some (wallet (cell xs C.accounts a))) where
+  pub wallet-where : notice-where a b ≡ wallet-notice a (cell xs)
+  wallet-where = ap (notice-where a) b-is
 
-pub push-needs : {xs : List ℕ} → State xs → (a : ℕ) (b : Bool) → b ≡ is-some (wallet (cell xs C.accounts a)) → b ≡ true → length (wallet-notice a (cell xs)) + word (cell xs) C.notice-rows ≤ most-notices →
-    Ready xs × (word (cell xs) C.notice-rows < most-notices)
-push-needs {xs} st a b e f l =
-    (record { holds = st .holds; bounds = st .sound .tables .ordered .bounds }, omega (arith, ap (λ ns. length ns) (a-wallet (cell xs) a b e f)))
+  pub hold-where : (old new : ℕ) → old < modulus → new < modulus → notice-where a (b && not (eqb old new)) ≡ hold-notice a (int old) (int new) (cell xs)
+  hold-where old new f g =
+      ⊎-elim
+      (λ (e : old ≡ new). rw (eq-eqb old new e) (split (λ c. notice-where a (c && false) ≡ nobody) b (λ _. refl) (λ _. refl) ∙ sym (same-hold (cell xs) a old new e)))
+      (λ n. rw (ne-eqb old new n, and-true b) (wallet-where ∙ sym (other-hold (cell xs) a old new f g n)))
+      (same? old new)
 
-pub none-becomes : {xs : List ℕ} → State xs → (a : ℕ) (b : Bool) → b ≡ is-some (wallet (cell xs C.accounts a)) → b ≡ false → Becomes xs (with-notices (wallet-notice a (cell xs)) (gateway (cell xs)))
-none-becomes {xs} st a b e f = nothing-noticed st (wallet-notice a (cell xs)) (no-wallet (cell xs) a b e f)
+-- the same notices
+module _ (xs : List ℕ) {ns ms : List ℕ} (e : ns ≡ ms) where
+  pub same-needs : length ms + word (cell xs) C.notice-rows ≤ most-notices → length ns + word (cell xs) C.notice-rows ≤ most-notices
+  same-needs l = rw e l
 
--- the hold stays, or changes
-pub same-becomes : {xs : List ℕ} → State xs → (a old new : ℕ) → old ≡ new → Becomes xs (with-notices (hold-notice a (int old) (int new) (cell xs)) (gateway (cell xs)))
-same-becomes {xs} st a old new e = nothing-noticed st (hold-notice a (int old) (int new) (cell xs)) (same-hold (cell xs) a old new e)
+  pub same-becomes : {ys : List ℕ} → Becomes ys (with-notices ns (gateway (cell xs))) → Becomes ys (with-notices ms (gateway (cell xs)))
+  same-becomes b = rw (← e) b
 
-pub other-becomes : (xs : List ℕ) {ys : List ℕ} (a old new : ℕ) → old < modulus → new < modulus → (old ≡ new → ⊥) → Becomes ys (with-notices (wallet-notice a (cell xs)) (gateway (cell xs))) →
-    Becomes ys (with-notices (hold-notice a (int old) (int new) (cell xs)) (gateway (cell xs)))
-other-becomes xs a old new f g n b = record { state = b .state; gateway-is = b .gateway-is ∙ sym (ap (λ ns. with-notices ns (gateway (cell xs))) (other-hold (cell xs) a old new f g n)) }
+-- one is pushed, or none
+module _ {xs : List ℕ} (st : State xs) (a k : ℕ) (b : Bool) (e : k ≡ cond b 1 0) (l : length (notice-where a b) + word (cell xs) C.notice-rows ≤ most-notices) where
+  counted : (k ≤ 1) × (k + word (cell xs) C.notice-rows ≤ most-notices)
+  counted = let n : length (notice-where a b) ≡ k = split (λ c. length (notice-where a c) ≡ cond c 1 0) b (λ _. refl) (λ _. refl) ∙ sym e in
+      (rw e (split (λ c. cond c 1 0 ≤ 1) b (λ _. omega arith) (λ _. omega arith)), omega arith)
 
-pub other-needs : (xs : List ℕ) (a old new : ℕ) → old < modulus → new < modulus → (old ≡ new → ⊥) → length (hold-notice a (int old) (int new) (cell xs)) + word (cell xs) C.notice-rows ≤ most-notices →
-    length (wallet-notice a (cell xs)) + word (cell xs) C.notice-rows ≤ most-notices
-other-needs xs a old new f g n l = omega (arith, ap (λ ns. length ns) (other-hold (cell xs) a old new f g n))
+  pub where-needs : Ready xs × (k ≤ 1) × (k + word (cell xs) C.notice-rows ≤ most-notices)
+  where-needs = (record { holds = st .holds; bounds = st .sound .tables .ordered .bounds }, counted .0, counted .1)
+
+  pub where-becomes : {ys : List ℕ} → Is ys (Pending.notices a k (cell xs)) → Becomes ys (with-notices (notice-where a b) (gateway (cell xs)))
+  where-becomes h = becomes h (notices-sound (cell xs) (st .sound) a k (counted .1)) (rw e (notices-view a (cell xs) b))

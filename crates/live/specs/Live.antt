@@ -1,7 +1,7 @@
 -- Live orders and what they hold: what each operation writes, as a store. A row's words are as in docs/STATE.md.
 use Prim.Native.Nat.{ℕ, _+_, _-_, _≤_, _<_}
 use mathlib.Core.Path.{_≡_}
-use mathlib.Core.Bool.{cond}
+use mathlib.Core.Bool.{Bool, cond}
 use mathlib.Core.List.{List, [], _∷_, _++_}
 use lib.Dec.{eqb}
 use lib.IntN.{ℤ, _+ℤ_, _-ℤ_}
@@ -112,9 +112,13 @@ pub record Seeds (n : ℕ) (o : Live) (xs ys : List ℕ) : Type 0 where
   pub becomes : Becomes ys (with-ledger (placing n o) (gateway (cell xs)))
   pub last : (j : ℕ) → j < word (cell ys) C.order-rows → cell ys C.orders j C.order-number ≤ n
 
+-- a notice of account a, or none
+abbrev pub notice-where : ℕ → Bool → List ℕ
+notice-where a b = cond b (a ∷ []) []
+
 -- the notices of account a's wallet: that it changed, and that a hold went from one amount to another
 abbrev pub wallet-notice : ℕ → Store → List ℕ
-wallet-notice a s = cond (is-some (wallet (s C.accounts a))) (a ∷ []) []
+wallet-notice a s = notice-where a (is-some (wallet (s C.accounts a)))
 
 abbrev pub hold-notice : ℕ → ℤ → ℤ → Store → List ℕ
 hold-notice a old new s = cond (is-some (wallet (s C.accounts a))) (Deliver.hold-notice a old new) []

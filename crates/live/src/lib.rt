@@ -5,6 +5,7 @@ use orders::Live;
 use store::cells;
 use words::Amount;
 ghost use mathlib.Core.Path.{_≡_};
+ghost use mathlib.Core.Bool.{cond};
 ghost use Prim.Native.Nat.{_+_, _≤_, _<_};
 ghost use lib.ListN.{length};
 ghost use lib.IntN.{_+ℤ_, _-ℤ_};
@@ -27,6 +28,13 @@ fn held_cell(side: Side) -> usize
         Side::Buy => cells::ACCOUNT_CASH_HELD,
         Side::Sell => cells::ACCOUNT_POSITION_HELD,
     }
+}
+
+// One of two numbers. Whether an account has a wallet cannot be foreseen, so nothing jumps on it.
+fn choose(b: bool, x: u64, y: u64) -> u64
+    ensures { λ r. ⌜ r ≡ cond b x y ⌝ }
+{
+    if b { x } else { y }
 }
 
 // What an order with these words holds: nothing without a price.
@@ -151,22 +159,17 @@ pub fn reprice(m: &mut [u8], i: usize, price: u64, leaves: u64, hold: u64)
     leave(m, i, o, 1, price, leaves, hold);
 }
 
-fn settle(m: &mut [u8], account: usize, side: Side, price: u64, qty: u64)
-    requires { ⌜ Holds (now m) × (account < owner-slots) ⌝ }
-    ensures { λ r. ⌜ Is (now (m .exit)) (P.settle account side price qty (cell (now (m .entry)))) ⌝ }
-{
-    let after = clients::wallet_at(m, account).settle(side, price, qty);
-    clients::set_money(m, account, after.cash, after.position);
-}
-
-// The account pays or is paid, where it has a wallet.
+// The account pays or is paid, where it has a wallet; else its cells keep what they have.
 fn pay(m: &mut [u8], account: usize, side: Side, price: u64, qty: u64)
     requires { ⌜ Holds (now m) × (account < owner-slots) ⌝ }
     ensures { λ r. ⌜ Is (now (m .exit)) (P.pay account side price qty (cell (now (m .entry)))) ⌝ }
 {
-    if clients::is_funded(m, account) {
-        settle(m, account, side, price, qty);
-    }
+    let funded = clients::is_funded(m, account);
+    let before = clients::wallet_at(m, account);
+    let after = before.settle(side, price, qty);
+    let cash = choose(funded, after.cash, before.cash);
+    let position = choose(funded, after.position, before.position);
+    clients::set_money(m, account, cash, position);
 }
 
 // The order traded `qty` at `price`, and has `leaves` open.
@@ -221,14 +224,21 @@ pub fn seed(m: &mut [u8], number: u64, o: Live)
     put(m, number, o);
 }
 
+// A notice of the account, or none.
+fn notice_where(m: &mut [u8], account: u64, noticed: bool)
+    requires { ⌜ State (now m) × (length (P.notice-where account noticed) + word (cell (now m)) C.notice-rows ≤ most-notices) ⌝ }
+    ensures { λ r. ⌜ Becomes (now (m .exit)) (P.with-notices (P.notice-where account noticed) (gateway (cell (now (m .entry))))) ⌝ }
+{
+    pending::push_notices(m, account, choose(noticed, 1, 0));
+}
+
 // A notice that the account's wallet changed, where it has one.
 pub fn notice(m: &mut [u8], account: u64)
     requires { ⌜ State (now m) × (account < owner-slots) × (length (P.wallet-notice account (cell (now m))) + word (cell (now m)) C.notice-rows ≤ most-notices) ⌝ }
     ensures { λ r. ⌜ Becomes (now (m .exit)) (P.with-notices (P.wallet-notice account (cell (now (m .entry)))) (gateway (cell (now (m .entry))))) ⌝ }
 {
-    if clients::is_funded(m, account as usize) {
-        pending::push_notice(m, account);
-    }
+    let funded = clients::is_funded(m, account as usize);
+    notice_where(m, account, funded);
 }
 
 // A notice that what the account's order holds went from `old` to `new`.
@@ -236,8 +246,6 @@ pub fn notice_hold(m: &mut [u8], account: u64, old: u64, new: u64)
     requires { ⌜ State (now m) × (account < owner-slots) × (length (P.hold-notice account (int old) (int new) (cell (now m))) + word (cell (now m)) C.notice-rows ≤ most-notices) ⌝ }
     ensures { λ r. ⌜ Becomes (now (m .exit)) (P.with-notices (P.hold-notice account (int old) (int new) (cell (now (m .entry)))) (gateway (cell (now (m .entry))))) ⌝ }
 {
-    if old == new {
-        return;
-    }
-    notice(m, account);
+    let funded = clients::is_funded(m, account as usize);
+    notice_where(m, account, funded & (old != new));
 }

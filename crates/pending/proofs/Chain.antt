@@ -1,14 +1,14 @@
 -- The chains of the changed levels: what they lead past is no such level, and what keeps them. Assumes nothing.
 use mathlib.Core.Path.{_≡_, refl, sym, ap, ap₂, subst, _∙_}
 use mathlib.Core.Logic.{⊎-elim}
-use mathlib.Core.Bool.{Bool, true, false, cond, _&&_, _||_, and-eq-true-iff, true≢false}
+use mathlib.Core.Bool.{Bool, true, false, cond, _&&_, _||_, and-eq-true-iff, and-false}
 use mathlib.Core.List.{List, [], _∷_}
 use Prim.Native.Nat.{ℕ, zero, suc, _+_, _-_, _%_, _≤_, _<_}
 use native.Mathlib.Nat.{not-suc-le-zero, eq-or-lt-of-le}
 use native.Mathlib.Numerals.{add-one}
 use native.Mathlib.Omega.{arith}
-use borrow.Author.Tests.{eq-eqb, ne-eqb, eqb-true, eqb-false, leb-true, leb-false, le-leb, not-true, not-false}
-use lib.Dec.{eqb, leb}
+use borrow.Author.Tests.{eq-eqb, ne-eqb, eqb-true, eqb-false, not-false}
+use lib.Dec.{eqb}
 use lib.IntN.{ℤ}
 use Rattle.orderbook.specs.declared.Side.{Side}
 use Rattle.orderbook.specs.declared.Side.the-variants.{Buy, Sell}
@@ -17,15 +17,15 @@ use Rattle.words.proofs.Int.{of-int}
 use Rattle.table.proofs.Live.{same?}
 use Rattle.gateway.proofs.Holds.{side-is}
 use Rattle.gateway.specs.Depth.{Key, same-key, is-changed}
-use Rattle.gateway.specs.Ledger.{same-side}
+use Rattle.gateway.specs.Limits.{most-changed}
 use Rattle.gateway.proofs.Base.{split}
 use Rattle.gateway.proofs.Counted.{same-is}
 use Rattle.store.specs.Cells as C
-use Rattle.store.specs.Layout.{cell, Set}
+use Rattle.store.specs.Layout.{cell, Holds, Set}
 use Rattle.store.specs.View.{Row, Store, listed, flag, side, word, write, fill, changed-key, depth, Is}
-use Rattle.store.proofs.Places.{top-cell}
+use Rattle.store.proofs.Places.{changed-cell, top-cell}
 use Rattle.store.proofs.Rows.{then-set}
-use Rattle.pending.specs.Pending.{Chained, key, side-slots, first-slot, slot, slots, slot-at, newest, top, push-row, push-level}
+use Rattle.pending.specs.Pending.{Chained, key, side-slots, first-slot, slot, slots, slot-at, newest, top, push-row, push-level, forget-tops}
 use Rattle.pending.proofs.Keys.{last-first, scan-none, scan-hit, scan-miss}
 
 -- ---- slots
@@ -100,39 +100,6 @@ newest-past : (s : Store) (k n : ℕ) → (slot-at s n ≡ k → ⊥) → newest
 unfolding newest
 newest-past s k n e = rw (add-one n, ne-eqb (slot-at s n) k e) refl
 
--- ---- the top of a slot
-
-module _ (s : Store) (k : ℕ) where
-  abbrev t : ℕ
-  t = s C.tops k C.top-row
-
-  abbrev n : ℕ
-  n = word s C.changed-rows
-
-  -- a stored top that leads to a row in use of its slot
-  abbrev Leads : Type 0
-  Leads = (0 < t) × (t ≤ n) × (slot-at s (t - 1) ≡ k)
-
-  pub top-there : Leads → top s k ≡ t
-  unfolding top
-  top-there h = rw (ne-eqb t 0 (λ e. omega (arith, h .0)), le-leb t n (h .1), eq-eqb (slot-at s (t - 1)) k (h .2)) refl
-
-  pub top-ind : (P : ℕ → Type 0) → (Leads → P t) → ((Leads → ⊥) → P 0) → P (top s k)
-  unfolding top
-  top-ind P there else =
-      split (λ b. P (cond (b && (leb t n && eqb (slot-at s (t - 1)) k)) t 0)) (flag t)
-      (λ e.
-      split (λ b. P (cond (b && eqb (slot-at s (t - 1)) k) t 0)) (leb t n)
-      (λ f.
-      split (λ b. P (cond b t 0)) (eqb (slot-at s (t - 1)) k)
-      (λ g. there (omega (arith, eqb-false t 0 (not-true (eqb t 0) e)), leb-true t n f, eqb-true (slot-at s (t - 1)) k g))
-      (λ g. else (λ h. eqb-false (slot-at s (t - 1)) k g (h .2))))
-      (λ f. else (λ h. omega (arith, h .1, leb-false t n f))))
-      (λ e. else (λ h. omega (arith, h .0, eqb-true t 0 (not-false (eqb t 0) e))))
-
-  pub top-else : (Leads → ⊥) → top s k ≡ 0
-  top-else none = top-ind (λ x. x ≡ 0) (λ h. absurd (none h)) (λ _. refl)
-
 -- ---- what keeps the chains
 
 -- rows, links and tops are those of s
@@ -142,19 +109,13 @@ module _ (s t : Store) (rows-are : word t C.changed-rows ≡ word s C.changed-ro
   slots-kept : (j : ℕ) → j < word s C.changed-rows → slot-at t j ≡ slot-at s j
   slots-kept j l = λ i. slot (side (cells j C.changed-side l (omega arith) i), int (cells j C.changed-price l (omega arith) i))
 
-  top-kept : (k : ℕ) → k < slots → top t k ≡ top s k
-  top-kept k l =
-      top-ind s k (λ x. top t k ≡ x)
-      (λ h. top-there t k (rw (tops-are k l, rows-are) (h .0, h .1, slots-kept (s C.tops k C.top-row - 1) (omega (arith, h .0, h .1)) ∙ h .2)) ∙ tops-are k l)
-      (λ none. top-else t k (λ h. let g = rw (tops-are k l, rows-are) at h in none (g .0, g .1, sym (slots-kept (s C.tops k C.top-row - 1) (omega (arith, g .0, g .1))) ∙ g .2)))
-
   pub chained-kept : Chained s → Chained t
   chained-kept c =
       record {
         links = λ j l.
             let h : j < word s C.changed-rows = rw rows-are at l in
             cells j C.changed-link h (omega arith) ∙ c .links j h ∙ ap (λ k. newest s k j) (sym (slots-kept j h)) ∙ sym (newest-ext s t (slot-at t j) j (λ i m. slots-kept i (omega arith)));
-        tops = λ k l. top-kept k l ∙ c .tops k l ∙ sym (newest-ext s t k (word s C.changed-rows) slots-kept) ∙ ap (newest t k) (sym rows-are);
+        tops = λ k l. tops-are k l ∙ c .tops k l ∙ sym (newest-ext s t k (word s C.changed-rows) slots-kept) ∙ ap (newest t k) (sym rows-are);
       }
 
 -- all that the chains are made of
@@ -164,14 +125,10 @@ chains s = (word s C.changed-rows, s C.changed, s C.tops)
 pub chained-same : {s t : Store} → chains t ≡ chains s → Chained s → Chained t
 chained-same {s} {t} e = chained-kept s t (ap (λ x. x .0) e) (λ j k l m. ap (λ x. x .1 j k) e) (λ k l. ap (λ x. x .2 k C.top-row) e)
 
--- no rows
-pub chained-none : (s : Store) → word s C.changed-rows ≡ 0 → Chained s
+-- no rows, and no tops
+pub chained-none : (s : Store) → word s C.changed-rows ≡ 0 → ((k : ℕ) → k < slots → top s k ≡ 0) → Chained s
 unfolding newest
-chained-none s e =
-    record {
-      links = λ j l. absurd (omega arith);
-      tops = λ k l. top-else s k (λ h. omega (arith, h .0, h .1)) ∙ ap (newest s k) (sym e);
-    }
+chained-none s e none = record { links = λ j l. absurd (omega arith); tops = λ k l. none k l ∙ ap (newest s k) (sym e) }
 
 -- a row more
 module _ (x p : ℕ) (s : Store) (c : Chained s) where
@@ -209,26 +166,6 @@ module _ (x p : ℕ) (s : Store) (c : Chained s) where
   unfolding fill
   top-other k n = rw (ne-eqb k q n) refl
 
-  last-slot : (m : ℕ) → m ≡ rows + 1 → slot-at pushed (m - 1) ≡ q
-  last-slot m e = ap (slot-at pushed) (let w : m - 1 ≡ rows = omega arith in w) ∙ slot-new
-
-  others-kept : (k : ℕ) → (k ≡ q → ⊥) → top pushed k ≡ top s k
-  others-kept k n =
-      top-ind s k (λ y. top pushed k ≡ y)
-      (λ h. top-there pushed k (rw e (h .0, omega (arith, h .1), slot-before (m - 1) (omega (arith, h .0, h .1)) ∙ h .2)) ∙ e)
-      (λ none.
-      top-else pushed k
-      (λ h.
-      let g = rw e at h in
-      ⊎-elim (λ (w : m ≡ rows + 1). n (sym (g .2) ∙ last-slot m w)) (λ w. none (g .0, omega arith, sym (slot-before (m - 1) (omega (arith, g .0))) ∙ g .2))
-      (eq-or-lt-of-le (g .1))))
-    where
-      m : ℕ
-      m = s C.tops k C.top-row
-
-      e : pushed C.tops k C.top-row ≡ m
-      e = top-other k n
-
   pub chained-pushed : Chained pushed
   chained-pushed =
       record {
@@ -240,8 +177,8 @@ module _ (x p : ℕ) (s : Store) (c : Chained s) where
             (eq-or-lt-of-le (let h : j ≤ rows = omega arith in h));
         tops = λ k l.
             ⊎-elim
-            (λ (e : k ≡ q). rw e (top-there pushed q (rw top-new (omega arith, omega arith, last-slot (rows + 1) refl)) ∙ top-new ∙ sym (newest-here pushed q rows slot-new)))
-            (λ n. others-kept k n ∙ c .tops k l ∙ sym (newest-before k) ∙ sym (newest-past pushed k rows (λ e. n (sym e ∙ slot-new))))
+            (λ (e : k ≡ q). rw e (top-new ∙ sym (newest-here pushed q rows slot-new)))
+            (λ n. top-other k n ∙ c .tops k l ∙ sym (newest-before k) ∙ sym (newest-past pushed k rows (λ e. n (sym e ∙ slot-new))))
             (same? k q);
       }
 
@@ -250,19 +187,8 @@ module _ (x p : ℕ) (s : Store) (c : Chained s) where
 pub slot-read : (xs : List ℕ) (i a b r : ℕ) → a ≡ cell xs C.changed i C.changed-side → b ≡ cell xs C.changed i C.changed-price → r ≡ slot (key a b) → r ≡ slot-at (cell xs) i
 slot-read xs i a b r p q e = e ∙ (λ z. slot (side (p z), int (q z)))
 
-module _ (xs : List ℕ) (k t n : ℕ) (te : t ≡ cell xs C.tops k C.top-row) (ne : n ≡ word (cell xs) C.changed-rows) where
-  pub top-unused : (0 < t → t ≤ n → ⊥) → 0 ≡ top (cell xs) k
-  top-unused none = sym (top-else (cell xs) k (λ h. none (rw te (h .0)) (rw (te, ne) (h .1))))
-
-  module _ (r : ℕ) (re : r ≡ slot-at (cell xs) (t - 1)) where
-    pub top-stale : (r ≡ k → ⊥) → 0 ≡ top (cell xs) k
-    top-stale none = sym (top-else (cell xs) k (λ h. none (re ∙ rw te (h .2))))
-
-    pub top-used : 0 < t → t ≤ n → r ≡ k → t ≡ top (cell xs) k
-    top-used a b e = te ∙ sym (top-there (cell xs) k (rw (← te, ← ne) (a, b, sym re ∙ e)))
-
-pub top-at : (s : Store) (q : Key) (k t : ℕ) → k ≡ slot q → t ≡ top s k → t ≡ top s (slot q)
-top-at s q k t e h = h ∙ ap (top s) e
+pub top-at : (xs : List ℕ) (q : Key) (k t : ℕ) → k ≡ slot q → t ≡ top (cell xs) k → t ≡ top (cell xs) (slot q)
+top-at xs q k t e h = h ∙ ap (top (cell xs)) e
 
 -- no row from n on is the level q, and the row before n has its slot
 pub record Passed (s : Store) (q : Key) (n : ℕ) : Type 0 where
@@ -305,3 +231,40 @@ push-is xs {ys} {zs} x p n k t a b c h e =
     let d : t ≡ top (cell xs) (slot (key x p)) = c ∙ ap (top (cell xs)) b in
     subst (Is zs) (λ i. write C.tops (b i) C.top-row (a i + 1) (push-row C.changed C.changed-rows (x ∷ p ∷ d i ∷ []) (cell xs)))
     (then-set h (top-cell k C.top-row (slot-fits k x p b) (omega arith)) e)
+
+-- ---- the tops of the first n rows' slots are forgotten
+
+pub forget-none : (xs : List ℕ) → Holds xs → Is xs (forget-tops 0 (cell xs))
+unfolding newest
+forget-none xs h = record { holds = h; same = λ b i k c. ap (λ t. cond t 0 (cell xs b i k)) (sym (and-false (eqb b C.tops))) }
+
+-- a, x and c: whether it is a top, whether an earlier row has its slot, and whether it is a top's cell
+again : (a x c : Bool) (v : ℕ) → cond (a && c) 0 (cond (a && (x && c)) 0 v) ≡ cond (a && c) 0 v
+again false x c v = refl
+again true x true v = refl
+again true x false v = ap (λ t. cond t 0 v) (and-false x)
+
+pub slot-at-small : (s : Store) (j k : ℕ) → k ≡ slot-at s j → k < slots
+slot-at-small s j k e = rw e (slot-small (changed-key (s C.changed j)))
+
+module _ (s : Store) (n : ℕ) where
+  forget-one : (b k l : ℕ) → write C.tops (slot-at s n) C.top-row 0 (forget-tops n s) b k l ≡ forget-tops (n + 1) s b k l
+  forget-one b k l =
+      ⊎-elim
+      (λ (e : k ≡ slot-at s n).
+      rw (newest-here s k n (sym e), eq-eqb k (slot-at s n) e, ne-eqb (n + 1) 0 (λ q. omega arith)) (again (eqb b C.tops) (flag (newest s k n)) (eqb l C.top-row) (s b k l)))
+      (λ e. rw (newest-past s k n (λ q. e (sym q)), ne-eqb k (slot-at s n) e, and-false (eqb b C.tops)) refl)
+      (same? k (slot-at s n))
+
+  pub forget-more : (ys zs : List ℕ) (k : ℕ) → n < most-changed → Is ys (forget-tops n s) → k ≡ slot-at (cell ys) n → Set ys zs C.tops k C.top-row 0 → Is zs (forget-tops (n + 1) s)
+  forget-more ys zs k l p e q =
+      let at : (j : ℕ) → j < 3 → cell ys C.changed n j ≡ s C.changed n j = λ j h. p .same C.changed n j (changed-cell n j l h) in
+      let r : k ≡ slot-at s n = e ∙ (λ z. slot (side (at C.changed-side (omega arith) z), int (at C.changed-price (omega arith) z))) in
+      let t = then-set p (top-cell k C.top-row (slot-at-small s n k r) (omega arith)) q in
+      record { holds = t .holds; same = λ b i j c. t .same b i j c ∙ ap (λ x. write C.tops x C.top-row 0 (forget-tops n s) b i j) r ∙ forget-one b i j }
+
+-- with those of all rows, no top is left
+pub forgotten : (s : Store) → Chained s → (k : ℕ) → k < slots → forget-tops (word s C.changed-rows) s C.tops k C.top-row ≡ 0
+forgotten s c k l =
+    let n = newest s k (word s C.changed-rows) in
+    split (λ t. cond (t && true) 0 (top s k) ≡ 0) (flag n) (λ _. refl) (λ e. c .tops k l ∙ eqb-true n 0 (not-false (eqb n 0) e))

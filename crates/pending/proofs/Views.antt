@@ -1,7 +1,7 @@
 -- What the operations do to the gateway that the cells hold: each changes its own part, and the rest stays by computation. Assumes nothing.
 use mathlib.Core.Path.{_≡_, refl, sym, ap, ap₂, _∙_}
 use mathlib.Core.Bool.{Bool, true, false, cond}
-use mathlib.Core.List.{List, [], _∷_, _++_}
+use mathlib.Core.List.{List, [], _∷_, _++_, append-nil}
 use Prim.Native.Nat.{ℕ, zero, suc, _+_, _-_, _%_, _≤_, _<_}
 use native.Mathlib.Omega.{arith}
 use native.Mathlib.Nat.{add-zero}
@@ -18,7 +18,7 @@ use Rattle.gateway.specs.Entry as Entry
 use Rattle.gateway.specs.Depth.{Key, is-changed, remember}
 use Rattle.gateway.specs.Rest.{Rest, pending, at-time, with-batch, with-delivered, with-collar}
 use Rattle.store.specs.Cells as C
-use Rattle.store.specs.View.{Row, Store, fill, listed, flag, optional, side, word, changed-key, in-slot, flights, depth, gateway}
+use Rattle.store.specs.View.{Row, Store, write, fill, listed, flag, optional, side, word, changed-key, in-slot, flights, depth, gateway}
 use Rattle.store.proofs.Listed.{listed-ext, listed-more}
 use Rattle.pending.specs.Pending as P
 
@@ -29,13 +29,25 @@ listed-push f g n x h e = listed-more g n ∙ ap (λ l. l ++ (g n ∷ [])) (list
 abbrev pub with-rest : (Rest → Rest) → Gateway → Gateway
 with-rest f g = record { core = g .core; rest = f (g .rest) }
 
-pub notice-view : (a : ℕ) (s : Store) → gateway (P.notice a s) ≡ with-rest (noticing (a ∷ [])) (gateway s)
-unfolding fill
-notice-view a s =
-    ap (λ ns. with-rest (λ r. pending (r .depth) (r .trades) ns r) (gateway s))
-    (listed-push (λ i. s C.notices i C.notice-account) (λ i. P.notice a s C.notices i C.notice-account) (word s C.notice-rows) a
-    (λ j l. rw (ne-eqb j (word s C.notice-rows) (λ e. omega (arith, e))) refl)
-    (rw (eq-eqb (word s C.notice-rows) (word s C.notice-rows) refl) refl))
+-- a row behind the last notice that does not count is not seen
+pub notices-view : (a : ℕ) (s : Store) (b : Bool) → gateway (P.notices a (cond b 1 0) s) ≡ with-rest (noticing (cond b (a ∷ []) [])) (gateway s)
+notices-view a s b = ap (λ ns. with-rest (λ r. pending (r .depth) (r .trades) ns r) (gateway s)) (go b)
+  where
+    n : ℕ
+    n = word s C.notice-rows
+
+    old : ℕ → ℕ
+    old i = s C.notices i C.notice-account
+
+    new : ℕ → ℕ
+    new i = write C.notices n C.notice-account a s C.notices i C.notice-account
+
+    same : (j : ℕ) → j < n → new j ≡ old j
+    same j l = rw (ne-eqb j n (λ e. omega (arith, e))) refl
+
+    go : (b : Bool) → listed new (n + cond b 1 0) ≡ listed old n ++ cond b (a ∷ []) []
+    go true = listed-push old new n a same (rw (eq-eqb n n refl) refl)
+    go false = ap (listed new) (add-zero n) ∙ listed-ext old new n same ∙ sym (append-nil (listed old n))
 
 abbrev tick : ℕ → ℕ → ℕ → ℕ → ℕ → TradeTick
 tick seq id s p q = record { seq = seq; «trade_id» = id; side = side s; price = int p; qty = q }

@@ -3,7 +3,7 @@ use Prim.Native.Nat.{ℕ, zero, suc, _+_, _-_, _%_, _^_, _<_}
 use mathlib.Core.Path.{_≡_}
 use mathlib.Core.List.{List, [], _∷_}
 use mathlib.Core.Bool.{cond, _&&_}
-use lib.Dec.{eqb, leb}
+use lib.Dec.{eqb}
 use lib.ListN.{getD}
 use mir.Syntax.{w64}
 use mir.Val.{SFits}
@@ -30,19 +30,13 @@ use Rattle.pending.specs.declared.changed.Changed as L
 abbrev pub push-row : ℕ → ℕ → List ℕ → Store → Store
 push-row b k vs s = write C.header 0 k (word s k + 1) (fill b (word s k) 0 vs s)
 
--- the wallet of account a changed
-abbrev pub notice : ℕ → Store → Store
-notice a = push-row C.notices C.notice-rows (a ∷ [])
+-- account a behind the last notice, where it counts as k of them: 0 or 1
+abbrev pub notices : ℕ → ℕ → Store → Store
+notices a k s = write C.header 0 C.notice-rows (word s C.notice-rows + k) (write C.notices (word s C.notice-rows) C.notice-account a s)
 
 -- a trade; its side and its price are a code and a word
 abbrev pub trade : ℕ → ℕ → ℕ → ℕ → ℕ → Store → Store
 trade seq id side price qty = push-row C.trades C.trade-rows (seq ∷ id ∷ side ∷ price ∷ qty ∷ [])
-
--- nothing waits any more, and what was delivered is published
-abbrev pub published : Store → Store
-published s =
-    write C.header 0 C.published (word s C.delivered)
-    (write C.header 0 C.changed-rows 0 (write C.header 0 C.notice-rows 0 (write C.header 0 C.trade-rows 0 s)))
 
 -- the next command is in flight: its sender is one more than a session's number, or 0
 abbrev pub take-off : ℕ → ℕ → ℕ → Store → Store
@@ -95,11 +89,9 @@ unfoldable pub newest : Store → ℕ → ℕ → ℕ
 newest s k zero = 0
 newest s k (suc n) = cond (eqb (slot-at s n) k) (suc n) (newest s k n)
 
--- the stored top of the slot k, or 0 where it is stale: it leads to no row in use, or to one of another slot
-unfoldable pub top : Store → ℕ → ℕ
-top s k =
-    let t = s C.tops k C.top-row in
-    cond (flag t && (leb t (word s C.changed-rows) && eqb (slot-at s (t - 1)) k)) t 0
+-- the top of the slot k
+abbrev pub top : Store → ℕ → ℕ
+top s k = s C.tops k C.top-row
 
 -- a row leads to the last one before it of its slot, and a slot to its newest row
 pub record Chained (s : Store) : Type 0 where
@@ -115,6 +107,17 @@ push-level x p s =
 -- the level changed: it is listed once
 unfoldable pub remember : ℕ → ℕ → Store → Store
 remember x p s = cond (is-changed (key x p) (depth s .changed)) s (push-level x p s)
+
+-- the slots of the first n rows have no top any more
+abbrev pub forget-tops : ℕ → Store → Store
+forget-tops n s b k l = cond (eqb b C.tops && (flag (newest s k n) && eqb l C.top-row)) 0 (s b k l)
+
+-- nothing waits any more, and what was delivered is published
+abbrev pub published : Store → Store
+published s =
+    write C.header 0 C.published (word s C.delivered)
+    (write C.header 0 C.changed-rows 0
+    (write C.header 0 C.notice-rows 0 (write C.header 0 C.trade-rows 0 (forget-tops (word s C.changed-rows) s))))
 
 -- ---- the batch
 

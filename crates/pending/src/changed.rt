@@ -63,17 +63,12 @@ fn slot_at(m: &[u8], i: usize) -> usize
     slot(side, store::get(m, store::CHANGED, i, cells::CHANGED_PRICE))
 }
 
-// One more than the newest row of the slot k, or 0. A top from before the last publishing leads to no row in use, or to one of another slot.
+// One more than the newest row of the slot k, or 0.
 fn top(m: &[u8], k: usize) -> usize
-    requires { ⌜ Ready (now m) × (k < P.slots) ⌝ }
+    requires { ⌜ Holds (now m) × (k < P.slots) ⌝ }
     ensures { λ r. ⌜ r ≡ P.top (cell (now (m .entry))) k ⌝ }
 {
-    let t = store::get(m, store::TOPS, k, cells::TOP_ROW) as usize;
-    let rows = store::get(m, store::HEADER, 0, cells::CHANGED_ROWS) as usize;
-    if t == 0 || rows < t {
-        return 0;
-    }
-    if slot_at(m, t - 1) == k { t } else { 0 }
+    store::get(m, store::TOPS, k, cells::TOP_ROW) as usize
 }
 
 // Whether that level is in the chain of its slot, whose top is t.
@@ -122,6 +117,19 @@ pub fn remember(m: &mut [u8], side: u64, price: u64)
         return;
     }
     push(m, side, price, k, t);
+}
+
+// The slots of the first n rows have no top any more.
+pub fn forget_tops(m: &mut [u8], n: usize)
+    requires { ⌜ Holds (now m) × (n ≤ most-changed) ⌝ }
+    ensures { λ r. ⌜ Is (now (m .exit)) (P.forget-tops n (cell (now (m .entry)))) ⌝ }
+{
+    let mut i: usize = 0;
+    while i < n {
+        let k = slot_at(m, i);
+        store::set(m, store::TOPS, k, cells::TOP_ROW, 0);
+        i += 1;
+    }
 }
 
 // A changed level: its side a code, its price a word.

@@ -37,13 +37,20 @@ fn push_row(m: &mut [u8], b: usize, k: usize, vs: &[u64])
     store::set(m, store::HEADER, 0, k, n + 1);
 }
 
-// The wallet of an account changed.
-pub fn push_notice(m: &mut [u8], account: u64)
-    requires { ⌜ Ready (now m) × (word (cell (now m)) C.notice-rows < most-notices) ⌝ }
-    ensures { λ r. ⌜ Is (now (m .exit)) (P.notice account (cell (now (m .entry)))) ⌝ }
+// The account is written behind the last notice, and counted as one or not: no jump hangs on it.
+pub fn push_notices(m: &mut [u8], account: u64, count: u64)
+    requires { ⌜ Ready (now m) × (count ≤ 1) × (count + word (cell (now m)) C.notice-rows ≤ most-notices) ⌝ }
+    ensures { λ r. ⌜ Is (now (m .exit)) (P.notices account count (cell (now (m .entry)))) ⌝ }
 {
-    let row = [account];
-    push_row(m, store::NOTICES, cells::NOTICE_ROWS, &row);
+    let n = store::get(m, store::HEADER, 0, cells::NOTICE_ROWS);
+    store::set(
+        m,
+        store::NOTICES,
+        n as usize,
+        cells::NOTICE_ACCOUNT,
+        account,
+    );
+    store::set(m, store::HEADER, 0, cells::NOTICE_ROWS, n + count);
 }
 
 pub fn notice_at(m: &[u8], i: usize) -> u64
@@ -90,6 +97,8 @@ pub fn set_published(m: &mut [u8])
     ensures { λ r. ⌜ Is (now (m .exit)) (P.published (cell (now (m .entry)))) ⌝ }
 {
     let delivered = store::get(m, store::HEADER, 0, cells::DELIVERED);
+    let n = store::get(m, store::HEADER, 0, cells::CHANGED_ROWS);
+    changed::forget_tops(m, n as usize);
     store::set(m, store::HEADER, 0, cells::TRADE_ROWS, 0);
     store::set(m, store::HEADER, 0, cells::NOTICE_ROWS, 0);
     store::set(m, store::HEADER, 0, cells::CHANGED_ROWS, 0);

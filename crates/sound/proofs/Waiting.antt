@@ -13,7 +13,7 @@ use Rattle.clients.proofs.Links.{linked-ext}
 use Rattle.clients.proofs.Limits.{limited-ext}
 use Rattle.pending.specs.Pending as P
 use Rattle.pending.proofs.Commands.{batch-fits}
-use Rattle.pending.proofs.Chain.{chains, chained-kept, chained-same, chained-none, chained-pushed}
+use Rattle.pending.proofs.Chain.{chains, chained-kept, chained-same, chained-none, chained-pushed, forgotten}
 use Rattle.sound.specs.Sound.{Clients, Sound}
 use Rattle.sound.proofs.Kept.{sided, level-counts, Grown, sound-beside}
 
@@ -67,10 +67,10 @@ module _ (s : Store) (d : Sound s) where
   kept : {t : Store} → chains t ≡ chains s → P.Chained t
   kept e = chained-same e (d .tables .chained)
 
-  pub notice-sound : (a : ℕ) → word s C.notice-rows < most-notices → Sound (P.notice a s)
-  unfolding fill
-  notice-sound a l =
-      sound-untouched (search arith) (record { bounds = let c = b in search (arith, l); last-is = omega arith; run = d .tables .run; chained = kept refl }) f d
+  pub notices-sound : (a k : ℕ) → k + word s C.notice-rows ≤ most-notices → Sound (P.notices a k s)
+  notices-sound a k l =
+      let m : word s C.notice-rows + k ≤ most-notices = omega arith in
+      sound-untouched (search arith) (record { bounds = let c = b in search (arith, m); last-is = omega arith; run = d .tables .run; chained = kept refl }) f d
 
   pub trade-sound : (seq id x p q : ℕ) → word s C.trade-rows < most-trades → Sound (P.trade seq id x p q s)
   unfolding fill
@@ -78,7 +78,7 @@ module _ (s : Store) (d : Sound s) where
       sound-untouched (search arith) (record { bounds = let c = b in search (arith, l); last-is = omega arith; run = d .tables .run; chained = kept refl }) f d
 
   pub published-sound : Sound (P.published s)
-  published-sound = sound-untouched (search arith) (record { bounds = let c = b in search arith; last-is = omega arith; run = d .tables .run; chained = chained-none (P.published s) refl }) f d
+  published-sound = sound-untouched (search arith) (record { bounds = let c = b in search arith; last-is = omega arith; run = d .tables .run; chained = chained-none (P.published s) refl (forgotten s (d .tables .chained)) }) f d
 
   pub take-off-sound : (x y z : ℕ) → word s C.flying < most-in-flight → Sound (P.take-off x y z s)
   unfolding fill

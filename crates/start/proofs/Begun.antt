@@ -112,7 +112,7 @@ module _ (limit last : ℕ) (t : Timing) (few : limit ≤ owner-slots) where
               resting-few = omega arith;
               numbered = λ j l. absurd (not-suc-le-zero l);
               run = omega arith;
-              chained = chained-none s refl;
+              chained = chained-none s refl (λ k l. refl);
             };
         held = record { rows = λ j l m. absurd (not-suc-le-zero l); totals = λ a l z. no-total a z; counts = λ a l. refl };
         clients = record { linked = linked-ext zeros s (λ i l. refl) (λ a l. refl) linked-zeros; limited = limited-ext zeros s (λ a l. refl) (λ a l. refl) limited-zeros; batch = λ j l. absurd (not-suc-le-zero l) };

@@ -114,7 +114,7 @@ module _ (s t : Store) (b : Bounds s) (e : Same s t) where
                     changed = counted-same C.changed 2 C.changed-rows (λ i r. changed-key r) (λ i. changed-key-same) (omega arith) (b .changed-fit) (omega arith) (omega arith) z;
                   };
               trades = counted-same C.trades 6 C.trade-rows (λ i r. trade r) (λ i. trade-same) (omega arith) (b .trades-fit) (omega arith) (omega arith) z;
-              notices = counted-same C.notices 1 C.notice-rows (λ i r. r C.notice-account) (λ i q r h. h C.notice-account (omega arith)) (omega arith) (b .notices-fit) (omega arith) (omega arith) z;
+              notices = counted-same C.notices 1 C.notice-rows (λ i r. r C.notice-account) (λ i q r h. h C.notice-account (omega arith)) (omega arith) (omega (arith, b .notices-fit)) (omega arith) (omega arith) z;
               collar = ap optional (w C.collar (omega arith)) z;
             };
       }

@@ -142,7 +142,7 @@ ask-cell i k h l = record { block-is = omega arith; row-is = h; cell-is = l }
 pub trade-cell : (i k : ℕ) → i < 256 → k < 6 → Cell C.trades i k
 trade-cell i k h l = record { block-is = omega arith; row-is = h; cell-is = l }
 
-pub notice-cell : (i k : ℕ) → i < 2048 → k < 1 → Cell C.notices i k
+pub notice-cell : (i k : ℕ) → i < 2049 → k < 1 → Cell C.notices i k
 notice-cell i k h l = record { block-is = omega arith; row-is = h; cell-is = l }
 
 pub changed-cell : (i k : ℕ) → i < 1024 → k < 3 → Cell C.changed i k

@@ -1,16 +1,17 @@
 -- A store in the bytes writes one cell, and none other. Assumes nothing.
 use mathlib.Core.Path.{_≡_, refl, sym, ap, _∙_}
 use mathlib.Core.Logic.{⊎-elim}
-use mathlib.Core.Bool.{false, cond, _&&_}
+use mathlib.Core.Bool.{false, cond, _&&_, and-eq-true-iff}
 use mathlib.Core.List.{List, [], _∷_, _++_}
 use Prim.Native.Nat.{ℕ, _+_, _≤_, _<_}
-use borrow.Author.Tests.{eq-eqb, ne-eqb}
+use borrow.Author.Tests.{eq-eqb, ne-eqb, eqb-true}
 use native.Mathlib.Numerals.{add-one}
 use native.Mathlib.Omega.{arith}
 use lib.ListN.{length, getD, take}
 use lib.Seq.{take-suc, take-all, length-take-le}
 use lib.Dec.{eqb}
 use Rattle.table.proofs.Live.{same?}
+use Rattle.gateway.proofs.Base.{split}
 use Rattle.store.specs.Layout.{cell, store, Cell, Cells, Holds, Set}
 use Rattle.store.specs.View.{Row, Store, write, fill, Same, Is}
 use Rattle.store.proofs.Places.{cell-same, cell-other}
@@ -55,6 +56,19 @@ then-set {xs} {ys} {s} {b} {i} {k} {v} h c e =
       holds = e .holds;
       same = λ d j l q. ap (λ zs. cell zs d j l) (e .exact) ∙ stored xs v c (h .holds) (e .fits) d j l q ∙ same-write (cell xs) s b i k v (h .same) d j l q;
     }
+
+-- what a cell has is written to it again
+pub write-same : (b i k : ℕ) (s : Store) → write b i k (s b i k) s ≡ s
+write-same b i k s = λ z d j l. at d j l z
+  where
+    at : (d j l : ℕ) → write b i k (s b i k) s d j l ≡ s d j l
+    at d j l =
+        split (λ t. cond t (s b i k) (s d j l) ≡ s d j l) (eqb d b && (eqb j i && eqb l k))
+        (λ e.
+        let (p, e′) = and-eq-true-iff (eqb d b) (eqb j i && eqb l k) .0 e in
+        let (q, r) = and-eq-true-iff (eqb j i) (eqb l k) .0 e′ in
+        sym (λ z. s (eqb-true d b p z) (eqb-true j i q z) (eqb-true l k r z)))
+        (λ _. refl)
 
 pub is-itself : {xs : List ℕ} → Holds xs → Is xs (cell xs)
 is-itself {xs} h = record { holds = h; same = same-refl (cell xs) }

@@ -312,7 +312,7 @@ hints = 11
 abbrev pub hint-row : ℕ
 hint-row = 0
 
--- ---- by a changed level's slot: one more than the newest row of the slot; it may be stale
+-- ---- by a changed level's slot: one more than the newest row of the slot, or 0
 abbrev pub tops : ℕ
 tops = 12
 

@@ -189,5 +189,5 @@ pub const CHANGED_LINK: usize = 2;
 // rows of orders, by number modulo 16,384; a hint may be wrong
 pub const HINT_ROW: usize = 0;
 
-// by a changed level's slot: one more than the newest row of the slot; it may be stale
+// by a changed level's slot: one more than the newest row of the slot, or 0
 pub const TOP_ROW: usize = 0;

@@ -9,6 +9,12 @@ word-at-requires c κs = search needs
 word-at-requires-2 : tie.Need-word-at-requires-2
 word-at-requires-2 c κs = search needs
 
+word-at-requires-3 : tie.Need-word-at-requires-3
+word-at-requires-3 c κs = search needs
+
+forget-tops-requires : tie.Need-forget-tops-requires
+forget-tops-requires c κs = search needs
+
 unrest-rows-requires : tie.Need-unrest-rows-requires
 unrest-rows-requires c κs = search needs
 
@@ -36,6 +42,8 @@ clear-spec =
     (tie.spec
     word-at-requires
     word-at-requires-2
+    word-at-requires-3
+    forget-tops-requires
     unrest-rows-requires
     slice-aggregate-fill
     fill-requires

@@ -6,6 +6,12 @@ use Rattle.pending.proofs.set_published.Tie as tie
 get-requires : tie.Need-get-requires
 get-requires c κs = search needs
 
+get-requires-2 : tie.Need-get-requires-2
+get-requires-2 c κs = search needs
+
+forget-tops-requires : tie.Need-forget-tops-requires
+forget-tops-requires c κs = search needs
+
 set-requires : tie.Need-set-requires
 set-requires c κs = search needs
 
@@ -27,15 +33,19 @@ returns c =
     let c₃ = c₄ .before .before .before .before in
     let c₂ = c₃ .before .before .before .before in
     let c₁ = c₂ .before .before .before .before in
-    let g = c₁ .before .before in
+    let f = c₁ .before .before .before .before in
+    let h = f .before .before in
+    let g = h .before .before in
     let s = g .before .before .before in
-    published-is (s .pre) _ (g .get .ensures) (c₁ .set .ensures) (c₂ .set2 .ensures) (c₃ .set3 .ensures) (c₄ .set4 .ensures)
+    published-is (s .pre) _ _ (g .get .ensures) (h .get2 .ensures) (f .forget-tops .ensures) (c₁ .set .ensures) (c₂ .set2 .ensures) (c₃ .set3 .ensures) (c₄ .set4 .ensures)
 
 pub set-published-spec : {M : Type 1} → statement M
 set-published-spec =
     tie.close
     (tie.spec
     get-requires
+    get-requires-2
+    forget-tops-requires
     set-requires
     set-requires-2
     set-requires-3
