@@ -1,6 +1,6 @@
 -- The levels of each side go out, behind their number. Assumes nothing.
 use mathlib.Core.Path.{_≡_, refl, sym, ap, subst, _∙_}
-use mathlib.Core.List.{List, [], _∷_, _++_, map, map-append}
+use mathlib.Core.List.{List, [], _∷_, _++_, map, map-map}
 use mathlib.Core.Option.{Option, none, some, Option·map}
 use Prim.Native.Nat.{ℕ, zero, suc, _+_, _≤_, _<_}
 use native.Mathlib.Omega.{arith}
@@ -14,7 +14,7 @@ use Rattle.words.specs.Words.{int, half, _⊖_}
 use Rattle.gateway.specs.Limits.{session-slots, most-orders}
 use Rattle.gateway.specs.Depth as D
 use Rattle.gateway.specs.Rest as Rest
-use Rattle.gateway.specs.Rest.{Session, Mail, Rest, send, with-sessions, update-session, stamped}
+use Rattle.gateway.specs.Rest.{Session, Rest, send, with-sessions, update-session, stamped}
 use Rattle.gateway.specs.Entry.{update-of, level-to, snapshot}
 use Rattle.gateway.specs.Calls.{Gateway}
 use Rattle.store.specs.Cells as C
@@ -25,13 +25,13 @@ use Rattle.clients.proofs.Views.{subscribed-view}
 use Rattle.levels.specs.declared.Row.{Row}
 use Rattle.levels.specs.Levels as L
 use Rattle.levels.specs.Listed.{nth, firsts}
-use Rattle.levels.proofs.Filled.{firsts-none, firsts-skip, firsts-more}
 use Rattle.sound.specs.Sound.{State, Becomes}
 use Rattle.sound.proofs.Kept.{becomes}
 use Rattle.sound.proofs.Clients.{session-sound}
-use Rattle.sound.proofs.Listed.{size-levels, firsts-are, firsts-below, firsts-at}
-use Rattle.mailbox.specs.Mailbox.{places, put-mail, mailed}
-use Rattle.mailbox.proofs.Rows.{mailed-none, mailed-one, mailed-append, length-mailed}
+use Rattle.sound.proofs.Listed.{size-levels, firsts-below, firsts-at}
+use Rattle.rows.specs.Rows.{put-rows}
+use Rattle.mailbox.specs.Mailbox.{places, mail-row, put-mail, mailed}
+use Rattle.mailbox.proofs.Rows.{mailed-append, length-mailed}
 use Rattle.outcome.specs.Parts.{with-rest, rest-of, Sends}
 use Rattle.outcome.proofs.Changed.{changed-at}
 use Rattle.outcome.proofs.Walk.{stamped-append}
@@ -52,70 +52,32 @@ pub level-posts : (xs out : List ℕ) {end : List ℕ} (i s : ℕ) (z : Side) (l
     end ≡ put-mail i (send s (Out.LevelUpdate u)) out → end ≡ put-mail i (level-to s (rest-of xs .delivered) z l) out
 level-posts xs out i s z l u e h = h ∙ ap (λ v. put-mail i (send s (Out.LevelUpdate v)) out) e
 
--- ---- a side: the levels of the first j rows are posted
+-- ---- a side
 
-pub record Shown (z : Side) (s : ℕ) (xs out : List ℕ) (i j k : ℕ) (end : List ℕ) : Type 0 where
-  pub posted : end ≡ mailed i (map (level-to s (rest-of xs .delivered) z) (firsts z (cell xs) j)) out
-  pub next-is : k ≡ i + length (firsts z (cell xs) j)
-  pub long : length end ≡ length out
-
-module _ (z : Side) (s : ℕ) (xs out : List ℕ) (i : ℕ) where
-  abbrev to : D.Level → Mail
-  to = level-to s (rest-of xs .delivered) z
-
-  pub shown-none : Shown z s xs out i 0 i out
-  shown-none =
-      record {
-        posted = sym (ap (λ ls. mailed i (map to ls) out) (firsts-none z (cell xs)) ∙ mailed-none i out);
-        next-is = omega (arith, ap length (firsts-none z (cell xs)));
-        long = refl;
-      }
-
-  module _ (j k n p : ℕ) (r : Row) {mid : List ℕ} (f : Shown z s xs out i j k mid) (n-is : n ≡ L.used z (cell xs)) (h : j < n) (p-is : p ≡ nth z n j) (r-is : r ≡ L.row z (cell xs) p) where
-    pub shown-skip : r .orders ≡ 0 → Shown z s xs out i (j + 1) k mid
-    shown-skip d =
-        let e = firsts-skip z (cell xs) j n p r n-is h p-is r-is d in
-        record { posted = f .posted ∙ ap (λ ls. mailed i (map to ls) out) (sym e); next-is = omega (arith, f .next-is, ap length e); long = f .long }
-
-    module _ (st : State xs) (d : r .orders ≡ 0 → ⊥) where
-      below : length (firsts z (cell xs) j) < length (side-levels z (rest-of xs))
-      below = firsts-below (st .sound) z j n p r n-is h p-is r-is d
-
-      pub shown-room : i + length (side-levels z (rest-of xs)) ≤ places (length out) → k < places (length mid)
-      shown-room l = rw (f .long) (omega (arith, f .next-is, below))
-
-      -- a level has no more orders than there are
-      pub orders-few : r .orders ≤ most-orders
-      orders-few =
-          let os = rest-of xs .depth .resting in
-          let ls = firsts z (cell xs) j in
-          let few = level-few z os (length ls) (L.level r) below in
-          let e : getD (D.levels z os) (length ls) (L.level r) ≡ L.level r = firsts-at (st .sound) z j n p r n-is h p-is r-is d in
-          omega (arith, few, ap (λ (q : D.Level). q .orders) e, st .sound .tables .ordered .counted .resting-count, st .sound .tables .resting-few)
-
-      pub shown-more : {end : List ℕ} → end ≡ put-mail k (to (L.level r)) mid → length end ≡ length mid → Shown z s xs out i (j + 1) (k + 1) end
-      shown-more {end} e g =
-          let ls = firsts z (cell xs) j in
-          let m = firsts-more z (cell xs) j n p r n-is h p-is r-is d in
-          let q : i + length (map to ls) ≡ k = omega (arith, f .next-is, length-map ls to) in
-          record {
-            posted =
-                e ∙ sym (mailed-one k (to (L.level r)) mid) ∙ ap (mailed k (to (L.level r) ∷ [])) (f .posted) ∙ ap (λ y. mailed y (to (L.level r) ∷ []) (mailed i (map to ls) out)) (sym q)
-                ∙ sym (mailed-append i (map to ls) (to (L.level r) ∷ []) out) ∙ ap (λ ms. mailed i ms out) (sym (ap (map to) m ∙ map-append to ls (L.level r ∷ [])));
-            next-is = omega (arith, f .next-is, ap length m, length-append ls (L.level r ∷ []));
-            long = g ∙ f .long;
-          }
-
-  pub shown-all : State xs → (j k n : ℕ) {end : List ℕ} → Shown z s xs out i j k end → n ≡ L.used z (cell xs) → j ≤ n → n ≤ j → Posts (levels-to s z) i k xs out end
-  shown-all st j k n f n-is h l =
-      let e = firsts-are (st .sound) z j (omega arith) in
-      record {
-        next-is = omega (arith, f .next-is, ap length e, length-map (side-levels z (rest-of xs)) to);
-        posted = f .posted ∙ ap (λ ls. mailed i (map to ls) out) e;
-      }
+-- a level has no more orders than there are
+pub orders-few : {xs : List ℕ} → State xs → (z : Side) (j : ℕ) {n : ℕ} → n ≡ L.used z (cell xs) → j < n → {p : ℕ} → p ≡ nth z n j → {r : Row} → r ≡ L.row z (cell xs) p → (r .orders ≡ 0 → ⊥) → r .orders ≤ most-orders
+orders-few {xs} st z j {n} n-is h {p} p-is {r} r-is d =
+    let os = rest-of xs .depth .resting in
+    let ls = firsts z (cell xs) j in
+    let few = level-few z os (length ls) (L.level r) (firsts-below (st .sound) z j n p r n-is h p-is r-is d) in
+    let e : getD (D.levels z os) (length ls) (L.level r) ≡ L.level r = firsts-at (st .sound) z j n p r n-is h p-is r-is d in
+    omega (arith, few, ap (λ (q : D.Level). q .orders) e, st .sound .tables .ordered .counted .resting-count, st .sound .tables .resting-few)
 
 pub levels-long : (s : ℕ) (z : Side) (g : Gateway) → length (levels-to s z g) ≡ length (side-levels z (g .rest))
 levels-long s z g = length-map (side-levels z (g .rest)) (level-to s (g .rest .delivered) z)
+
+-- the row of a level's message
+abbrev pub level-mail : ℕ → Side → List ℕ → D.Level → List ℕ
+level-mail s z xs l = mail-row (level-to s (rest-of xs .delivered) z l)
+
+pub levels-posted : (s : ℕ) (z : Side) (xs : List ℕ) {out end : List ℕ} {i k : ℕ} → (end ≡ put-rows 96 i (map (level-mail s z xs) (side-levels z (rest-of xs))) out) × (k ≡ i + length (side-levels z (rest-of xs))) →
+    Posts (levels-to s z) i k xs out end
+unfolding mailed
+levels-posted s z xs {out} {end} {i} p =
+    record {
+      next-is = omega (arith, p .1, levels-long s z (gateway (cell xs)));
+      posted = p .0 ∙ ap (λ rs. put-rows 96 i rs out) (sym (map-map mail-row (level-to s (rest-of xs .delivered) z) (side-levels z (rest-of xs))));
+    }
 
 -- ---- the first message
 

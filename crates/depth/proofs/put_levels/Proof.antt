@@ -2,13 +2,15 @@ use Prim.Native.Nat.{_-_, _≤_}
 use native.Mathlib.Omega.{arith}
 use Rattle.store.specs.Layout.{cell}
 use Rattle.levels.proofs.Filled.{firsts-few}
-use Rattle.depth.proofs.Laws.{Shown, shown-none, shown-skip, shown-room, shown-more, shown-all, row-small}
+use Rattle.sound.proofs.Listed.{size-levels}
+use Rattle.outcome.specs.Answers.{level-row}
+use Rattle.depth.proofs.Shown.{row-small, Shown, shown-none, shown-skip, shown-below, shown-more, shown-all}
 use borrow.Author.Needs.{needs}
 use Rattle.depth.proofs.put_levels.Statement.{statement}
 use Rattle.depth.proofs.put_levels.Tie as tie
 
 abbrev Inv-loop : tie.InvT-loop
-Inv-loop m side out₀ n i₀ j₀ out i j = Shown side m out₀ i j out × (i ≤ n)
+Inv-loop m side out₀ n i₀ j₀ out i j = Shown 24 0 level-row side m out₀ i j out × (i ≤ n)
 
 abbrev μ-loop : tie.MeasureT-loop
 μ-loop m side out₀ n i₀ j₀ out i j = n - i
@@ -19,7 +21,7 @@ used-requires c κs = search needs
 loop-holds : tie.Need-loop-holds Inv-loop μ-loop
 loop-holds c =
     let s = c .before .before .before in
-    (shown-none (s .args .side) (s .args .m .now) (s .args .out .now), omega arith)
+    (shown-none 24 0 level-row (s .args .side) (s .args .m .now) (s .args .out .now), omega arith)
 
 nth-requires : tie.Need-nth-requires Inv-loop μ-loop
 nth-requires c κs = search needs
@@ -27,7 +29,7 @@ nth-requires c κs = search needs
 read-row-requires : tie.Need-read-row-requires Inv-loop μ-loop
 read-row-requires c κs =
     let s = c .before .before .before .before .before .before in
-    (s .pre .0 .holds, row-small (s .pre .0) (s .args .side) _ _ (c .before .before .before .used .ensures) (c .nth .ensures .1))
+    (s .pre .0 .holds, row-small (s .pre .0) (s .args .side) (c .before .before .before .used .ensures) (c .nth .ensures .1))
 
 add-i : tie.Need-add-i Inv-loop μ-loop
 add-i c = omega (arith, c .before .before .loop-test .taken)
@@ -38,15 +40,16 @@ put-level-requires c κs =
     let d = r .before in
     let l = d .before .before in
     let s = l .before .before .before .before in
-    shown-room (s .args .side) (s .args .m .now) (s .args .out .now) (l .loop .i) (l .loop .j) _ _ (r .read-row .result) (l .loop .inv .0) (l .before .used .ensures) (d .before .loop-test .taken)
-    (d .nth .ensures .0) (r .read-row .ensures) (c .before .if1 .taken) (s .pre .0) (s .pre .1)
+    let v = l .loop .inv .0 in
+    let below = shown-below v (l .before .used .ensures) (d .before .loop-test .taken) (d .nth .ensures .0) (r .read-row .ensures) (c .before .if1 .taken) (s .pre .0) in
+    omega (arith, below, size-levels (s .pre .0 .sound) (s .args .side), s .pre .1, v .long)
 
 add-j : tie.Need-add-j Inv-loop μ-loop
 add-j c =
     let d = c .before .before .before .before .before .before .before in
     let l = d .before .before in
     let s = l .before .before .before .before in
-    omega (arith, l .loop .inv .0 .count, firsts-few (s .args .side) (cell (s .args .m .now)) (l .loop .i), d .before .loop-test .taken)
+    omega (arith, l .loop .inv .0 .next-is, firsts-few (s .args .side) (cell (s .args .m .now)) (l .loop .i), d .before .loop-test .taken)
 
 loop-less : tie.Need-loop-less Inv-loop μ-loop
 loop-less c = omega (arith, c .before .before .before .before .before .before .before .before .loop-test .taken)
@@ -56,10 +59,8 @@ loop-again c =
     let p = c .before .before in
     let r = p .before .before .before .before in
     let d = r .before in
-    let l = d .before .before in
-    let s = l .before .before .before .before in (
-      shown-more (s .args .side) (s .args .m .now) (s .args .out .now) (l .loop .i) (l .loop .j) _ _ (r .read-row .result) (l .loop .inv .0) (l .before .used .ensures) (d .before .loop-test .taken)
-          (d .nth .ensures .0) (r .read-row .ensures) (p .before .before .if1 .taken) (p .put-level .ensures) (search needs),
+    let l = d .before .before in (
+      shown-more (l .loop .inv .0) (l .before .used .ensures) (d .before .loop-test .taken) (d .nth .ensures .0) (r .read-row .ensures) (p .before .before .if1 .taken) (p .put-level .ensures) (search needs),
       omega (arith, d .before .loop-test .taken),
     )
 
@@ -70,10 +71,8 @@ loop-again-2 : tie.Need-loop-again-2 Inv-loop μ-loop
 loop-again-2 c =
     let r = c .before .before in
     let d = r .before in
-    let l = d .before .before in
-    let s = l .before .before .before .before in (
-      shown-skip (s .args .side) (s .args .m .now) (s .args .out .now) (l .loop .i) (l .loop .j) _ _ (r .read-row .result) (l .loop .inv .0) (l .before .used .ensures) (d .before .loop-test .taken)
-          (d .nth .ensures .0) (r .read-row .ensures) (c .if1 .left),
+    let l = d .before .before in (
+      shown-skip (l .loop .inv .0) (l .before .used .ensures) (d .before .loop-test .taken) (d .nth .ensures .0) (r .read-row .ensures) (c .if1 .left),
       omega (arith, d .before .loop-test .taken),
     )
 
@@ -84,7 +83,7 @@ returns : tie.Need-returns Inv-loop μ-loop
 returns c =
     let l = c .before in
     let s = l .before .before .before .before in
-    shown-all (s .args .side) (s .args .m .now) (s .args .out .now) (s .pre .0) (l .loop .i) (l .loop .j) _ (l .loop .inv .0) (l .before .used .ensures) (l .loop .inv .1) (c .loop-test .left)
+    shown-all (l .loop .inv .0) (l .before .used .ensures) (s .pre .0) (l .loop .inv .1) (c .loop-test .left) .0
 
 pub put-levels-spec : {M : Type 1} → statement M
 put-levels-spec =

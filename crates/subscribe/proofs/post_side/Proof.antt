@@ -1,15 +1,13 @@
 use Prim.Native.Nat.{_-_, _≤_}
 use native.Mathlib.Omega.{arith}
-use Rattle.store.specs.Layout.{cell}
-use Rattle.levels.proofs.Filled.{firsts-few}
-use Rattle.depth.proofs.Laws.{row-small}
-use Rattle.subscribe.proofs.Snapshot.{Shown, shown-none, shown-skip, shown-room, orders-few, shown-more, shown-all}
+use Rattle.depth.proofs.Shown.{row-small, Shown, shown-none, shown-skip, shown-below, shown-more, shown-all}
+use Rattle.subscribe.proofs.Snapshot.{orders-few, level-mail, levels-posted}
 use borrow.Author.Needs.{needs}
 use Rattle.subscribe.proofs.post_side.Statement.{statement}
 use Rattle.subscribe.proofs.post_side.Tie as tie
 
 abbrev Inv-loop : tie.InvT-loop
-Inv-loop m out₀ i s side n k₀ j₀ out k j = Shown side s m out₀ i j k out × (j ≤ n)
+Inv-loop m out₀ i s side n k₀ j₀ out k j = Shown 96 i (level-mail s side m) side m out₀ j k out × (j ≤ n)
 
 abbrev μ-loop : tie.MeasureT-loop
 μ-loop m out₀ i s side n k₀ j₀ out k j = n - j
@@ -20,7 +18,7 @@ used-requires c κs = search needs
 loop-holds : tie.Need-loop-holds Inv-loop μ-loop
 loop-holds c =
     let s = c .before .before .before in
-    (shown-none (s .args .side) (s .args .s) (s .args .m .now) (s .args .out .now) (s .args .i), omega arith)
+    (shown-none 96 (s .args .i) (level-mail (s .args .s) (s .args .side) (s .args .m .now)) (s .args .side) (s .args .m .now) (s .args .out .now), omega arith)
 
 nth-requires : tie.Need-nth-requires Inv-loop μ-loop
 nth-requires c κs = search needs
@@ -28,7 +26,7 @@ nth-requires c κs = search needs
 read-row-requires : tie.Need-read-row-requires Inv-loop μ-loop
 read-row-requires c κs =
     let s = c .before .before .before .before .before .before in
-    (s .pre .0 .holds, row-small (s .pre .0) (s .args .side) _ _ (c .before .before .before .used .ensures) (c .nth .ensures .1))
+    (s .pre .0 .holds, row-small (s .pre .0) (s .args .side) (c .before .before .before .used .ensures) (c .nth .ensures .1))
 
 add-j : tie.Need-add-j Inv-loop μ-loop
 add-j c = omega (arith, c .before .before .loop-test .taken)
@@ -39,15 +37,19 @@ post-level-requires c κs =
     let d = r .before in
     let l = d .before .before in
     let s = l .before .before .before .before in
-    (s .pre .0, orders-few (s .args .side) (s .args .s) (s .args .m .now) (s .args .out .now) (s .args .i) (l .loop .j) (l .loop .k) _ _ (r .read-row .result) (l .loop .inv .0) (l .before .used .ensures) (d .before .loop-test .taken) (d .nth .ensures .0) (r .read-row .ensures) (s .pre .0) (c .before .if1 .taken), shown-room (s .args .side) (s .args .s) (s .args .m .now) (s .args .out .now) (s .args .i) (l .loop .j) (l .loop .k) _ _ (r .read-row .result) (l .loop .inv .0) (l .before .used .ensures) (d .before .loop-test .taken) (d .nth .ensures .0) (r .read-row .ensures) (s .pre .0) (c .before .if1 .taken) (s .pre .1))
+    let st = s .pre .0 in
+    let v = l .loop .inv .0 in
+    let below = shown-below v (l .before .used .ensures) (d .before .loop-test .taken) (d .nth .ensures .0) (r .read-row .ensures) (c .before .if1 .taken) st in
+    (st, orders-few st (s .args .side) _ (l .before .used .ensures) (d .before .loop-test .taken) (d .nth .ensures .0) (r .read-row .ensures) (c .before .if1 .taken), rw (v .long) (omega (arith, below, s .pre .1)))
 
 add-k : tie.Need-add-k Inv-loop μ-loop
 add-k c =
-    let d = c .before .before .before .before .before .before .before in
+    let r = c .before .before .before .before .before .before in
+    let d = r .before in
     let l = d .before .before in
     let s = l .before .before .before .before in
-    let r = c .before .before .before .before .before .before in
-    omega (arith, shown-room (s .args .side) (s .args .s) (s .args .m .now) (s .args .out .now) (s .args .i) (l .loop .j) (l .loop .k) _ _ (r .read-row .result) (l .loop .inv .0) (l .before .used .ensures) (d .before .loop-test .taken) (d .nth .ensures .0) (r .read-row .ensures) (s .pre .0) (c .before .before .before .before .if1 .taken) (s .pre .1))
+    let below = shown-below (l .loop .inv .0) (l .before .used .ensures) (d .before .loop-test .taken) (d .nth .ensures .0) (r .read-row .ensures) (c .before .before .before .before .if1 .taken) (s .pre .0) in
+    omega (arith, below, s .pre .1)
 
 loop-less : tie.Need-loop-less Inv-loop μ-loop
 loop-less c = omega (arith, c .before .before .before .before .before .before .before .before .loop-test .taken)
@@ -57,9 +59,10 @@ loop-again c =
     let p = c .before .before in
     let r = p .before .before .before .before in
     let d = r .before in
-    let l = d .before .before in
-    let s = l .before .before .before .before in
-    (shown-more (s .args .side) (s .args .s) (s .args .m .now) (s .args .out .now) (s .args .i) (l .loop .j) (l .loop .k) _ _ (r .read-row .result) (l .loop .inv .0) (l .before .used .ensures) (d .before .loop-test .taken) (d .nth .ensures .0) (r .read-row .ensures) (s .pre .0) (p .before .before .if1 .taken) (p .post-level .ensures) (search needs), omega (arith, d .before .loop-test .taken))
+    let l = d .before .before in (
+      shown-more (l .loop .inv .0) (l .before .used .ensures) (d .before .loop-test .taken) (d .nth .ensures .0) (r .read-row .ensures) (p .before .before .if1 .taken) (p .post-level .ensures) (search needs),
+      omega (arith, d .before .loop-test .taken),
+    )
 
 loop-less-2 : tie.Need-loop-less-2 Inv-loop μ-loop
 loop-less-2 c = omega (arith, c .before .before .before .before .loop-test .taken)
@@ -68,9 +71,10 @@ loop-again-2 : tie.Need-loop-again-2 Inv-loop μ-loop
 loop-again-2 c =
     let r = c .before .before in
     let d = r .before in
-    let l = d .before .before in
-    let s = l .before .before .before .before in
-    (shown-skip (s .args .side) (s .args .s) (s .args .m .now) (s .args .out .now) (s .args .i) (l .loop .j) (l .loop .k) _ _ (r .read-row .result) (l .loop .inv .0) (l .before .used .ensures) (d .before .loop-test .taken) (d .nth .ensures .0) (r .read-row .ensures) (c .if1 .left), omega (arith, d .before .loop-test .taken))
+    let l = d .before .before in (
+      shown-skip (l .loop .inv .0) (l .before .used .ensures) (d .before .loop-test .taken) (d .nth .ensures .0) (r .read-row .ensures) (c .if1 .left),
+      omega (arith, d .before .loop-test .taken),
+    )
 
 same-length : tie.Need-same-length Inv-loop μ-loop
 same-length c = c .before .loop .inv .0 .long
@@ -79,7 +83,7 @@ returns : tie.Need-returns Inv-loop μ-loop
 returns c =
     let l = c .before in
     let s = l .before .before .before .before in
-    shown-all (s .args .side) (s .args .s) (s .args .m .now) (s .args .out .now) (s .args .i) (s .pre .0) (l .loop .j) (l .loop .k) _ (l .loop .inv .0) (l .before .used .ensures) (l .loop .inv .1) (c .loop-test .left)
+    levels-posted (s .args .s) (s .args .side) (s .args .m .now) (shown-all (l .loop .inv .0) (l .before .used .ensures) (s .pre .0) (l .loop .inv .1) (c .loop-test .left))
 
 pub post-side-spec : {M : Type 1} → statement M
 post-side-spec =
