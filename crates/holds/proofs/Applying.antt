@@ -118,89 +118,89 @@ module _ (xs : List ℕ) (st : State xs) (n : ℕ) (x : Move) (at : Found) (sees
 
     -- `new` is what it holds then
     module _ (new : ℕ) (holds : NewHold n x new (ledger s)) where
-     after-is : int new ≡ hold-after c was
-     after-is = holds was (row .order)
+      after-is : int new ≡ hold-after c was
+      after-is = holds was (row .order)
 
-     -- what the change asks
-     pub change-needs : new < modulus → State xs × L.At i s × (new ≡ hold-after-word x (s C.orders i))
-     change-needs l = (
+      -- what the change asks
+      pub change-needs : new < modulus → State xs × L.At i s × (new ≡ hold-after-word x (s C.orders i))
+      change-needs l = (
         st,
         live-at xs st n at sees i found,
         int-injective new (hold-after-word x (s C.orders i)) l (after-small x (s C.orders i)) (after-is ∙ sym (new-is n x (s C.orders i))),
       )
 
-     module _ (o : Live) (o-is : o ≡ live-row (s C.orders i)) where
-      owner : o .account < owner-slots
-      owner = owner-small xs st n at sees i found o o-is
+      module _ (o : Live) (o-is : o ≡ live-row (s C.orders i)) where
+        owner : o .account < owner-slots
+        owner = owner-small xs st n at sees i found o o-is
 
-      old-is : int (o .hold) ≡ order-hold was
-      old-is = ap (λ (w : Live). int (w .hold)) o-is ∙ st .sound .held .rows i (row .row .0) (row .row .2) .hold-is
+        old-is : int (o .hold) ≡ order-hold was
+        old-is = ap (λ (w : Live). int (w .hold)) o-is ∙ st .sound .held .rows i (row .row .0) (row .row .2) .hold-is
 
-      -- read from states with as many wallets
-      abbrev Alike : Store → Type 0
-      Alike t = is-some (wallet (t C.accounts (was .account))) ≡ is-some (wallet-of (ledger s .wallets) was)
+        -- read from states with as many wallets
+        abbrev Alike : Store → Type 0
+        Alike t = is-some (wallet (t C.accounts (was .account))) ≡ is-some (wallet-of (ledger s .wallets) was)
 
-      noticed : (t u : Store) → Alike t → Alike u → change-notices c (ledger s) ≡ settled-notice (o .account) x t ++ L.hold-notice (o .account) (int (o .hold)) (int new) u
-      noticed t u e f =
-          notices-by n x (ledger s) (row .order)
-          ∙ ap (λ (ns : List ℕ). cond (is-some (wallet-of (ledger s .wallets) was)) ns []) (notices-are n x was)
-          ∙ joined (is-some (wallet-of (ledger s .wallets) was)) x (was .account) (Deliver.hold-notice (was .account) (order-hold was) (hold-after c was))
-          ∙ ap₂ (λ (b d : Bool). cond (eqb (settles x) 0) [] (cond b (was .account ∷ []) []) ++ cond d (Deliver.hold-notice (was .account) (order-hold was) (hold-after c was)) []) (sym e) (sym f)
-          ∙ sym (λ j. settled-notice (o-is j .account) x t ++ L.hold-notice (o-is j .account) (old-is j) (after-is j) u)
+        noticed : (t u : Store) → Alike t → Alike u → change-notices c (ledger s) ≡ settled-notice (o .account) x t ++ L.hold-notice (o .account) (int (o .hold)) (int new) u
+        noticed t u e f =
+            notices-by n x (ledger s) (row .order)
+            ∙ ap (λ (ns : List ℕ). cond (is-some (wallet-of (ledger s .wallets) was)) ns []) (notices-are n x was)
+            ∙ joined (is-some (wallet-of (ledger s .wallets) was)) x (was .account) (Deliver.hold-notice (was .account) (order-hold was) (hold-after c was))
+            ∙ ap₂ (λ (b d : Bool). cond (eqb (settles x) 0) [] (cond b (was .account ∷ []) []) ++ cond d (Deliver.hold-notice (was .account) (order-hold was) (hold-after c was)) []) (sym e) (sym f)
+            ∙ sym (λ j. settled-notice (o-is j .account) x t ++ L.hold-notice (o-is j .account) (old-is j) (after-is j) u)
 
-      alike : (t : Store) → ledger t .wallets ≡ change c (ledger s) .wallets → Alike t
-      alike t e =
-          let small : was .account < owner-slots = st .sound .held .rows i (row .row .0) (row .row .2) .owner-is in
-          ap is-some (sym (wallet-at-row (was .account) t small)) ∙ ap (λ ws. is-some (getD ws (was .account) none)) e ∙ wallets-changed c (ledger s) (was .account)
+        alike : (t : Store) → ledger t .wallets ≡ change c (ledger s) .wallets → Alike t
+        alike t e =
+            let small : was .account < owner-slots = st .sound .held .rows i (row .row .0) (row .row .2) .owner-is in
+            ap is-some (sym (wallet-at-row (was .account) t small)) ∙ ap (λ ws. is-some (getD ws (was .account) none)) e ∙ wallets-changed c (ledger s) (was .account)
 
-      module _ (room : length (change-notices c (ledger s)) + word s C.notice-rows ≤ most-notices) {ys : List ℕ} (did : Becomes ys (with-ledger (change (change-of (number-at i s) x)) (gateway s))) where
-        b : Becomes ys (with-ledger (change c) (gateway s))
-        b = changed did
+        module _ (room : length (change-notices c (ledger s)) + word s C.notice-rows ≤ most-notices) {ys : List ℕ} (did : Becomes ys (with-ledger (change (change-of (number-at i s) x)) (gateway s))) where
+          b : Becomes ys (with-ledger (change c) (gateway s))
+          b = changed did
 
-        alike-y : Alike (cell ys)
-        alike-y = alike (cell ys) (ap (λ (g : Gateway). g .core .ledger .wallets) (b .gateway-is))
+          alike-y : Alike (cell ys)
+          alike-y = alike (cell ys) (ap (λ (g : Gateway). g .core .ledger .wallets) (b .gateway-is))
 
-        rows-y : word (cell ys) C.notice-rows ≡ word s C.notice-rows
-        rows-y = sym (notices-count (cell ys)) ∙ ap (λ (g : Gateway). length (g .rest .notices)) (b .gateway-is) ∙ notices-count s
+          rows-y : word (cell ys) C.notice-rows ≡ word s C.notice-rows
+          rows-y = sym (notices-count (cell ys)) ∙ ap (λ (g : Gateway). length (g .rest .notices)) (b .gateway-is) ∙ notices-count s
 
-        -- what the notice that money moved asks
-        pub money-needs : State ys × (o .account < owner-slots) × (length (settled-notice (o .account) x (cell ys)) + word (cell ys) C.notice-rows ≤ most-notices)
-        money-needs = (
-          did .state,
-          owner,
-          omega
-              (arith, rows-y, ap (λ (ns : List ℕ). length ns) (noticed (cell ys) (cell ys) alike-y alike-y), length-append (settled-notice (o .account) x (cell ys)) (L.hold-notice (o .account) (int (o .hold)) (int new) (cell ys)), room),
-        )
-
-        module _ {zs : List ℕ} (d : Becomes zs (with-notices (settled-notice (o .account) x (cell ys)) (gateway (cell ys)))) where
-          alike-z : Alike (cell zs)
-          alike-z = alike (cell zs) (ap (λ (g : Gateway). g .core .ledger .wallets) (d .gateway-is) ∙ ap (λ (g : Gateway). g .core .ledger .wallets) (b .gateway-is))
-
-          rows-z : word (cell zs) C.notice-rows ≡ word s C.notice-rows + length (settled-notice (o .account) x (cell ys))
-          rows-z =
-              sym (notices-count (cell zs)) ∙ ap (λ (g : Gateway). length (g .rest .notices)) (d .gateway-is) ∙ length-append (gateway (cell ys) .rest .notices) (settled-notice (o .account) x (cell ys))
-              ∙ ap (λ k. k + length (settled-notice (o .account) x (cell ys))) (notices-count (cell ys) ∙ rows-y)
-
-          -- and the one that what is held changed
-          pub hold-needs : State zs × (o .account < owner-slots) × (length (L.hold-notice (o .account) (int (o .hold)) (int new) (cell zs)) + word (cell zs) C.notice-rows ≤ most-notices)
-          hold-needs = (
-            d .state,
+          -- what the notice that money moved asks
+          pub money-needs : State ys × (o .account < owner-slots) × (length (settled-notice (o .account) x (cell ys)) + word (cell ys) C.notice-rows ≤ most-notices)
+          money-needs = (
+            did .state,
             owner,
             omega
-                (arith, rows-z, ap (λ (ns : List ℕ). length ns) (noticed (cell ys) (cell zs) alike-y alike-z), length-append (settled-notice (o .account) x (cell ys)) (L.hold-notice (o .account) (int (o .hold)) (int new) (cell zs)), room),
+                (arith, rows-y, ap (λ (ns : List ℕ). length ns) (noticed (cell ys) (cell ys) alike-y alike-y), length-append (settled-notice (o .account) x (cell ys)) (L.hold-notice (o .account) (int (o .hold)) (int new) (cell ys)), room),
           )
 
-          pub row-moved : {us : List ℕ} → Becomes us (with-notices (L.hold-notice (o .account) (int (o .hold)) (int new) (cell zs)) (gateway (cell zs))) → Becomes us (moved c (gateway s))
-          row-moved e =
-              let sn = settled-notice (o .account) x (cell ys) in
-              let hn = L.hold-notice (o .account) (int (o .hold)) (int new) (cell zs) in
-              record {
-                state = e .state;
-                gateway-is =
-                    e .gateway-is ∙ ap (with-notices hn) (d .gateway-is ∙ ap (with-notices sn) (b .gateway-is))
-                    ∙ ap (λ (ns : List ℕ). record { core = with-ledger (change c) (gateway s) .core; rest = pending (gateway s .rest .depth) (gateway s .rest .trades) ns (gateway s .rest) })
-                    (append-assoc (gateway s .rest .notices) sn hn)
-                    ∙ ap (λ (ns : List ℕ). with-notices ns (with-ledger (change c) (gateway s))) (sym (noticed (cell ys) (cell zs) alike-y alike-z));
-              }
+          module _ {zs : List ℕ} (d : Becomes zs (with-notices (settled-notice (o .account) x (cell ys)) (gateway (cell ys)))) where
+            alike-z : Alike (cell zs)
+            alike-z = alike (cell zs) (ap (λ (g : Gateway). g .core .ledger .wallets) (d .gateway-is) ∙ ap (λ (g : Gateway). g .core .ledger .wallets) (b .gateway-is))
+
+            rows-z : word (cell zs) C.notice-rows ≡ word s C.notice-rows + length (settled-notice (o .account) x (cell ys))
+            rows-z =
+                sym (notices-count (cell zs)) ∙ ap (λ (g : Gateway). length (g .rest .notices)) (d .gateway-is) ∙ length-append (gateway (cell ys) .rest .notices) (settled-notice (o .account) x (cell ys))
+                ∙ ap (λ k. k + length (settled-notice (o .account) x (cell ys))) (notices-count (cell ys) ∙ rows-y)
+
+            -- and the one that what is held changed
+            pub hold-needs : State zs × (o .account < owner-slots) × (length (L.hold-notice (o .account) (int (o .hold)) (int new) (cell zs)) + word (cell zs) C.notice-rows ≤ most-notices)
+            hold-needs = (
+              d .state,
+              owner,
+              omega
+                  (arith, rows-z, ap (λ (ns : List ℕ). length ns) (noticed (cell ys) (cell zs) alike-y alike-z), length-append (settled-notice (o .account) x (cell ys)) (L.hold-notice (o .account) (int (o .hold)) (int new) (cell zs)), room),
+            )
+
+            pub row-moved : {us : List ℕ} → Becomes us (with-notices (L.hold-notice (o .account) (int (o .hold)) (int new) (cell zs)) (gateway (cell zs))) → Becomes us (moved c (gateway s))
+            row-moved e =
+                let sn = settled-notice (o .account) x (cell ys) in
+                let hn = L.hold-notice (o .account) (int (o .hold)) (int new) (cell zs) in
+                record {
+                  state = e .state;
+                  gateway-is =
+                      e .gateway-is ∙ ap (with-notices hn) (d .gateway-is ∙ ap (with-notices sn) (b .gateway-is))
+                      ∙ ap (λ (ns : List ℕ). record { core = with-ledger (change c) (gateway s) .core; rest = pending (gateway s .rest .depth) (gateway s .rest .trades) ns (gateway s .rest) })
+                      (append-assoc (gateway s .rest .notices) sn hn)
+                      ∙ ap (λ (ns : List ℕ). with-notices ns (with-ledger (change c) (gateway s))) (sym (noticed (cell ys) (cell zs) alike-y alike-z));
+                }
 
 pub ruleset applying = (did-fill, did-leaves, did-reprice, did-retire, nothing-changed, changed, arith)

@@ -2,7 +2,7 @@
 use mathlib.Core.Path.{_≡_, sym, _∙_, ap}
 use mathlib.Core.Bool.{Bool, true, false}
 use mathlib.Core.Option.{none, some, Option·getD, Option·map}
-use Prim.Native.Nat.{ℕ, _-_}
+use Prim.Native.Nat.{ℕ, _-_, _<_}
 use native.Mathlib.Omega.{arith}
 use lib.IntN.{ℤ, pos, _+ℤ_, _-ℤ_, _*ℤ_}
 use lib.Signed.{leZ}
@@ -38,6 +38,11 @@ no-price side p price leaves t = rw t int-zero
 itself : (q : ℕ) → int 1 *ℤ pos q ≡ pos q
 itself q = ap (λ (z : ℤ). z *ℤ pos q) (low 1 (omega arith)) ∙ ap pos (omega arith)
 
+-- and so is what is chosen
+pub picked-small : (side : Side) (price p : ℕ) → p ≡ W.pick side price 1 → price < W.small → p < W.small
+picked-small Buy price p e l = rw e l
+picked-small Sell price p e l = omega (arith, e)
+
 pub hold-is : (side : Side) (price leaves p : ℕ) (a : Amount) → p ≡ W.pick side price 1 → amount a ≡ W.cost (int p) leaves → amount a ≡ W.hold-of side (int price) leaves
 hold-is Buy price leaves p a e f = f ∙ ap (λ (w : ℕ). W.cost (int w) leaves) e
 hold-is Sell price leaves p a e f = f ∙ ap (λ (w : ℕ). W.cost (int w) leaves) e ∙ ap fit (itself leaves)
@@ -51,4 +56,4 @@ pub settles : (side : Side) (w : Wallet) (price qty cash position given taken fr
 settles Buy w price qty cash position given taken from spent to won paid lots a l e1 e2 e3 e4 e5 e6 e7 e8 e9 e10 e11 e12 = cc int-most
 settles Sell w price qty cash position given taken from spent to won paid lots a l e1 e2 e3 e4 e5 e6 e7 e8 e9 e10 e11 e12 = cc int-most
 
-pub ruleset laws = (needs, covered, holds, overflows, at-price, no-price, hold-is, settles)
+pub ruleset laws = (needs, covered, holds, overflows, at-price, no-price, picked-small, hold-is, settles)

@@ -16,6 +16,10 @@ use Rattle.wallet.specs.declared.Changed as C
 abbrev pub cost : ℤ → ℕ → Option ℤ
 cost price qty = fit (price *ℤ pos qty)
 
+-- 2^31: the product of two numbers below it fits
+abbrev pub small : ℕ
+small = 2147483648
+
 -- the one of the side
 abbrev pub pick : Side → ℕ → ℕ → ℕ
 pick Buy buy sell = buy

@@ -5,6 +5,7 @@ use orderbook::Side;
 use protocol::Balance;
 use words::Amount;
 ghost use mathlib.Core.Path.{_≡_};
+ghost use Prim.Native.Nat.{_<_};
 ghost use mathlib.Core.Option.{Option·getD};
 ghost use Rattle.words.specs.Words.{int, amount};
 ghost use Rattle.wallet.specs.Wallet as W;
@@ -12,17 +13,24 @@ ghost use Rattle.wallet.specs.Wallet as W;
 // 2^31: the product of two numbers below it fits.
 const SMALL: u64 = 2_147_483_648;
 
-// What qty lots at price cost, if it fits.
-fn cost(price: u64, qty: u64) -> Amount
+// What qty lots at price cost, if it fits. The price is small where `bound` is.
+fn cost_within(bound: u64, price: u64, qty: u64) -> Amount
+    requires { ⌜ (bound < W.small → price < W.small) ⌝ }
     ensures { λ r. ⌜ amount r ≡ W.cost (int price) qty ⌝ }
 {
-    if price < SMALL {
+    if bound < SMALL {
         if qty < SMALL {
             let amount = price * qty;
             return Amount::Fits(amount);
         }
     }
     words::narrow(words::signed_mul(price, qty))
+}
+
+fn cost(price: u64, qty: u64) -> Amount
+    ensures { λ r. ⌜ amount r ≡ W.cost (int price) qty ⌝ }
+{
+    cost_within(price, price, qty)
 }
 
 fn unwrap_or(a: Amount, other: u64) -> u64
@@ -90,8 +98,8 @@ impl Wallet {
     pub fn hold_of(side: Side, price: u64, leaves: u64) -> Amount
         ensures { λ r. ⌜ amount r ≡ W.hold-of side (int price) leaves ⌝ }
     {
-        // A lot at price 1 is itself.
-        cost(pick(side, price, 1), leaves)
+        // A lot at price 1 is itself. The price is tested before it is chosen: a word that is read for a choice alone is read behind a jump.
+        cost_within(price, pick(side, price, 1), leaves)
     }
 
     fn owned_on(self, side: Side) -> u64
