@@ -2,7 +2,8 @@
  *
  * The caller lends all memory: a slice is an address, never null, and a length in bytes. No byte that a call writes is in two of its slices. `m`
  * is the state, ROWANCHESS_STATE bytes that rowanchess_set_up or rowanchess_restore made. Each call wants it as the last call left it: nobody else
- * writes it, also not while the call runs.
+ * writes it, also not while the call runs. Any address will do; at a multiple of 128 an order's row is two lines of the cache, and calls are
+ * faster.
  *
  * A call answers a code: 0, or a refusal, and then no byte of the state or of an output has changed. Values are rows of words: a word is 8 bytes,
  * little-endian, word i at byte 8 * i. A signed number is its two's complement, an optional value a flag (0 or 1) and the value, and a side, a

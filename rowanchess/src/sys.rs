@@ -109,17 +109,35 @@ pub fn order_section(bytes: &[u8]) -> usize {
     unsafe { rowanchess_order_section(bytes.as_ptr(), bytes.len()) }
 }
 
-/// The bytes of a gateway, as the last entry point left them.
-pub struct State(Box<[u8]>);
+/// A state begins at a multiple of this: the row of an order is then two lines of the processor's cache.
+const ALIGNED: usize = 128;
+
+/// The bytes of a gateway, as the last entry point left them: those from `at` on.
+pub struct State {
+    bytes: Box<[u8]>,
+    at: usize,
+}
 
 impl State {
     /// Starts at the address and the length of new bytes: any will do. A refused start leaves them as they were, so they are no state and go.
     fn begin(start: impl FnOnce(*mut u8, usize) -> u64) -> Result<State, u64> {
-        let mut m = vec![0; STATE].into_boxed_slice();
-        match start(m.as_mut_ptr(), m.len()) {
-            0 => Ok(State(m)),
+        let bytes = vec![0; STATE + ALIGNED].into_boxed_slice();
+        let at = bytes.as_ptr().align_offset(ALIGNED).min(ALIGNED);
+        let mut state = State { bytes, at };
+        match start(state.as_mut_ptr(), STATE) {
+            0 => Ok(state),
             code => Err(code),
         }
+    }
+
+    fn as_ptr(&self) -> *const u8 {
+        // SAFETY: `at` is at most ALIGNED, and STATE bytes are behind it.
+        unsafe { self.bytes.as_ptr().add(self.at) }
+    }
+
+    fn as_mut_ptr(&mut self) -> *mut u8 {
+        // SAFETY: as above.
+        unsafe { self.bytes.as_mut_ptr().add(self.at) }
     }
 
     /// `accounts` and `list` are rows.
@@ -146,7 +164,7 @@ impl State {
 
     pub fn last_seq(&self) -> u64 {
         // SAFETY: `self` is lent and read.
-        let answer = unsafe { rowanchess_last_seq(self.0.as_ptr(), self.0.len()) };
+        let answer = unsafe { rowanchess_last_seq(self.as_ptr(), STATE) };
         debug_assert_eq!(answer.code, 0, "it refuses no state");
         answer.number
     }
@@ -154,26 +172,26 @@ impl State {
     /// Cash, position, and both held.
     pub fn wallet(&self, account: u32) -> Option<[i64; 4]> {
         // SAFETY: `self` is lent and read.
-        let w = unsafe { rowanchess_wallet(self.0.as_ptr(), self.0.len(), account) };
+        let w = unsafe { rowanchess_wallet(self.as_ptr(), STATE, account) };
         debug_assert_eq!(w.code, 0, "it refuses no state");
         (w.there != 0).then_some([w.cash, w.position, w.cash_held, w.position_held])
     }
 
     pub fn levels(&self, side: u64, out: &mut [u8]) -> Reply {
         // SAFETY: `self` is lent and read. Slices: `out` is written.
-        unsafe { rowanchess_levels(self.0.as_ptr(), self.0.len(), side, out.as_mut_ptr(), out.len()) }
+        unsafe { rowanchess_levels(self.as_ptr(), STATE, side, out.as_mut_ptr(), out.len()) }
     }
 
     pub fn set_paper_collar(&mut self, percent: Option<u32>) {
         let (there, percent) = percent.map_or((0, 0), |percent| (1, percent));
         // SAFETY: `self` is lent and written.
-        let code = unsafe { rowanchess_set_paper_collar(self.0.as_mut_ptr(), self.0.len(), there, percent) };
+        let code = unsafe { rowanchess_set_paper_collar(self.as_mut_ptr(), STATE, there, percent) };
         debug_assert_eq!(code, 0, "it refuses no state");
     }
 
     pub fn connect(&mut self, session: usize, now: u64) -> u64 {
         // SAFETY: `self` is lent and written.
-        unsafe { rowanchess_connect(self.0.as_mut_ptr(), self.0.len(), session, now) }
+        unsafe { rowanchess_connect(self.as_mut_ptr(), STATE, session, now) }
     }
 
     #[inline]
@@ -181,8 +199,8 @@ impl State {
         // SAFETY: `self` is lent and written. Slices: `row` is read, `out` is written.
         unsafe {
             rowanchess_receive(
-                self.0.as_mut_ptr(),
-                self.0.len(),
+                self.as_mut_ptr(),
+                STATE,
                 session,
                 row.as_ptr(),
                 row.len(),
@@ -195,41 +213,41 @@ impl State {
 
     pub fn tick(&mut self, now: u64, out: &mut [u8]) -> Reply {
         // SAFETY: `self` is lent and written. Slices: `out` is written.
-        unsafe { rowanchess_tick(self.0.as_mut_ptr(), self.0.len(), now, out.as_mut_ptr(), out.len()) }
+        unsafe { rowanchess_tick(self.as_mut_ptr(), STATE, now, out.as_mut_ptr(), out.len()) }
     }
 
     #[inline]
     pub fn publish(&mut self, out: &mut [u8]) -> Reply {
         // SAFETY: `self` is lent and written. Slices: `out` is written.
-        unsafe { rowanchess_publish(self.0.as_mut_ptr(), self.0.len(), out.as_mut_ptr(), out.len()) }
+        unsafe { rowanchess_publish(self.as_mut_ptr(), STATE, out.as_mut_ptr(), out.len()) }
     }
 
     /// `why` is the code of a reason to log out.
     pub fn end(&mut self, session: usize, why: u8, out: &mut [u8]) -> Reply {
         // SAFETY: `self` is lent and written. Slices: `out` is written.
-        unsafe { rowanchess_end(self.0.as_mut_ptr(), self.0.len(), session, why, out.as_mut_ptr(), out.len()) }
+        unsafe { rowanchess_end(self.as_mut_ptr(), STATE, session, why, out.as_mut_ptr(), out.len()) }
     }
 
     pub fn shut_down(&mut self, out: &mut [u8]) -> Reply {
         // SAFETY: `self` is lent and written. Slices: `out` is written.
-        unsafe { rowanchess_shut_down(self.0.as_mut_ptr(), self.0.len(), out.as_mut_ptr(), out.len()) }
+        unsafe { rowanchess_shut_down(self.as_mut_ptr(), STATE, out.as_mut_ptr(), out.len()) }
     }
 
     pub fn disconnect(&mut self, session: usize) -> u64 {
         // SAFETY: `self` is lent and written.
-        unsafe { rowanchess_disconnect(self.0.as_mut_ptr(), self.0.len(), session) }
+        unsafe { rowanchess_disconnect(self.as_mut_ptr(), STATE, session) }
     }
 
     pub fn detach(&mut self, session: usize) -> Option<u32> {
         // SAFETY: `self` is lent and written.
-        let answer = unsafe { rowanchess_detach(self.0.as_mut_ptr(), self.0.len(), session) };
+        let answer = unsafe { rowanchess_detach(self.as_mut_ptr(), STATE, session) };
         debug_assert_eq!(answer.code, 0, "it refuses no state");
         (answer.there != 0).then_some(answer.account as u32)
     }
 
     pub fn take_batch(&mut self, out: &mut [u8]) -> Reply {
         // SAFETY: `self` is lent and written. Slices: `out` is written.
-        unsafe { rowanchess_take_batch(self.0.as_mut_ptr(), self.0.len(), out.as_mut_ptr(), out.len()) }
+        unsafe { rowanchess_take_batch(self.as_mut_ptr(), STATE, out.as_mut_ptr(), out.len()) }
     }
 
     #[inline]
@@ -237,8 +255,8 @@ impl State {
         // SAFETY: `self` is lent and written. Slices: `row` is read, `out` is written.
         unsafe {
             rowanchess_deliver(
-                self.0.as_mut_ptr(),
-                self.0.len(),
+                self.as_mut_ptr(),
+                STATE,
                 n,
                 row.as_ptr(),
                 row.len(),
@@ -250,26 +268,26 @@ impl State {
 
     pub fn add_account(&mut self, row: &[u8]) -> u64 {
         // SAFETY: `self` is lent and written. Slices: `row` is read.
-        unsafe { rowanchess_add_account(self.0.as_mut_ptr(), self.0.len(), row.as_ptr(), row.len()) }
+        unsafe { rowanchess_add_account(self.as_mut_ptr(), STATE, row.as_ptr(), row.len()) }
     }
 
     pub fn replay_command(&mut self, n: u64, row: &[u8]) -> u64 {
         // SAFETY: `self` is lent and written. Slices: `row` is read.
-        unsafe { rowanchess_replay_command(self.0.as_mut_ptr(), self.0.len(), n, row.as_ptr(), row.len()) }
+        unsafe { rowanchess_replay_command(self.as_mut_ptr(), STATE, n, row.as_ptr(), row.len()) }
     }
 
     pub fn replay_event(&mut self, n: u64, row: &[u8]) -> u64 {
         // SAFETY: `self` is lent and written. Slices: `row` is read.
-        unsafe { rowanchess_replay_event(self.0.as_mut_ptr(), self.0.len(), n, row.as_ptr(), row.len()) }
+        unsafe { rowanchess_replay_event(self.as_mut_ptr(), STATE, n, row.as_ptr(), row.len()) }
     }
 
     pub fn finish(&mut self, list: &[u8]) -> u64 {
         // SAFETY: `self` is lent and written. Slices: `list` is read.
-        unsafe { rowanchess_finish(self.0.as_mut_ptr(), self.0.len(), list.as_ptr(), list.len()) }
+        unsafe { rowanchess_finish(self.as_mut_ptr(), STATE, list.as_ptr(), list.len()) }
     }
 
     pub fn checkpoint(&self, out: &mut [u8]) -> Reply {
         // SAFETY: `self` is lent and read. Slices: `out` is written.
-        unsafe { rowanchess_checkpoint(self.0.as_ptr(), self.0.len(), out.as_mut_ptr(), out.len()) }
+        unsafe { rowanchess_checkpoint(self.as_ptr(), STATE, out.as_mut_ptr(), out.len()) }
     }
 }

@@ -11,9 +11,14 @@ const LIMIT: u64 = 256;
 /// No heartbeat is due, and no session idle.
 const NEVER: u64 = u64::MAX;
 
+/// A state as a careful host has it: the row of an order is then two lines of the processor's cache.
+#[repr(align(128))]
+struct State([u8; STATE]);
+
 pub struct Proved {
-    state: Vec<u8>,
+    state: Box<State>,
     out: Vec<u8>,
+    row: [u8; 128],
     sent: usize,
     pub refused: usize,
 }
@@ -28,21 +33,26 @@ fn side_code(side: Side) -> u64 {
 /// A row of 16 words.
 fn row(words: &[u64]) -> [u8; 128] {
     let mut row = [0; 128];
-    for (at, word) in row.chunks_exact_mut(8).zip(words) {
-        at.copy_from_slice(&word.to_le_bytes());
-    }
+    write(&mut row, words);
     row
 }
 
-/// What an event's row has: its kind, then its fields.
-fn event_row(event: &Event) -> [u8; 128] {
+/// The first words of a row.
+fn write(row: &mut [u8; 128], words: &[u64]) {
+    for (at, word) in row.chunks_exact_mut(8).zip(words) {
+        at.copy_from_slice(&word.to_le_bytes());
+    }
+}
+
+/// What an event's row has: its kind, then its fields. The words behind them may be anything.
+fn write_event(row: &mut [u8; 128], event: &Event) {
     match *event {
-        Event::Accepted { id } => row(&[0, id]),
+        Event::Accepted { id } => write(row, &[0, id]),
         Event::Trade { trade_id, taker, maker, taker_side, price, qty, taker_leaves, maker_leaves } => {
-            row(&[2, trade_id, taker, maker, side_code(taker_side), price as u64, qty, taker_leaves, maker_leaves])
+            write(row, &[2, trade_id, taker, maker, side_code(taker_side), price as u64, qty, taker_leaves, maker_leaves])
         }
-        Event::Rested { id, side, price, qty, visible } => row(&[3, id, side_code(side), price as u64, qty, visible]),
-        Event::Cancelled { id, qty, reason: _ } => row(&[5, id, qty, 1]),
+        Event::Rested { id, side, price, qty, visible } => write(row, &[3, id, side_code(side), price as u64, qty, visible]),
+        Event::Cancelled { id, qty, reason: _ } => write(row, &[5, id, qty, 1]),
         _ => unreachable!("not drawn"),
     }
 }
@@ -62,10 +72,10 @@ pub fn accounts(count: usize, funds: impl Fn(usize) -> Option<(i64, i64)>) -> Ve
 
 impl Proved {
     pub fn new() -> Proved {
-        let mut column = Proved { state: vec![0; STATE], out: vec![0; 4_096 * MAIL], sent: 0, refused: 0 };
+        let mut column = Proved { state: Box::new(State([0; STATE])), out: vec![0; 4_096 * MAIL], row: [0; 128], sent: 0, refused: 0 };
         column.set_up(0, &accounts(SESSIONS, funds), &[]);
         for session in 0..SESSIONS {
-            edge::connect(&mut column.state, session, 0);
+            edge::connect(&mut column.state.0, session, 0);
             column.receive_row(session, &row(&[0, 1, session as u64, TOKEN]), 0);
             column.receive_row(session, &row(&[7]), 0);
         }
@@ -74,12 +84,12 @@ impl Proved {
     }
 
     pub fn set_up(&mut self, last: u64, accounts: &[u8], list: &[u8]) {
-        let code = edge::set_up(&mut self.state, LIMIT, last, NEVER, NEVER, accounts, list);
+        let code = edge::set_up(&mut self.state.0, LIMIT, last, NEVER, NEVER, accounts, list);
         self.refused += usize::from(code != 0);
     }
 
     pub fn restore(&mut self, accounts: &[u8], bytes: &[u8]) {
-        let code = edge::restore(&mut self.state, LIMIT, NEVER, NEVER, accounts, bytes);
+        let code = edge::restore(&mut self.state.0, LIMIT, NEVER, NEVER, accounts, bytes);
         self.refused += usize::from(code != 0);
     }
 
@@ -90,19 +100,19 @@ impl Proved {
     }
 
     fn receive_row(&mut self, session: usize, row: &[u8; 128], now: u64) {
-        let reply = edge::receive(&mut self.state, session, row, now, &mut self.out);
+        let reply = edge::receive(&mut self.state.0, session, row, now, &mut self.out);
         self.note(reply);
     }
 
     /// The bytes of a checkpoint.
     pub fn checkpoint(&mut self) -> &[u8] {
-        let reply = edge::checkpoint(&self.state, &mut self.out);
+        let reply = edge::checkpoint(&self.state.0, &mut self.out);
         self.refused += usize::from(reply.code != 0);
         &self.out[..reply.count]
     }
 
     pub fn finish(&mut self, list: &[u8]) {
-        let code = edge::finish(&mut self.state, list);
+        let code = edge::finish(&mut self.state.0, list);
         self.refused += usize::from(code != 0);
     }
 }
@@ -129,23 +139,23 @@ impl Column for Proved {
     }
 
     fn take_batch(&mut self) -> usize {
-        edge::take_batch(&mut self.state, &mut self.out).count
+        edge::take_batch(&mut self.state.0, &mut self.out).count
     }
 
     fn deliver(&mut self, n: u64, event: &Event) {
-        let row = event_row(event);
-        let reply = edge::deliver(&mut self.state, n, &row, &mut self.out[..4 * MAIL]);
+        write_event(&mut self.row, event);
+        let reply = edge::deliver(&mut self.state.0, n, &self.row, &mut self.out[..4 * MAIL]);
         self.note(reply);
     }
 
     fn publish(&mut self) -> usize {
-        let reply = edge::publish(&mut self.state, &mut self.out);
+        let reply = edge::publish(&mut self.state.0, &mut self.out);
         self.note(reply);
         std::mem::take(&mut self.sent)
     }
 
     fn wallets(&self) -> Vec<[i64; 4]> {
-        let wallet = |a| edge::wallet(&self.state, a);
+        let wallet = |a| edge::wallet(&self.state.0, a);
         let wallets = (0..SESSIONS as u32).map(wallet).filter(|w| w.there == 1);
         wallets.map(|w| [w.cash, w.position, w.cash_held, w.position_held]).collect()
     }
