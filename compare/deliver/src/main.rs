@@ -18,7 +18,8 @@ use proved::Proved;
 use published::Published;
 use wrapped::Wrapped;
 
-/// Timed rounds of one million events in all. Many short ones: the other work of the machine then spoils few of them.
+/// Timed rounds of one million events in all. Many short ones: the other work of the machine then spoils few of them. Before each a gateway is
+/// given as many events that are not timed: the rounds of the others have taken its memory out of the caches, where one alone keeps it.
 const ROUNDS: usize = 625;
 const TURNS: usize = 1_000_000 / EVENTS / ROUNDS;
 
@@ -77,7 +78,6 @@ fn measure(live: usize, prices: u64) -> Line {
     while book.orders.len() < live {
         fills.push(book.fill((live - book.orders.len()).min(32)));
     }
-    let warm: Vec<Turn> = (0..TURNS).map(|_| book.turn()).collect();
     let mut round = |at: usize, turns: &[Turn]| {
         let now = &mut clocks[at];
         let spent = match at {
@@ -89,18 +89,18 @@ fn measure(live: usize, prices: u64) -> Line {
         sent[at] += spent.sent;
         spent
     };
-    for turns in [&fills, &warm] {
-        for at in 0..4 {
-            round(at, turns);
-        }
+    for at in 0..4 {
+        round(at, &fills);
     }
     let mut deliver: [Vec<f64>; 4] = Default::default();
     let mut whole: [Vec<f64>; 4] = Default::default();
     for first in 0..ROUNDS {
-        let turns: Vec<Turn> = (0..TURNS).map(|_| book.turn()).collect();
+        let untimed: Vec<Turn> = (0..TURNS).map(|_| book.turn()).collect();
+        let timed: Vec<Turn> = (0..TURNS).map(|_| book.turn()).collect();
         for k in 0..4 {
             let at = (first + k) % 4;
-            let spent = round(at, &turns);
+            round(at, &untimed);
+            let spent = round(at, &timed);
             let events = (TURNS * EVENTS) as f64;
             deliver[at].push(spent.deliver.as_nanos() as f64 / events);
             whole[at].push(spent.whole.as_nanos() as f64 / events);
