@@ -127,7 +127,7 @@ fn shift_of(m: &[u8], o: Live, settles: u64, new: u64) -> Shift
     }
 }
 
-// What it would do to the order `id`, which is at `at`, that it holds `new`; `settles` is 1 where money moves too.
+// What a change would do to the order `id`, which is at `at`: it holds `new` then, and money moves where `settles` is 1.
 pub fn weigh(m: &[u8], id: u64, at: Found, settles: u64, new: u64) -> Shift
     requires { ⌜ State (now m) × Sees C.order-live order number-of (cell (now m)) id at × (settles ≤ 1) ⌝ }
     ensures { λ r. ⌜ ((x : Move) → P.settles x ≡ settles → P.NewHold id x new (ledger (cell (now (m .entry)))) → P.Weighs id x r (gateway (cell (now (m .entry))))) ⌝ }

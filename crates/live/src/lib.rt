@@ -1,5 +1,5 @@
 // Live orders, and what they hold of their accounts' wallets: `place`, `set_leaves`, `traded` and `retire` of exchange.rs.
-// A row is handed on by value, so that it is neither searched nor read twice.
+// A row is read where it is changed: handed on in memory, it would be read again right after it was written, which makes the processor wait.
 use orderbook::Side;
 use orders::Live;
 use store::cells;
