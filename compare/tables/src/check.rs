@@ -15,7 +15,7 @@ const LEVELS: [(Side, usize, usize, usize); 2] = [(Side::Buy, 6, 15, 20), (Side:
 const ORDER_ROWS: usize = 12;
 const LIVE_ORDERS: usize = 13;
 const HINTS: usize = 11;
-const ROWS: [usize; 13] = [1, 256, 64, 256, 256, 2048, 512, 512, 256, 2049, 1024, 16384, 2048];
+const ROWS: [usize; 13] = [1, 256, 64, 256, 256, 2048, 512, 512, 256, 2049, 1024, 4096, 2048];
 const WIDTHS: [usize; 13] = [32, 16, 8, 4, 12, 16, 4, 4, 6, 1, 3, 1, 1];
 
 /// Most live orders, and most levels of a side.

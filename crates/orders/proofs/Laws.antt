@@ -3,7 +3,7 @@ use mathlib.Core.Path.{_≡_, refl, sym, ap, ap₂, _∙_}
 use mathlib.Core.Logic.{_⊎_, inl, inr, ⊎-elim}
 use mathlib.Core.Option.{Option·map}
 use mathlib.Core.List.{List, [], _∷_, _++_}
-use Prim.Native.Nat.{ℕ, zero, suc, _+_, _*_, _-_, _%_, _≤_, _<_}
+use Prim.Native.Nat.{ℕ, zero, suc, _+_, _*_, _-_, _/_, _%_, _^_, _≤_, _<_}
 use native.Mathlib.Numerals.{add-one}
 use native.Mathlib.Omega.{arith}
 use Rattle.le.specs.Le.{le, Outside}
@@ -27,7 +27,7 @@ use Rattle.store.proofs.Rows.{then-set, then-fill, is-itself, same-write, same-
 use Rattle.orders.specs.declared.Live.{Live}
 use Rattle.orders.specs.declared.Resting.{Resting}
 use Rattle.orders.proofs.Shown.{look-map}
-use Rattle.orders.specs.Orders.{hint-slots, first-try, either, Sorted, Marks, FindsRow, Sees, strike, rest, append, places, packed, compact, hint, hint-rows, squeeze, make-room, opened, open-row, number-at}
+use Rattle.orders.specs.Orders.{hint-at, hint-bit, hint-of, with-hint, set-hint, first-try, either, Sorted, Marks, FindsRow, Sees, strike, rest, append, places, packed, compact, hint, hint-rows, squeeze, make-room, opened, open-row, number-at}
 
 -- where the rows start
 abbrev base : ℕ
@@ -80,20 +80,35 @@ put-row-is xs i n o l p q r t =
     (then-fill C.orders i C.order-account (o .account ∷ o .«client_ref» ∷ o .side ∷ o .priced ∷ []) p q) r)
     (order-cell i C.order-hold l (omega arith)) t
 
+hint-here : (n : ℕ) → Cell C.hints (hint-at n) C.hint-four
+hint-here n = hint-cell (hint-at n) C.hint-four (omega arith) (omega arith)
+
+pub set-hint-is : {xs ys : List ℕ} (n i w : ℕ) → Holds xs → w ≡ cell xs C.hints (hint-at n) C.hint-four →
+    Set xs ys C.hints (hint-at n) C.hint-four (with-hint w (hint-bit n) i) → Is ys (set-hint n i (cell xs))
+set-hint-is n i w h e p = rw (← e) (then-set (is-itself h) (hint-here n) p)
+
+same-set-hint : (n i : ℕ) (s t : Store) → Same s t → Same (set-hint n i s) (set-hint n i t)
+same-set-hint n i s t p =
+    rw (p C.hints (hint-at n) C.hint-four (hint-here n)) (same-write s t C.hints (hint-at n) C.hint-four _ p)
+
+then-hint : {ys zs : List ℕ} {s : Store} (n i : ℕ) → Is ys s → Is zs (set-hint n i (cell ys)) → Is zs (set-hint n i s)
+then-hint {ys} {zs} {s} n i p q =
+    record { holds = q .holds; same = same-trans (cell zs) (set-hint n i (cell ys)) _ (q .same) (same-set-hint n i (cell ys) s (p .same)) }
+
 pub append-is : (xs : List ℕ) {ys zs us : List ℕ} (n i c : ℕ) (o : Live) → i ≡ cell xs C.header 0 C.order-rows → c ≡ cell xs C.header 0 C.live-orders →
     Is ys (fill C.orders i C.order-number (n ∷ 1 ∷ 0 ∷ 1 ∷ o .account ∷ o .«client_ref» ∷ o .side ∷ o .priced ∷ o .price ∷ o .leaves ∷ o .hold ∷ []) (cell xs)) →
     Is zs (fill C.header 0 C.order-rows ((i + 1) ∷ (c + 1) ∷ []) (cell ys)) →
-    Set zs us C.hints (n % hint-slots) C.hint-row i → Is us (append n o (cell xs))
+    Is us (set-hint n i (cell zs)) → Is us (append n o (cell xs))
 unfolding append
 append-is xs n i c o ie ce p q r =
-    rw (← ie, ← ce) (then-set (then-fill C.header 0 C.order-rows ((i + 1) ∷ (c + 1) ∷ []) p q) (hint-cell (n % hint-slots) C.hint-row (omega arith) (omega arith)) r)
+    rw (← ie, ← ce) (then-hint n i (then-fill C.header 0 C.order-rows ((i + 1) ∷ (c + 1) ∷ []) p q) r)
 
 -- what is appended after writes that left s
 same-append : (n : ℕ) (o : Live) (s t : Store) → Same s t → Same (append n o s) (append n o t)
 unfolding append
 same-append n o s t p =
     rw (p C.header 0 C.order-rows (header-cell C.order-rows (omega arith)), p C.header 0 C.live-orders (header-cell C.live-orders (omega arith)))
-    (same-write _ _ C.hints (n % hint-slots) C.hint-row _ (same-fill _ _ C.header 0 C.order-rows _ (same-fill s t C.orders (word t C.order-rows) C.order-number _ p)))
+    (same-set-hint n _ _ _ (same-fill _ _ C.header 0 C.order-rows _ (same-fill s t C.orders (word t C.order-rows) C.order-number _ p)))
 
 pub then-append : {ys zs : List ℕ} {s : Store} (n : ℕ) (o : Live) → Is ys s → Is zs (append n o (cell ys)) → Is zs (append n o s)
 then-append {ys} {zs} {s} n o p q =
@@ -133,23 +148,27 @@ find-is xs k n number r m e h =
 
 -- ---- hints
 
-pub first-hint : (xs : List ℕ) (n v : ℕ) (at : Found) → at ≡ Nothing → v ≡ cell xs C.hints (n % hint-slots) C.hint-row → v ≡ first-try n at (cell xs)
+pub hint-read : (xs : List ℕ) (n w : ℕ) → w ≡ cell xs C.hints (hint-at n) C.hint-four → w / 2 ^ hint-bit n % 65536 ≡ hint-of n (cell xs)
+unfolding hint-of
+hint-read xs n w e = ap (λ v. v / 2 ^ hint-bit n % 65536) e
+
+pub first-hint : (xs : List ℕ) (n v : ℕ) (at : Found) → at ≡ Nothing → v ≡ hint-of n (cell xs) → v ≡ first-try n at (cell xs)
 first-hint xs n v at e h = rw e h
 
 same-hint : (i : ℕ) (s t : Store) → i < order-room → Same s t → Same (hint i s) (hint i t)
 unfolding hint
 same-hint i s t l e =
     rw (e C.orders i C.order-number (order-cell i C.order-number l (omega arith)))
-    (same-write s t C.hints (t C.orders i C.order-number % hint-slots) C.hint-row i e)
+    (same-set-hint (t C.orders i C.order-number) i s t e)
 
 same-hints : (n : ℕ) (s t : Store) → n ≤ order-room → Same s t → Same (hint-rows n s) (hint-rows n t)
 unfolding hint-rows
 same-hints zero s t l e = e
 same-hints (suc n) s t l e = same-hint n (hint-rows n s) (hint-rows n t) (omega arith) (same-hints n s t (omega arith) e)
 
-pub hint-is : {xs ys : List ℕ} (i n : ℕ) → Holds xs → n ≡ cell xs C.orders i C.order-number → i < order-room → Set xs ys C.hints (n % hint-slots) C.hint-row i → Is ys (hint i (cell xs))
+pub hint-is : (xs : List ℕ) {ys : List ℕ} (i n : ℕ) → n ≡ cell xs C.orders i C.order-number → Is ys (set-hint n i (cell xs)) → Is ys (hint i (cell xs))
 unfolding hint
-hint-is i n h e l p = rw (← e) (then-set (is-itself h) (hint-cell (n % hint-slots) C.hint-row (omega arith) (omega arith)) p)
+hint-is xs i n e p = rw (← e) p
 
 pub hints-none : (xs : List ℕ) → Holds xs → Is xs (hint-rows 0 (cell xs))
 unfolding hint-rows
@@ -294,13 +313,12 @@ module _ (xs ys : List ℕ) (n i : ℕ) (r : Ready xs) (e : n ≡ cell xs C.head
       }
 
   pub open-row-is : (zs us vs : List ℕ) (number : ℕ) → Is zs (fill C.orders i C.order-number (number ∷ 0 ∷ 0 ∷ 0 ∷ []) (cell ys)) →
-      Set zs us C.header 0 C.order-rows (n + 1) → Set us vs C.hints (number % hint-slots) C.hint-row i → Is vs (open-row i number (cell xs))
+      Set zs us C.header 0 C.order-rows (n + 1) → Is vs (set-hint number i (cell us)) → Is vs (open-row i number (cell xs))
   unfolding open-row
   open-row-is zs us vs number p q t =
       rw (← e)
-      (then-set
-      (then-set (then-fill C.orders i C.order-number (number ∷ 0 ∷ 0 ∷ 0 ∷ []) opened-is p) (header-cell C.order-rows (omega arith)) q)
-      (hint-cell (number % hint-slots) C.hint-row (omega arith) (omega arith)) t)
+      (then-hint number i
+      (then-set (then-fill C.orders i C.order-number (number ∷ 0 ∷ 0 ∷ 0 ∷ []) opened-is p) (header-cell C.order-rows (omega arith)) q) t)
 
 pub live-marks : {s : Store} → Sorted s → Marks C.order-live s
 live-marks s = record { inside = omega arith; small = λ j l. s .flags j l .live-is }
@@ -380,4 +398,4 @@ module _ (s : Store) (t : Sorted s) (n : ℕ) (q : Found) (h : FindsRow C.order-
     pub no-resting : (r : Found) → r ≡ Nothing → Sees C.order-resting resting resting-number s n r
     no-resting r z = rw z (sees-resting s n Nothing t (λ j l w. none-kept j l w .1))
 
-pub ruleset laws = (sees-live, sees-resting, half-there, half-gone, row-inside, its-live, its-resting, no-live, no-resting, kept-marks, first-hint, set-two-is, set-four-is, strike-is, rest-is, put-row-is, append-is, sorted-bytes, room-bytes, hint-is, squeeze-is, room-there, room-made, place-is, open-row-is, find-is, live-marks, resting-marks, header-cell, order-cell, hint-cell, arith)
+pub ruleset laws = (sees-live, sees-resting, half-there, half-gone, row-inside, its-live, its-resting, no-live, no-resting, kept-marks, hint-read, first-hint, set-hint-is, set-two-is, set-four-is, strike-is, rest-is, put-row-is, append-is, sorted-bytes, room-bytes, hint-is, squeeze-is, room-there, room-made, place-is, open-row-is, find-is, live-marks, resting-marks, header-cell, order-cell, hint-cell, arith)

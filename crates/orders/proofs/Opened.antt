@@ -16,7 +16,7 @@ use Rattle.gateway.specs.Depth as D
 use Rattle.gateway.specs.Ledger.{number-of}
 use Rattle.store.specs.Cells as C
 use Rattle.store.specs.View.{Row, Store, word, fill, order, resting, marked, ledger, depth, gateway, order-room}
-use Rattle.orders.specs.Orders.{hint-slots, Flags, Ordered, opened, open-row}
+use Rattle.orders.specs.Orders.{Flags, Ordered, opened, open-row}
 use Rattle.orders.proofs.Views.{with-lists, Did, Touched, put-cells, fill-touched, count-touched, hint-touched, untouched, bounds-from}
 
 module _ (s : Store) (i n : ℕ) (d : Ordered s) (room : word s C.order-rows < order-room) (inside : i ≤ word s C.order-rows)
@@ -33,7 +33,7 @@ module _ (s : Store) (i n : ℕ) (d : Ordered s) (room : word s C.order-rows < o
   touched : Touched i new-row (opened i s) (open-row i n s)
   unfolding open-row
   touched =
-      hint-touched i (n % hint-slots) i _ _ _
+      hint-touched i n i _ _ _
       (count-touched i C.order-rows (next + 1) _ _ _ (λ j x y z. x)
       (fill-touched i C.order-number (n ∷ 0 ∷ 0 ∷ 0 ∷ []) (opened i s C.orders i) (opened i s) (opened i s) (untouched i (opened i s))))
 

@@ -22,7 +22,7 @@ use Rattle.store.proofs.Rows.{put-cell, row-here, row-there}
 use Rattle.store.proofs.Frames.{Agree, order-same, resting-same, gateway-same}
 use Rattle.orders.specs.declared.Live.{Live}
 use Rattle.orders.specs.declared.Resting.{Resting}
-use Rattle.orders.specs.Orders.{hint-slots, either, Flags, Sorted, Ordered, order-of, resting-of, set-leaves, revise, show, strike, retire, take-off, rest, append}
+use Rattle.orders.specs.Orders.{set-hint, either, Flags, Sorted, Ordered, order-of, resting-of, set-leaves, revise, show, strike, retire, take-off, rest, append}
 use Rattle.orders.proofs.Shown.{shown, shown-ext, shown-more, shown-dead, shown-strike, shown-replace, shown-revive, shown-update, shown-length, shown-parts, shown-rises, look-map}
 
 -- the gateway with other lists of orders
@@ -77,8 +77,8 @@ pub count-touched : (i k v : ℕ) (r : Row) (s t : Store) → ((j : ℕ) → (j 
 count-touched i k v r s t h c =
     record { here = c .here; others = c .others; words = λ j x y z. rw (ne-eqb j k (h j x y z)) (c .words j x y z) }
 
-pub hint-touched : (i k v : ℕ) (r : Row) (s t : Store) → Touched i r s t → Touched i r s (write C.hints k C.hint-row v t)
-hint-touched i k v r s t c = record { here = c .here; others = c .others; words = c .words }
+pub hint-touched : (i n v : ℕ) (r : Row) (s t : Store) → Touched i r s t → Touched i r s (set-hint n v t)
+hint-touched i n v r s t c = record { here = c .here; others = c .others; words = c .words }
 
 pub untouched : (i : ℕ) (s : Store) → Touched i (s C.orders i) s s
 untouched i s = record { here = refl; others = λ j ne. refl; words = λ k x y z. refl }
@@ -430,7 +430,7 @@ module _ (s : Store) (n : ℕ) (o : Live) where
   pub append-touched : Touched next new-row s (append n o s)
   unfolding append fill
   append-touched =
-      hint-touched next (n % hint-slots) next _ s _
+      hint-touched next n next _ s _
       (count-touched next C.live-orders (word s C.live-orders + 1) _ s _ (λ j x y z. y)
       (count-touched next C.order-rows (next + 1) _ s _ (λ j x y z. x)
       (fill-touched next C.order-number (n ∷ 1 ∷ 0 ∷ 1 ∷ o .account ∷ o .«client_ref» ∷ o .side ∷ o .priced ∷ o .price ∷ o .leaves ∷ o .hold ∷ []) (s C.orders next) s s (untouched next s))))

@@ -1,15 +1,16 @@
 -- The table of orders: what a lookup finds, and what each operation writes, as a store.
-use Prim.Native.Nat.{ℕ, zero, suc, _+_, _-_, _%_, _≤_, _<_}
+use Prim.Native.Nat.{ℕ, zero, suc, _+_, _*_, _-_, _/_, _%_, _^_, _≤_, _<_}
 use mathlib.Core.Path.{_≡_}
 use mathlib.Core.Bool.{cond}
 use mathlib.Core.List.{List, [], _∷_}
 use lib.Dec.{eqb, ltb}
+use lib.Bits.{bitOr, bitXor}
 use lib.ListN.{length, getD}
 use Rattle.table.specs.Live.{look, kept, Ascends}
 use Rattle.table.specs.Table.{Finds, found}
 use Rattle.table.specs.declared.Found.{Found}
 use Rattle.table.specs.declared.Found.the-variants.{At, Nothing}
-use Rattle.words.specs.Words.{int}
+use Rattle.words.specs.Words.{modulus, int}
 use Rattle.gateway.specs.Depth as D
 use Rattle.gateway.specs.Ledger.{Order}
 use Rattle.store.specs.Cells as C
@@ -97,14 +98,30 @@ pub record Sees {A : Type 0} (k : ℕ) (f : Row → A) (number : A → ℕ) (s :
   pub row : FindsRow k s n r
   pub order : look number n (marked s k f) ≡ found (λ j. f (s C.orders j)) r
 
--- a row's hint has the slot of its number modulo this
+-- the hints, of 16 bits each: a number has that of its remainder k, which stands in the cell k / 4, from the bit 16 * (k % 4) on
 abbrev pub hint-slots : ℕ
 hint-slots = 16384
+
+abbrev pub hint-at : ℕ → ℕ
+hint-at n = n % hint-slots / 4
+
+abbrev pub hint-bit : ℕ → ℕ
+hint-bit n = 16 * (n % hint-slots % 4)
+
+unfoldable pub hint-of : ℕ → Store → ℕ
+hint-of n s = s C.hints (hint-at n) C.hint-four / 2 ^ hint-bit n % 65536
+
+-- the word w with i in the 16 bits from b on
+abbrev pub with-hint : ℕ → ℕ → ℕ → ℕ
+with-hint w b i = let mask = 65535 * 2 ^ b % modulus in bitOr (bitXor (bitOr w mask) mask) (i * 2 ^ b % modulus)
+
+abbrev pub set-hint : ℕ → ℕ → Store → Store
+set-hint n i s = write C.hints (hint-at n) C.hint-four (with-hint (s C.hints (hint-at n) C.hint-four) (hint-bit n) i) s
 
 -- the row that is tried first for the number n: where the order was, or what its hint says
 abbrev pub first-try : ℕ → Found → Store → ℕ
 first-try n (At i) s = i
-first-try n Nothing s = s C.hints (n % hint-slots) C.hint-row
+first-try n Nothing s = hint-of n s
 
 -- ---- what is written
 
@@ -140,7 +157,7 @@ rest i o l s =
 unfoldable pub append : ℕ → Live → Store → Store
 append n o s =
     let i = word s C.order-rows in
-    write C.hints (n % hint-slots) C.hint-row i
+    set-hint n i
     (fill C.header 0 C.order-rows ((i + 1) ∷ (word s C.live-orders + 1) ∷ [])
     (fill C.orders i C.order-number
     (n ∷ 1 ∷ 0 ∷ 1 ∷ o .account ∷ o .«client_ref» ∷ o .side ∷ o .priced ∷ o .price ∷ o .leaves ∷ o .hold ∷ []) s))
@@ -159,7 +176,7 @@ compact s = write C.header 0 C.order-rows (length (places s)) (packed s)
 
 -- the hint of the row i, and of the first n rows
 unfoldable pub hint : ℕ → Store → Store
-hint i s = write C.hints (s C.orders i C.order-number % hint-slots) C.hint-row i s
+hint i s = set-hint (s C.orders i C.order-number) i s
 
 unfoldable pub hint-rows : ℕ → Store → Store
 hint-rows zero s = s
@@ -184,5 +201,5 @@ opened i s b j k = cond (eqb b C.orders) (s C.orders (moved (word s C.order-rows
 -- a tombstone with the number n at i
 unfoldable pub open-row : ℕ → ℕ → Store → Store
 open-row i n s =
-    write C.hints (n % hint-slots) C.hint-row i
+    set-hint n i
     (write C.header 0 C.order-rows (word s C.order-rows + 1) (fill C.orders i C.order-number (n ∷ 0 ∷ 0 ∷ 0 ∷ []) (opened i s)))

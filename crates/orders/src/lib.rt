@@ -1,5 +1,5 @@
 // The table of orders: rows ascending by number, each with a live half and a resting half. docs/STATE.md has the cells.
-use store::cells::HINT_ROW;
+use store::cells::HINT_FOUR;
 use store::cells::LIVE_ORDERS;
 use store::cells::ORDER_ACCOUNT;
 use store::cells::ORDER_CLIENT_REF;
@@ -29,7 +29,7 @@ ghost use Rattle.gateway.specs.Ledger.{number-of};
 ghost use Rattle.store.specs.Cells as C;
 ghost use Rattle.store.specs.Layout.{cell, Cell, Holds};
 ghost use Rattle.store.specs.View.{word, fill, order, resting, order-room, Is, Ready};
-ghost use Rattle.orders.specs.Orders.{Sorted, Marks, FindsRow, Sees, first-try, live-row, resting-row, set-leaves, revise, show, strike, retire, take-off, rest, append, hint, hint-rows, squeeze, make-room, open-row, number-at};
+ghost use Rattle.orders.specs.Orders.{Sorted, Marks, FindsRow, Sees, hint-of, set-hint, first-try, live-row, resting-row, set-leaves, revise, show, strike, retire, take-off, rest, append, hint, hint-rows, squeeze, make-room, open-row, number-at};
 
 // The live half of a row.
 pub struct Live {
@@ -58,6 +58,34 @@ const ROOM: u64 = 2_048;
 
 const HINT_SLOTS: u64 = 16_384;
 
+// The hint of a number: one of four in a cell, 16 bits each.
+fn hint_of(m: &[u8], number: u64) -> usize
+    requires { ⌜ Holds (now m) ⌝ }
+    ensures { λ r. ⌜ r ≡ hint-of number (cell (now (m .entry))) ⌝ }
+{
+    let k = number % HINT_SLOTS;
+    let w = store::get(m, store::HINTS, (k / 4) as usize, HINT_FOUR);
+    ((w >> (16 * (k % 4))) % 65_536) as usize
+}
+
+fn set_hint(m: &mut [u8], number: u64, i: u64)
+    requires { ⌜ Holds (now m) ⌝ }
+    ensures { λ r. ⌜ Is (now (m .exit)) (set-hint number i (cell (now (m .entry)))) ⌝ }
+{
+    let k = number % HINT_SLOTS;
+    let w = store::get(m, store::HINTS, (k / 4) as usize, HINT_FOUR);
+    let s = 16 * (k % 4);
+    let mask = 65_535 << s;
+    let rest = (w | mask) ^ mask;
+    store::set(
+        m,
+        store::HINTS,
+        (k / 4) as usize,
+        HINT_FOUR,
+        rest | (i << s),
+    );
+}
+
 // The row that is tried first: the one where the order was, or the hint of its number.
 fn try_first(m: &[u8], number: u64, at: Found) -> usize
     requires { ⌜ Ready (now m) ⌝ }
@@ -65,12 +93,7 @@ fn try_first(m: &[u8], number: u64, at: Found) -> usize
 {
     match at {
         Found::At(i) => i,
-        Found::Nothing => store::get(
-            m,
-            store::HINTS,
-            (number % HINT_SLOTS) as usize,
-            HINT_ROW,
-        ) as usize,
+        Found::Nothing => hint_of(m, number),
     }
 }
 
@@ -298,7 +321,7 @@ pub fn append(m: &mut [u8], number: u64, o: Live)
     let n = store::get(m, store::HEADER, 0, LIVE_ORDERS);
     put_row(m, i as usize, number, o);
     set_two(m, store::HEADER, 0, ORDER_ROWS, i + 1, n + 1);
-    store::set(m, store::HINTS, (number % HINT_SLOTS) as usize, HINT_ROW, i);
+    set_hint(m, number, i);
 }
 
 fn hint(m: &mut [u8], i: usize)
@@ -306,13 +329,7 @@ fn hint(m: &mut [u8], i: usize)
     ensures { λ r. ⌜ Is (now (m .exit)) (hint i (cell (now (m .entry)))) ⌝ }
 {
     let number = store::get(m, store::ORDERS, i, ORDER_NUMBER);
-    store::set(
-        m,
-        store::HINTS,
-        (number % HINT_SLOTS) as usize,
-        HINT_ROW,
-        i as u64,
-    );
+    set_hint(m, number, i as u64);
 }
 
 fn hint_rows(m: &mut [u8], n: usize)
@@ -366,11 +383,5 @@ pub fn open_row(m: &mut [u8], i: usize, number: u64)
     table::open_at(m, store::ORDERS_AT, STRIDE, n as usize, i);
     set_four(m, i, ORDER_NUMBER, number, 0, 0, 0);
     store::set(m, store::HEADER, 0, ORDER_ROWS, n + 1);
-    store::set(
-        m,
-        store::HINTS,
-        (number % HINT_SLOTS) as usize,
-        HINT_ROW,
-        i as u64,
-    );
+    set_hint(m, number, i as u64);
 }

@@ -33,8 +33,8 @@ ends : (b : ℕ) → b < blocks → start b + width b * rows b ≡ start (suc b)
 unfolding start
 ends b h = eqb-true _ _ (pass-at (λ c. eqb (start c + width c * rows c) (start (suc c))) blocks refl b h)
 
-pub rows-few : (b : ℕ) → b < blocks → rows b ≤ 16384
-rows-few b h = leb-true (rows b) 16384 (pass-at (λ c. leb (rows c) 16384) blocks refl b h)
+pub rows-few : (b : ℕ) → b < blocks → rows b ≤ 4096
+rows-few b h = leb-true (rows b) 4096 (pass-at (λ c. leb (rows c) 4096) blocks refl b h)
 
 -- blocks stand in their order
 later : (b c : ℕ) → b < c → c ≤ blocks → start (suc b) ≤ start c
@@ -148,7 +148,7 @@ notice-cell i k h l = record { block-is = omega arith; row-is = h; cell-is = l }
 pub changed-cell : (i k : ℕ) → i < 1024 → k < 3 → Cell C.changed i k
 changed-cell i k h l = record { block-is = omega arith; row-is = h; cell-is = l }
 
-pub hint-cell : (i k : ℕ) → i < 16384 → k < 1 → Cell C.hints i k
+pub hint-cell : (i k : ℕ) → i < 4096 → k < 1 → Cell C.hints i k
 hint-cell i k h l = record { block-is = omega arith; row-is = h; cell-is = l }
 
 pub top-cell : (i k : ℕ) → i < 2048 → k < 1 → Cell C.tops i k

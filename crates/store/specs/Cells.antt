@@ -305,12 +305,12 @@ changed-price = 1
 abbrev pub changed-link : ℕ
 changed-link = 2
 
--- ---- rows of orders, by number modulo 16,384; a hint may be wrong
+-- ---- rows of orders, by number modulo 16,384, four in a cell of 16 bits each; a hint may be wrong
 abbrev pub hints : ℕ
 hints = 11
 
-abbrev pub hint-row : ℕ
-hint-row = 0
+abbrev pub hint-four : ℕ
+hint-four = 0
 
 -- ---- by a changed level's slot: one more than the newest row of the slot, or 0
 abbrev pub tops : ℕ

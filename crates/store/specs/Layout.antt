@@ -8,7 +8,7 @@ use Rattle.words.specs.Words.{modulus}
 
 -- header, accounts, sessions, flights, batch, orders, bids, asks, trades, notices, changed levels, hints, tops
 abbrev pub row-counts : List ℕ
-row-counts = 1 ∷ 256 ∷ 64 ∷ 256 ∷ 256 ∷ 2048 ∷ 512 ∷ 512 ∷ 256 ∷ 2049 ∷ 1024 ∷ 16384 ∷ 2048 ∷ []
+row-counts = 1 ∷ 256 ∷ 64 ∷ 256 ∷ 256 ∷ 2048 ∷ 512 ∷ 512 ∷ 256 ∷ 2049 ∷ 1024 ∷ 4096 ∷ 2048 ∷ []
 
 -- cells in a row
 abbrev pub row-widths : List ℕ
@@ -16,13 +16,13 @@ row-widths = 32 ∷ 16 ∷ 8 ∷ 4 ∷ 12 ∷ 16 ∷ 4 ∷ 4 ∷ 6 ∷ 1 ∷ 3 �
 
 -- the cell at which a block starts, and where the last one ends
 abbrev pub starts : List ℕ
-starts = 0 ∷ 32 ∷ 4128 ∷ 4640 ∷ 5664 ∷ 8736 ∷ 41504 ∷ 43552 ∷ 45600 ∷ 47136 ∷ 49185 ∷ 52257 ∷ 68641 ∷ 70689 ∷ []
+starts = 0 ∷ 32 ∷ 4128 ∷ 4640 ∷ 5664 ∷ 8736 ∷ 41504 ∷ 43552 ∷ 45600 ∷ 47136 ∷ 49185 ∷ 52257 ∷ 56353 ∷ 58401 ∷ []
 
 abbrev pub blocks : ℕ
 blocks = 13
 
 abbrev pub cells : ℕ
-cells = 70689
+cells = 58401
 
 abbrev pub rows : ℕ → ℕ
 rows b = getD row-counts b 0

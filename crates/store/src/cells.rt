@@ -186,8 +186,8 @@ pub const CHANGED_PRICE: usize = 1;
 // one more than the last row before it of the same slot
 pub const CHANGED_LINK: usize = 2;
 
-// rows of orders, by number modulo 16,384; a hint may be wrong
-pub const HINT_ROW: usize = 0;
+// rows of orders, by number modulo 16,384, four in a cell of 16 bits each; a hint may be wrong
+pub const HINT_FOUR: usize = 0;
 
 // by a changed level's slot: one more than the newest row of the slot, or 0
 pub const TOP_ROW: usize = 0;

@@ -36,7 +36,7 @@ pub const HINTS: usize = 11;
 pub const TOPS: usize = 12;
 
 // The bytes of a state.
-pub const SIZE: usize = 565_512;
+pub const SIZE: usize = 467_208;
 
 // The first bytes of the blocks whose rows move.
 pub const ORDERS_AT: usize = 69_888;
@@ -62,8 +62,8 @@ fn start_of(b: usize) -> usize
         47136,
         49185,
         52257,
-        68641,
-        70689,
+        56353,
+        58401,
     ];
     starts[b]
 }
@@ -128,7 +128,7 @@ pub fn clear(m: &mut [u8])
     ensures { λ r. ⌜ Is (now (m .exit)) zeros ⌝ }
 {
     let mut i: usize = 0;
-    while i < 70689 {
+    while i < 58401 {
         le::put_u64(m, 8 * i, 0);
         i += 1;
     }

@@ -21,8 +21,8 @@ add-set-two-2 c = search needs
 set-two-requires : tie.Need-set-two-requires
 set-two-requires c κs = search needs
 
-set-requires : tie.Need-set-requires
-set-requires c κs = search needs
+set-hint-requires : tie.Need-set-hint-requires
+set-hint-requires c κs = search needs
 
 same-length : tie.Need-same-length
 same-length c = search needs
@@ -40,6 +40,6 @@ append-spec =
     add-set-two
     add-set-two-2
     set-two-requires
-    set-requires
+    set-hint-requires
     same-length
     returns)

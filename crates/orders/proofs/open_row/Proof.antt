@@ -19,8 +19,8 @@ add-set c = search needs
 set-requires : tie.Need-set-requires
 set-requires c κs = search needs
 
-set-requires-2 : tie.Need-set-requires-2
-set-requires-2 c κs = search needs
+set-hint-requires : tie.Need-set-hint-requires
+set-hint-requires c κs = search needs
 
 same-length : tie.Need-same-length
 same-length c = search needs
@@ -34,7 +34,7 @@ returns c =
     let g = y .before .before in
     let a = g .before .before .before in
     open-row-is (a .args .m .now) _ (g .get .result) (a .args .i) (a .pre .0) (g .get .ensures) (omega (arith, g .get .ensures, a .pre .1)) (y .open-at .ensures) _ _ _ (a .args .number) (z .set-four .ensures)
-    (u .set .ensures) (v .set2 .ensures)
+    (u .set .ensures) (v .set-hint .ensures)
 
 pub open-row-spec : {M : Type 1} → statement M
 open-row-spec =
@@ -45,6 +45,6 @@ open-row-spec =
     set-four-requires
     add-set
     set-requires
-    set-requires-2
+    set-hint-requires
     same-length
     returns)

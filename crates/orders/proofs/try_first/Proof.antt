@@ -9,8 +9,8 @@ enum-known-at c = search needs
 enum-told : tie.Need-enum-told
 enum-told c = search needs
 
-get-requires : tie.Need-get-requires
-get-requires c κs = search needs
+hint-of-requires : tie.Need-hint-of-requires
+hint-of-requires c κs = search needs
 
 returns : tie.Need-returns
 returns c = search needs
@@ -19,4 +19,4 @@ returns-2 : tie.Need-returns-2
 returns-2 c = search laws
 
 pub try-first-spec : {M : Type 1} → statement M
-try-first-spec = tie.close (tie.spec enum-known-at enum-told get-requires returns returns-2)
+try-first-spec = tie.close (tie.spec enum-known-at enum-told hint-of-requires returns returns-2)
