@@ -153,3 +153,12 @@ hint-cell i k h l = record { block-is = omega arith; row-is = h; cell-is = l }
 
 pub top-cell : (i k : ℕ) → i < 2048 → k < 1 → Cell C.tops i k
 top-cell i k h l = record { block-is = omega arith; row-is = h; cell-is = l }
+
+pub bid-map-cell : (i k : ℕ) → i < 8 → k < 1 → Cell C.bid-map i k
+bid-map-cell i k h l = record { block-is = omega arith; row-is = h; cell-is = l }
+
+pub ask-map-cell : (i k : ℕ) → i < 8 → k < 1 → Cell C.ask-map i k
+ask-map-cell i k h l = record { block-is = omega arith; row-is = h; cell-is = l }
+
+pub order-map-cell : (i k : ℕ) → i < 32 → k < 1 → Cell C.order-map i k
+order-map-cell i k h l = record { block-is = omega arith; row-is = h; cell-is = l }

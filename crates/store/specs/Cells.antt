@@ -318,3 +318,19 @@ tops = 12
 
 abbrev pub top-row : ℕ
 top-row = 0
+
+-- ---- a bit for each row of bids: 1 where it is a level
+abbrev pub bid-map : ℕ
+bid-map = 13
+
+-- 64 rows
+abbrev pub map-bits : ℕ
+map-bits = 0
+
+-- ---- of asks
+abbrev pub ask-map : ℕ
+ask-map = 14
+
+-- ---- of orders: 1 where it is kept
+abbrev pub order-map : ℕ
+order-map = 15

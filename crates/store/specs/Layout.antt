@@ -6,23 +6,23 @@ use lib.ListN.{length, getD}
 use Rattle.le.specs.Le.{le, put}
 use Rattle.words.specs.Words.{modulus}
 
--- header, accounts, sessions, flights, batch, orders, bids, asks, trades, notices, changed levels, hints, tops
+-- header, accounts, sessions, flights, batch, orders, bids, asks, trades, notices, changed levels, hints, tops, maps of bids, asks and orders
 abbrev pub row-counts : List ℕ
-row-counts = 1 ∷ 256 ∷ 64 ∷ 256 ∷ 256 ∷ 2048 ∷ 512 ∷ 512 ∷ 256 ∷ 2049 ∷ 1024 ∷ 4096 ∷ 2048 ∷ []
+row-counts = 1 ∷ 256 ∷ 64 ∷ 256 ∷ 256 ∷ 2048 ∷ 512 ∷ 512 ∷ 256 ∷ 2049 ∷ 1024 ∷ 4096 ∷ 2048 ∷ 8 ∷ 8 ∷ 32 ∷ []
 
 -- cells in a row
 abbrev pub row-widths : List ℕ
-row-widths = 32 ∷ 16 ∷ 8 ∷ 4 ∷ 12 ∷ 16 ∷ 4 ∷ 4 ∷ 6 ∷ 1 ∷ 3 ∷ 1 ∷ 1 ∷ []
+row-widths = 32 ∷ 16 ∷ 8 ∷ 4 ∷ 12 ∷ 16 ∷ 4 ∷ 4 ∷ 6 ∷ 1 ∷ 3 ∷ 1 ∷ 1 ∷ 1 ∷ 1 ∷ 1 ∷ []
 
 -- the cell at which a block starts, and where the last one ends
 abbrev pub starts : List ℕ
-starts = 0 ∷ 32 ∷ 4128 ∷ 4640 ∷ 5664 ∷ 8736 ∷ 41504 ∷ 43552 ∷ 45600 ∷ 47136 ∷ 49185 ∷ 52257 ∷ 56353 ∷ 58401 ∷ []
+starts = 0 ∷ 32 ∷ 4128 ∷ 4640 ∷ 5664 ∷ 8736 ∷ 41504 ∷ 43552 ∷ 45600 ∷ 47136 ∷ 49185 ∷ 52257 ∷ 56353 ∷ 58401 ∷ 58409 ∷ 58417 ∷ 58449 ∷ []
 
 abbrev pub blocks : ℕ
-blocks = 13
+blocks = 16
 
 abbrev pub cells : ℕ
-cells = 58401
+cells = 58449
 
 abbrev pub rows : ℕ → ℕ
 rows b = getD row-counts b 0

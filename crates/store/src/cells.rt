@@ -191,3 +191,6 @@ pub const HINT_FOUR: usize = 0;
 
 // by a changed level's slot: one more than the newest row of the slot, or 0
 pub const TOP_ROW: usize = 0;
+
+// a bit for each of 64 rows of bids, of asks or of orders: 1 where it is a level, or is kept
+pub const MAP_BITS: usize = 0;

@@ -35,8 +35,14 @@ pub const HINTS: usize = 11;
 
 pub const TOPS: usize = 12;
 
+pub const BID_MAP: usize = 13;
+
+pub const ASK_MAP: usize = 14;
+
+pub const ORDER_MAP: usize = 15;
+
 // The bytes of a state.
-pub const SIZE: usize = 467_208;
+pub const SIZE: usize = 467_592;
 
 // The first bytes of the blocks whose rows move.
 pub const ORDERS_AT: usize = 69_888;
@@ -64,6 +70,9 @@ fn start_of(b: usize) -> usize
         52257,
         56353,
         58401,
+        58409,
+        58417,
+        58449,
     ];
     starts[b]
 }
@@ -72,7 +81,7 @@ fn width_of(b: usize) -> usize
     requires { ⌜ b < blocks ⌝ }
     ensures { λ r. ⌜ r ≡ width b ⌝ }
 {
-    let widths = [32, 16, 8, 4, 12, 16, 4, 4, 6, 1, 3, 1, 1];
+    let widths = [32, 16, 8, 4, 12, 16, 4, 4, 6, 1, 3, 1, 1, 1, 1, 1];
     widths[b]
 }
 
@@ -128,7 +137,7 @@ pub fn clear(m: &mut [u8])
     ensures { λ r. ⌜ Is (now (m .exit)) zeros ⌝ }
 {
     let mut i: usize = 0;
-    while i < 58401 {
+    while i < 58449 {
         le::put_u64(m, 8 * i, 0);
         i += 1;
     }
