@@ -16,7 +16,7 @@
 
 /* ---- sizes, in bytes */
 
-#define ROWANCHESS_STATE 467208
+#define ROWANCHESS_STATE 467592
 #define ROWANCHESS_CHECKPOINT 43033 /* the longest */
 #define ROWANCHESS_MESSAGE 128
 #define ROWANCHESS_EVENT 128

@@ -49,7 +49,7 @@
 //! # Limits
 //!
 //! 256 accounts, 64 sessions, 1,024 live orders, 512 price levels a side, 256 commands in flight. What waits for `publish`: 256 trades, 2,048
-//! notices, 1,024 changed levels. An exchange has 467,208 bytes of state and a list of mail that grows to what one call has sent: at first 256
+//! notices, 1,024 changed levels. An exchange has 467,592 bytes of state and a list of mail that grows to what one call has sent: at first 256
 //! rows of 96 bytes. No call can send more than 84,993 (a subscription that first publishes 2,048 balances, and 256 trades and 1,024 levels to
 //! each of 64 sessions, and then sends a snapshot of 1,024 levels).
 #![deny(unsafe_code)]

@@ -7,7 +7,7 @@
 #![allow(unsafe_code)]
 
 /// Bytes of a state (docs/STATE.md).
-pub const STATE: usize = 467_208;
+pub const STATE: usize = 467_592;
 
 /// A code, and how many rows (of a checkpoint: bytes) were written.
 #[repr(C)]

@@ -7,7 +7,7 @@ pub mod entered;
 use rowanchess as _;
 
 /// Bytes of a state.
-pub const STATE: usize = 467_208;
+pub const STATE: usize = 467_592;
 /// Bytes of a message or an event; of a command or a piece of mail; of a level.
 pub const MESSAGE: usize = 128;
 pub const MAIL: usize = 96;

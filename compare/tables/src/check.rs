@@ -10,13 +10,16 @@ const STEPS: usize = 100_000;
 /// Blocks and cells (docs/STATE.md).
 const HEADER: usize = 0;
 const ORDERS: usize = 5;
-/// Of each side: its block, and the cells with how many rows are in use and how many levels there are.
-const LEVELS: [(Side, usize, usize, usize); 2] = [(Side::Buy, 6, 15, 20), (Side::Sell, 7, 16, 21)];
+/// Of each side: its block, its map, and the cells with how many rows are in use and how many levels there are.
+const LEVELS: [(Side, usize, usize, usize, usize); 2] =
+    [(Side::Buy, 6, 13, 15, 20), (Side::Sell, 7, 14, 16, 21)];
+const ORDER_MAP: usize = 15;
 const ORDER_ROWS: usize = 12;
 const LIVE_ORDERS: usize = 13;
 const HINTS: usize = 11;
-const ROWS: [usize; 13] = [1, 256, 64, 256, 256, 2048, 512, 512, 256, 2049, 1024, 4096, 2048];
-const WIDTHS: [usize; 13] = [32, 16, 8, 4, 12, 16, 4, 4, 6, 1, 3, 1, 1];
+const ROWS: [usize; 16] =
+    [1, 256, 64, 256, 256, 2048, 512, 512, 256, 2049, 1024, 4096, 2048, 8, 8, 32];
+const WIDTHS: [usize; 16] = [32, 16, 8, 4, 12, 16, 4, 4, 6, 1, 3, 1, 1, 1, 1, 1];
 
 /// Most live orders, and most levels of a side.
 const MOST_LIVE: usize = 2_047;
@@ -192,12 +195,20 @@ impl Both {
                 )?;
             }
         }
-        for (side, _, _, count) in LEVELS {
+        for (side, _, _, _, count) in LEVELS {
             let size = self.state.cell(HEADER, 0, count);
             equal("size", size as usize, self.levels.half(side).len())?;
             self.most_levels = self.most_levels.max(size as usize);
         }
         Ok(())
+    }
+
+    /// A map has a bit for each row: 1 where it is taken.
+    fn map(&self, map: usize, rows: usize, taken: impl Fn(usize) -> bool) -> Result<(), String> {
+        (0..rows).try_for_each(|row| {
+            let bit = self.state.cell(map, row / 64, 0) >> (row % 64) & 1;
+            equal("a bit of a map", bit == 1, taken(row))
+        })
     }
 
     fn order_rows(&self) -> Result<(), String> {
@@ -234,16 +245,19 @@ impl Both {
             .map(|row| self.state.cell(ORDERS, row, 0))
             .collect();
         equal("ascending rows", numbers.is_sorted_by(|a, b| a < b), true)?;
+        let kept = |row: usize| row < rows && self.state.cell(ORDERS, row, 3) == 1;
+        self.map(ORDER_MAP, ROWS[ORDERS], kept)?;
         let count = self.state.cell(HEADER, 0, LIVE_ORDERS) as usize;
         equal("live orders", count, self.orders.0.len())
     }
 
     fn level_rows(&self) -> Result<(), String> {
-        for (side, block, used, _) in LEVELS {
+        for (side, block, map, used, _) in LEVELS {
             let used = self.state.cell(HEADER, 0, used) as usize;
             let row = |row| [0, 1, 2].map(|k| self.state.cell(block, row, k));
             let rows: Vec<_> = (0..used).map(row).collect();
             equal("rising", rows.is_sorted_by(|a, b| a[0] < b[0]), true)?;
+            self.map(map, ROWS[block], |row| row < used && rows[row][2] != 0)?;
             // a level without orders is gone
             let rows = rows.into_iter().filter(|row| row[2] != 0);
             let levels = self.levels.half(side).iter();
@@ -257,10 +271,9 @@ impl Both {
     /// Every other cell is 0.
     fn other_cells(&self) -> Result<(), String> {
         let [bids, asks] = LEVELS;
-        let counts = [ORDER_ROWS, LIVE_ORDERS, bids.2, bids.3, asks.2, asks.3];
-        for block in (0..ROWS.len())
-            .filter(|block| ![ORDERS, bids.1, asks.1, HINTS].contains(block))
-        {
+        let counts = [ORDER_ROWS, LIVE_ORDERS, bids.3, bids.4, asks.3, asks.4];
+        let tables = [ORDERS, ORDER_MAP, bids.1, bids.2, asks.1, asks.2, HINTS];
+        for block in (0..ROWS.len()).filter(|block| !tables.contains(block)) {
             for (row, cell) in
                 (0..ROWS[block]).flat_map(|row| (0..WIDTHS[block]).map(move |cell| (row, cell)))
             {

@@ -27,7 +27,7 @@ unsafe extern "C" {
 }
 
 /// The bytes of a state.
-const SIZE: usize = 467_208;
+const SIZE: usize = 467_592;
 
 /// A price as a key: raised by 2^63.
 pub fn key(price: i64) -> u64 {

@@ -15,6 +15,7 @@ use Rattle.orderbook.specs.declared.Event.the-variants.{Cancelled, Modified}
 use Rattle.protocol.specs.declared.ReportKind.{ReportKind}
 use Rattle.protocol.specs.declared.ReportKind.the-variants as Kind
 use Rattle.words.specs.Words.{int, modulus}
+use Rattle.table.specs.declared.Found.{Found}
 use Rattle.clients.proofs.Laws.{word-fits}
 use Rattle.gateway.specs.Ledger.{reprice, change, changes, step}
 use Rattle.gateway.specs.Core.{Core, names-below, numbers-agree, in-flight}
@@ -29,8 +30,10 @@ use Rattle.gateway.proofs.Feed.{Ascending, Acts, off-acts, modified-acts}
 use Rattle.gateway.proofs.Depths as Depths
 use Rattle.gateway.proofs.Depths.{cancelled-fits, modified-fits}
 use Rattle.store.specs.Layout.{cell}
-use Rattle.store.specs.View.{word, ledger, depth, gateway}
-use Rattle.sound.specs.Sound.{Becomes}
+use Rattle.store.specs.View.{word, resting, ledger, depth, gateway}
+use Rattle.orders.specs.Orders.{Sees}
+use Rattle.sound.specs.Sound.{Becomes, InPlace}
+use Rattle.sound.proofs.Kept.{seen-resting}
 use Rattle.mailbox.specs.Mailbox.{places}
 use Rattle.marketdata.specs.Marketdata.{with-depth, Roomy}
 use Rattle.outcome.specs.Between.{Between}
@@ -196,16 +199,21 @@ module _ (xs out : List ℕ) (n i : ℕ) (b : Between xs) (h : Shift) (t : Told)
 
 -- ---- applying
 
-module _ (xs : List ℕ) {ys : List ℕ} (n i : ℕ) (x : Move) (f : D.Resting → Depth → Depth) (can : CanChange n i x f (gateway (cell xs))) (a : Becomes ys (moved (change-of i x) (gateway (cell xs)))) where
-  pub still-roomy : Roomy (where-resting i f (depth (cell ys)))
-  still-roomy = subst (λ (d : Depth). Roomy (where-resting i f d)) (sym (ap (λ (g : Gateway). g .rest .depth) (a .gateway-is))) (can .room)
+-- what happens to a live order leaves it where it rests
+pub still-rests : {xs ys : List ℕ} (i : ℕ) (x : Move) (at : Found) → InPlace xs ys (moved (change-of i x) (gateway (cell xs))) →
+    Sees C.order-resting resting D.resting-number (cell xs) i at → Sees C.order-resting resting D.resting-number (cell ys) i at
+still-rests i x at a = seen-resting a i at refl
 
-  module _ {zs : List ℕ} (d : Becomes zs (with-depth (where-resting i f) (gateway (cell ys)))) where
+module _ (xs : List ℕ) {ys : List ℕ} (n i : ℕ) (x : Move) (f : D.Resting → Depth → Depth) (can : CanChange n i x f (gateway (cell xs))) (a : InPlace xs ys (moved (change-of i x) (gateway (cell xs)))) where
+  pub still-roomy : Roomy (where-resting i f (depth (cell ys)))
+  still-roomy = subst (λ (d : Depth). Roomy (where-resting i f d)) (sym (ap (λ (g : Gateway). g .rest .depth) (a .becomes .gateway-is))) (can .room)
+
+  module _ {zs : List ℕ} (d : InPlace ys zs (with-depth (where-resting i f) (gateway (cell ys)))) where
     pub still-flying : in-flight n (gateway (cell zs) .core) ≡ true
-    still-flying = ap (λ (g : Gateway). in-flight n (g .core)) (d .gateway-is ∙ ap (with-depth (where-resting i f)) (a .gateway-is)) ∙ can .flying
+    still-flying = ap (λ (g : Gateway). in-flight n (g .core)) (d .becomes .gateway-is ∙ ap (with-depth (where-resting i f)) (a .becomes .gateway-is)) ∙ can .flying
 
     pub in-book-becomes : {us : List ℕ} → Becomes us (landed n (gateway (cell zs))) → Becomes us (in-book n i x f (gateway (cell xs)))
-    in-book-becomes u = then-becomes (landed n) (then-becomes (with-depth (where-resting i f)) a d) u
+    in-book-becomes u = then-becomes (landed n) (then-becomes (with-depth (where-resting i f)) (a .becomes) (d .becomes)) u
 
 -- the word of a price
 pub repriced : (z : ℤ) (v w : ℕ) → w < modulus → int w ≡ z → v < modulus → Repriced z v w
@@ -227,4 +235,4 @@ module _ (xs : List ℕ) (n i : ℕ) (room k v : ℕ) (a w : Bool) where
       v ≡ verdict (tests (changed-tests n i a w k room (gateway (cell xs)))) → v ≡ verdict (tests (weighed-tests n i h t room (gateway (cell xs))))
   by-weight h t a-is w-is k-is e = rw (a-is, few-is xs h w w-is, k-is) at e
 
-pub ruleset changing = (cancelled-refused, cancelled-done, can-cancel, modified-refused, can-modify, modified-done, still-roomy, still-flying, in-book-becomes, changing-judged, weighed, noticed-room, arith)
+pub ruleset changing = (cancelled-refused, cancelled-done, can-cancel, modified-refused, can-modify, modified-done, still-rests, still-roomy, still-flying, in-book-becomes, changing-judged, weighed, noticed-room, arith)

@@ -21,7 +21,7 @@ use Rattle.gateway.specs.Calls.{Gateway, call, deliver-event}
 use Rattle.gateway.proofs.Feed.{shown-acts}
 use Rattle.store.specs.Layout.{cell}
 use Rattle.store.specs.View.{depth, gateway}
-use Rattle.sound.specs.Sound.{Becomes}
+use Rattle.sound.specs.Sound.{Becomes, InPlace}
 use Rattle.mailbox.specs.Mailbox.{places}
 use Rattle.marketdata.specs.Marketdata.{with-depth, replenished}
 use Rattle.outcome.specs.Between.{Between}
@@ -98,12 +98,12 @@ module _ (xs out : List ℕ) (n i v : ℕ) (b : Between xs) (t : Told) (tells : 
 
 -- ---- applying
 
-module _ (xs : List ℕ) {ys : List ℕ} (n i v : ℕ) (can : CanReshow n i v (gateway (cell xs))) (a : Becomes ys (with-depth (where-resting i (replenished v)) (gateway (cell xs)))) where
+module _ (xs : List ℕ) {ys : List ℕ} (n i v : ℕ) (can : CanReshow n i v (gateway (cell xs))) (a : InPlace xs ys (with-depth (where-resting i (replenished v)) (gateway (cell xs)))) where
   pub reshown-flying : in-flight n (gateway (cell ys) .core) ≡ true
-  reshown-flying = ap (λ (g : Gateway). in-flight n (g .core)) (a .gateway-is) ∙ can .flying
+  reshown-flying = ap (λ (g : Gateway). in-flight n (g .core)) (a .becomes .gateway-is) ∙ can .flying
 
   pub reshown-becomes : {us : List ℕ} → Becomes us (landed n (gateway (cell ys))) → Becomes us (reshown n i v (gateway (cell xs)))
-  reshown-becomes u = then-becomes (landed n) a u
+  reshown-becomes u = then-becomes (landed n) (a .becomes) u
 
 -- ---- the judge
 

@@ -22,7 +22,7 @@ use Rattle.gateway.specs.Invariant.{Ok}
 use Rattle.gateway.specs.Calls.{Gateway, call, deliver-event}
 use Rattle.store.specs.Layout.{cell}
 use Rattle.store.specs.View.{side, word, ledger, depth, gateway}
-use Rattle.sound.specs.Sound.{State, Becomes}
+use Rattle.sound.specs.Sound.{State, Becomes, InPlace}
 use Rattle.mailbox.specs.Mailbox.{places}
 use Rattle.marketdata.specs.Marketdata.{with-depth, CanAdd, Judged}
 use Rattle.outcome.specs.Between.{Between}
@@ -38,7 +38,7 @@ use Rattle.holds.specs.declared.Move.{Move}
 use Rattle.holds.specs.declared.Move.the-variants.{Leaves}
 use Rattle.holds.specs.declared.Shift.{Shift}
 use Rattle.holds.specs.Holds.{change-of, moved, NewHold, Weighs, shift-fits}
-use Rattle.holds.proofs.Laws.{one-fits, notices-come, few-noticed, few-is, weighed, noticed-room}
+use Rattle.holds.proofs.Laws.{left-live, one-fits, notices-come, few-noticed, few-is, weighed, noticed-room}
 use Rattle.gateway.specs.Limits.{most-notices}
 use Rattle.bookevents.specs.BookEvents.{rested-tests, joined, CanJoin, Stands}
 use mathlib.Core.Option.{Option, none, some}
@@ -127,11 +127,11 @@ module _ (xs out : List ℕ) (n i : ℕ) (z : Side) (y : ℤ) (q v : ℕ) (o : W
 
 -- ---- applying
 
-module _ (xs : List ℕ) {ys : List ℕ} (n : ℕ) (x : Move) (o : D.Resting) (st : State xs) (can : CanJoin n x o (gateway (cell xs))) (a : Becomes ys (moved (change-of (o .number) x) (gateway (cell xs)))) where
+module _ (xs : List ℕ) {ys : List ℕ} (n : ℕ) (x : Move) (o : D.Resting) (st : State xs) (can : CanJoin n x o (gateway (cell xs))) (a : InPlace xs ys (moved (change-of (o .number) x) (gateway (cell xs)))) where
   pub can-add : CanAdd o (cell ys)
   can-add =
-      let d : depth (cell ys) ≡ depth (cell xs) = ap (λ (g : Gateway). g .rest .depth) (a .gateway-is) in
-      let l : word (cell ys) C.last ≡ word (cell xs) C.last = ap (λ (g : Gateway). g .core .ledger .last) (a .gateway-is) ∙ last-stays (change-of (o .number) x ∷ []) (ledger (cell xs)) in
+      let d : depth (cell ys) ≡ depth (cell xs) = ap (λ (g : Gateway). g .rest .depth) (a .becomes .gateway-is) in
+      let l : word (cell ys) C.last ≡ word (cell xs) C.last = ap (λ (g : Gateway). g .core .ledger .last) (a .becomes .gateway-is) ∙ last-stays (change-of (o .number) x ∷ []) (ledger (cell xs)) in
       record {
         absent = ap (λ (k : Depth). find-resting (o .number) (k .resting)) d ∙ can .absent;
         at-most-last = omega (arith, l, can .number-is, high st n (can .flying));
@@ -140,10 +140,10 @@ module _ (xs : List ℕ) {ys : List ℕ} (n : ℕ) (x : Move) (o : D.Resting) (s
 
   module _ {zs : List ℕ} (d : Becomes zs (with-depth (add o) (gateway (cell ys)))) where
     pub joined-flying : in-flight n (gateway (cell zs) .core) ≡ true
-    joined-flying = ap (λ (g : Gateway). in-flight n (g .core)) (d .gateway-is ∙ ap (with-depth (add o)) (a .gateway-is)) ∙ can .flying
+    joined-flying = ap (λ (g : Gateway). in-flight n (g .core)) (d .gateway-is ∙ ap (with-depth (add o)) (a .becomes .gateway-is)) ∙ can .flying
 
     pub joined-becomes : {us : List ℕ} → Becomes us (landed n (gateway (cell zs))) → Becomes us (joined n x o (gateway (cell xs)))
-    joined-becomes u = then-becomes (landed n) (then-becomes (with-depth (add o)) a d) u
+    joined-becomes u = then-becomes (landed n) (then-becomes (with-depth (add o)) (a .becomes) d) u
 
 -- the words of the row
 pub stands : (z : Side) (y : ℤ) (q v s p : ℕ) → s ≡ sideCode z → int p ≡ y → q < modulus → Stands z y q v (record { side = s; price = p; visible = v; leaves = q })
@@ -167,4 +167,4 @@ pub resting-judged : (xs : List ℕ) (n i : ℕ) (o : Words.Resting) (h : Shift)
     v ≡ verdict (tests (rested-tests n (resting-of i o) h t room (gateway (cell xs))))
 resting-judged xs n i o h t room k v f b a l d w f-is b-is a-is l-is d-is w-is k-is e = rw (f-is, b-is, a-is, l-is, d-is, few-is xs h w w-is, k-is) at e
 
-pub ruleset resting-laws = (rested-refused, can-join, rested-done, can-add, joined-flying, joined-becomes, stands, resting-judged, weighed, noticed-room, arith)
+pub ruleset resting-laws = (rested-refused, can-join, rested-done, can-add, joined-flying, joined-becomes, left-live, stands, resting-judged, weighed, noticed-room, arith)

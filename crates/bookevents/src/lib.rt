@@ -65,7 +65,7 @@ fn judge_changed(
 }
 
 fn apply_cancelled(m: &mut [u8], n: u64, id: u64, live: Found, resting: Found)
-    requires { ⌜ State (now m) × Sees C.order-live order number-of (cell (now m)) id live × P.CanChange n id Retire D.take-off (gateway (cell (now m))) ⌝ }
+    requires { ⌜ State (now m) × Sees C.order-live order number-of (cell (now m)) id live × Sees C.order-resting View.resting D.resting-number (cell (now m)) id resting × P.CanChange n id Retire D.take-off (gateway (cell (now m))) ⌝ }
     ensures { λ r. ⌜ Becomes (now (m .exit)) (P.in-book n id Retire D.take-off (gateway (cell (now (m .entry))))) ⌝ }
 {
     holds::retire(m, id, live);
@@ -119,7 +119,7 @@ fn apply_modified(
     leaves: u64,
     new: u64,
 )
-    requires { ⌜ State (now m) × Sees C.order-live order number-of (cell (now m)) id live × Holds.NewHold id (Reprice price leaves) new (ledger (cell (now m))) × P.CanChange n id (Reprice price leaves) (D.modified (int price) leaves) (gateway (cell (now m))) ⌝ }
+    requires { ⌜ State (now m) × Sees C.order-live order number-of (cell (now m)) id live × Sees C.order-resting View.resting D.resting-number (cell (now m)) id resting × Holds.NewHold id (Reprice price leaves) new (ledger (cell (now m))) × P.CanChange n id (Reprice price leaves) (D.modified (int price) leaves) (gateway (cell (now m))) ⌝ }
     ensures { λ r. ⌜ Becomes (now (m .exit)) (P.in-book n id (Reprice price leaves) (D.modified (int price) leaves) (gateway (cell (now (m .entry))))) ⌝ }
 {
     holds::reprice(m, id, live, new, price, leaves);
@@ -144,7 +144,7 @@ pub fn modified(
     let at = orders::look(m, id);
     let live = at.live;
     let resting = at.resting;
-    let new = holds::repriced(m, id, live, p, leaves);
+    let new = holds::left(m, id, live, true, p, leaves);
     let h = holds::weigh(m, id, live, 0, new);
     let t = reporting::owner(m, id, live);
     let k = reporting::rows(t);
@@ -200,7 +200,7 @@ fn judge_replenished(
 }
 
 fn apply_replenished(m: &mut [u8], n: u64, id: u64, resting: Found, visible: u64)
-    requires { ⌜ State (now m) × P.CanReshow n id visible (gateway (cell (now m))) ⌝ }
+    requires { ⌜ State (now m) × Sees C.order-resting View.resting D.resting-number (cell (now m)) id resting × P.CanReshow n id visible (gateway (cell (now m))) ⌝ }
     ensures { λ r. ⌜ Becomes (now (m .exit)) (P.reshown n id visible (gateway (cell (now (m .entry))))) ⌝ }
 {
     marketdata::on_replenished(m, id, resting, visible);
@@ -323,7 +323,7 @@ pub fn rested(
     let live = at.live;
     let resting = at.resting;
     let place = marketdata::place_of(m, o.side, o.price);
-    let new = holds::left(m, id, live, qty);
+    let new = holds::left(m, id, live, false, 0, qty);
     let h = holds::weigh(m, id, live, 0, new);
     let t = reporting::owner(m, id, live);
     let code = judge_rested(m, n, id, resting, o, place, h, t, mailbox::room(out));

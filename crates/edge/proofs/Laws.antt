@@ -41,21 +41,21 @@ use Rattle.numbers.specs.Numbers.{reason-or, wallet-in, no-wallet, IsWallet, ac
 
 -- ---- the length
 
-whole-yes : (xs : List ℕ) → length xs ≡ 467208 → true ≡ whole true xs
+whole-yes : (xs : List ℕ) → length xs ≡ 467592 → true ≡ whole true xs
 unfolding whole
-whole-yes xs h = rw (eq-eqb (length xs) 467208 h) refl
+whole-yes xs h = rw (eq-eqb (length xs) 467592 h) refl
 
-whole-no : (xs : List ℕ) → (length xs ≡ 467208 → ⊥) → false ≡ whole true xs
+whole-no : (xs : List ℕ) → (length xs ≡ 467592 → ⊥) → false ≡ whole true xs
 unfolding whole
-whole-no xs h = rw (ne-eqb (length xs) 467208 h) refl
+whole-no xs h = rw (ne-eqb (length xs) 467592 h) refl
 
-pub is-whole-yes : (ok : Bool) (xs : List ℕ) → ok ≡ true → eqb (length xs) 467208 ≡ whole ok xs
+pub is-whole-yes : (ok : Bool) (xs : List ℕ) → ok ≡ true → eqb (length xs) 467592 ≡ whole ok xs
 unfolding whole
-is-whole-yes ok xs h = rw (h, and-true (eqb (length xs) 467208)) refl
+is-whole-yes ok xs h = rw (h, and-true (eqb (length xs) 467592)) refl
 
 pub is-whole-no : (ok : Bool) (xs : List ℕ) → ok ≡ false → false ≡ whole ok xs
 unfolding whole
-is-whole-no ok xs h = rw (h, and-false (eqb (length xs) 467208)) refl
+is-whole-no ok xs h = rw (h, and-false (eqb (length xs) 467592)) refl
 
 module _ (xs : List ℕ) (b d : Bool) (e : b ≡ whole d xs) (t : b ≡ true) where
   parts : (eqb (length xs) (8 * cells) ≡ true) × (d ≡ true)
@@ -113,14 +113,14 @@ module _ (xs : List ℕ) (b d ok : Bool) (kept : Type 0) (tells : Answer → Lis
 
 -- ---- a call that is lent nothing but a state
 
-pub between : (xs : List ℕ) → Lent xs → length xs ≡ 467208 → Between xs
+pub between : (xs : List ℕ) → Lent xs → length xs ≡ 467592 → Between xs
 between xs l h = l .between h
 
 module _ (xs : List ℕ) (kept : Type 0) (tells : Answer → List Mail → Type 0) (x : Call) where
-  pub held : (code : ℕ) (ys : List ℕ) → length xs ≡ 467208 → Answers (call (gateway (cell xs)) x) kept tells code xs ys → Enters (asked true xs x) kept tells code xs ys
+  pub held : (code : ℕ) (ys : List ℕ) → length xs ≡ 467592 → Answers (call (gateway (cell xs)) x) kept tells code xs ys → Enters (asked true xs x) kept tells code xs ys
   held code ys h = entered xs true true true kept tells x refl (whole-yes xs h) code ys refl
 
-  pub held-no : (length xs ≡ 467208 → ⊥) → Lent xs → kept → Enters (asked true xs x) kept tells 11 xs xs
+  pub held-no : (length xs ≡ 467592 → ⊥) → Lent xs → kept → Enters (asked true xs x) kept tells 11 xs xs
   held-no h = malformed-no xs false true true kept tells x refl (whole-no xs h) refl
 
 -- ---- a call whose argument was read
@@ -153,18 +153,18 @@ module _ (xs ys : List ℕ) (b d ok : Bool) (kept : Type 0) (tells : Answer → 
 -- ---- an answer in numbers
 
 module _ (xs ys : List ℕ) where
-  pub wallet-told : (a : ℕ) (v : Ba.MaybeBalance) (w : Wallet) → length xs ≡ 467208 → IsWallet v w → Answers (call (gateway (cell xs)) (C.wallet a)) (Unit {0}) (Said (wallet-is (maybe-balance v))) 0 xs ys → Enters (asked true xs (C.wallet a)) (Unit {0}) (Said (wallet-is (wallet-in w))) (w .code) xs ys
+  pub wallet-told : (a : ℕ) (v : Ba.MaybeBalance) (w : Wallet) → length xs ≡ 467592 → IsWallet v w → Answers (call (gateway (cell xs)) (C.wallet a)) (Unit {0}) (Said (wallet-is (maybe-balance v))) 0 xs ys → Enters (asked true xs (C.wallet a)) (Unit {0}) (Said (wallet-is (wallet-in w))) (w .code) xs ys
   wallet-told a v w t i h =
       subst (λ (c : ℕ). Enters (asked true xs (C.wallet a)) (Unit {0}) (Said (wallet-is (wallet-in w))) c xs ys) (sym (i .code-is))
       (subst (λ (o : _). Enters (asked true xs (C.wallet a)) (Unit {0}) (Said (wallet-is o)) 0 xs ys) (i .same)
       (held xs (Unit {0}) (Said (wallet-is (maybe-balance v))) (C.wallet a) 0 ys t h))
 
-  pub wallet-malformed : (a : ℕ) (w : Wallet) → (length xs ≡ 467208 → ⊥) → Lent xs → w ≡ no-wallet 11 → Enters (asked true xs (C.wallet a)) (Unit {0}) (Said (wallet-is (wallet-in w))) (w .code) xs xs
+  pub wallet-malformed : (a : ℕ) (w : Wallet) → (length xs ≡ 467592 → ⊥) → Lent xs → w ≡ no-wallet 11 → Enters (asked true xs (C.wallet a)) (Unit {0}) (Said (wallet-is (wallet-in w))) (w .code) xs xs
   wallet-malformed a w t l q =
       subst (λ (c : ℕ). Enters (asked true xs (C.wallet a)) (Unit {0}) (Said (wallet-is (wallet-in w))) c xs xs) (sym (ap (λ (z : Wallet). z .code) q))
       (held-no xs (Unit {0}) (Said (wallet-is (wallet-in w))) (C.wallet a) t l tt)
 
-  pub account-told : (s : ℕ) (v : Id.MaybeId) (a : A.Account) → length xs ≡ 467208 → IsAccount v a → Answers (call (gateway (cell xs)) (C.detach s)) (Unit {0}) (Said (account-was (maybe-id v))) 0 xs ys → Enters (asked true xs (C.detach s)) (Unit {0}) (Said (account-was (account-in a))) (a .code) xs ys
+  pub account-told : (s : ℕ) (v : Id.MaybeId) (a : A.Account) → length xs ≡ 467592 → IsAccount v a → Answers (call (gateway (cell xs)) (C.detach s)) (Unit {0}) (Said (account-was (maybe-id v))) 0 xs ys → Enters (asked true xs (C.detach s)) (Unit {0}) (Said (account-was (account-in a))) (a .code) xs ys
   account-told s v a t i h =
       subst (λ (c : ℕ). Enters (asked true xs (C.detach s)) (Unit {0}) (Said (account-was (account-in a))) c xs ys) (sym (i .code-is))
       (subst (λ (o : Option ℕ). Enters (asked true xs (C.detach s)) (Unit {0}) (Said (account-was o)) 0 xs ys) (i .same)

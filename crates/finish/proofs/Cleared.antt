@@ -15,6 +15,7 @@ use Rattle.le.proofs.Laws.{lt-or-le}
 use Rattle.words.specs.Words.{wrap}
 use Rattle.table.specs.Live.{live}
 use Rattle.table.proofs.Live.{same?, ascends-ext}
+use Rattle.gateway.specs.Limits.{most-levels}
 use Rattle.gateway.specs.Ledger.{Order, held, open-of}
 use Rattle.gateway.specs.Depth as D
 use Rattle.gateway.specs.Calls.{Gateway, finished}
@@ -23,16 +24,21 @@ use Rattle.store.specs.Layout.{cell, Holds, Set}
 use Rattle.store.specs.View.{Row, Store, Same, Is, Bounds, word, write, fill, listed, order, resting, ledger, depth, gateway, order-room}
 use Rattle.store.proofs.Places.{order-cell}
 use Rattle.store.proofs.Rows.{same-write, then-set, then-fill, is-itself}
-use Rattle.orders.specs.Orders.{either, Flags}
+use Rattle.orders.specs.Orders.{either, Flags, remap}
+use Rattle.orders.proofs.Bits.{remapped}
+use Rattle.orders.proofs.Laws.{same-remap, then-remap}
 use Rattle.orders.proofs.Shown.{shown, shown-ext, shown-dead}
 use Rattle.orders.proofs.Views.{with-lists}
-use Rattle.levels.specs.Levels.{used, size, entries}
+use Rattle.bitmap.specs.Bitmap.{emptied}
+use Rattle.bitmap.proofs.Laws.{same-bit, same-emptied, then-emptied, emptied-bit, emptied-other}
+use Rattle.levels.specs.Levels.{bits, used, size, entries}
+use Rattle.levels.proofs.Laws.{no-levels}
 use Rattle.pending.specs.Pending.{forget-tops}
 use Rattle.pending.proofs.Chain.{chained-none, forgotten}
 use Rattle.sound.specs.Sound.{Stored, Sound, State, Becomes}
 use Rattle.sound.proofs.Kept.{clients-kept, becomes}
 use Rattle.outcome.specs.Parts.{with-rest}
-use Rattle.finish.specs.Clearing.{off, unrest, unrested, cleared}
+use Rattle.finish.specs.Clearing.{off, unrest, unrested, remade-maps, cleared}
 
 -- ---- the bytes
 
@@ -92,14 +98,28 @@ same-unrested n s t e b i k c =
     (λ p. rw (ne-eqb b C.orders p) (e b i k c))
     (same? b C.orders)
 
-pub cleared-is : (xs : List ℕ) {us ys zs vs : List ℕ} (n last rows : ℕ) → n ≡ word (cell xs) C.order-rows → last ≡ word (cell xs) C.last → rows ≡ word (cell xs) C.changed-rows →
+pub remade-is : (xs : List ℕ) {ys zs us : List ℕ} → Is ys (emptied C.bid-map 8 (cell xs)) → Is zs (emptied C.ask-map 8 (cell ys)) → Is us (remap (cell zs)) → Is us (remade-maps (cell xs))
+unfolding remade-maps
+remade-is xs p q r = then-remap (then-emptied C.ask-map 8 p q) r
+
+then-remade : {ys zs : List ℕ} {s : Store} → Is ys s → Is zs (remade-maps (cell ys)) → Is zs (remade-maps s)
+unfolding remade-maps
+then-remade {ys} {zs} {s} p q = record { holds = q .holds; same = λ b i k c. q .same b i k c ∙ maps-same b i k c }
+  where
+    maps-same : Same (remap (emptied C.ask-map 8 (emptied C.bid-map 8 (cell ys)))) (remap (emptied C.ask-map 8 (emptied C.bid-map 8 s)))
+    maps-same =
+        same-remap (emptied C.ask-map 8 (emptied C.bid-map 8 (cell ys))) (emptied C.ask-map 8 (emptied C.bid-map 8 s))
+        (same-emptied C.ask-map 8 (emptied C.bid-map 8 (cell ys)) (emptied C.bid-map 8 s) (same-emptied C.bid-map 8 (cell ys) s (p .same)))
+
+pub cleared-is : (xs : List ℕ) {us ys zs vs ws : List ℕ} (n last rows : ℕ) → n ≡ word (cell xs) C.order-rows → last ≡ word (cell xs) C.last → rows ≡ word (cell xs) C.changed-rows →
     Is us (forget-tops rows (cell xs)) → Is ys (unrested n (cell us)) →
-    Is zs (fill C.header 0 C.resting-orders (0 ∷ 0 ∷ 0 ∷ 0 ∷ 0 ∷ 0 ∷ 0 ∷ 0 ∷ []) (cell ys)) → Is vs (fill C.header 0 C.delivered (last ∷ last ∷ []) (cell zs)) → Is vs (cleared (cell xs))
+    Is zs (fill C.header 0 C.resting-orders (0 ∷ 0 ∷ 0 ∷ 0 ∷ 0 ∷ 0 ∷ 0 ∷ 0 ∷ []) (cell ys)) → Is vs (fill C.header 0 C.delivered (last ∷ last ∷ []) (cell zs)) → Is ws (remade-maps (cell vs)) → Is ws (cleared (cell xs))
 unfolding cleared
-cleared-is xs {us} {ys} n last rows n-is last-is rows-is f p q r =
+cleared-is xs {us} {ys} n last rows n-is last-is rows-is f p q r o =
     let g : Is ys (unrested n (forget-tops rows (cell xs))) =
     record { holds = p .holds; same = λ b i k c. p .same b i k c ∙ same-unrested n (cell us) (forget-tops rows (cell xs)) (f .same) b i k c } in
-    rw (← n-is, ← last-is, ← rows-is) (then-fill C.header 0 C.delivered (last ∷ last ∷ []) (then-fill C.header 0 C.resting-orders (0 ∷ 0 ∷ 0 ∷ 0 ∷ 0 ∷ 0 ∷ 0 ∷ 0 ∷ []) g q) r)
+    rw (← n-is, ← last-is, ← rows-is)
+    (then-remade (then-fill C.header 0 C.delivered (last ∷ last ∷ []) (then-fill C.header 0 C.resting-orders (0 ∷ 0 ∷ 0 ∷ 0 ∷ 0 ∷ 0 ∷ 0 ∷ 0 ∷ []) g q) r) o)
 
 -- ---- the gateway
 
@@ -111,7 +131,7 @@ module _ (s : Store) where
   n = word s C.order-rows
 
   cell-is : (j k : ℕ) → j < n → t C.orders j k ≡ off (s C.orders j) k
-  unfolding cleared unrested fill
+  unfolding cleared remade-maps unrested fill emptied remap
   cell-is j k h = rw (lt-ltb j n h) refl
 
   -- a row in use rests no more, and is as it was otherwise
@@ -125,7 +145,7 @@ module _ (s : Store) where
   live-same j h = ap (λ (r : Row). (r C.order-live, order r)) (row-is j h)
 
   orders-same : ledger t .orders ≡ ledger s .orders
-  unfolding cleared unrested fill
+  unfolding cleared remade-maps unrested fill emptied remap
   orders-same = shown-ext (λ j. (s C.orders j C.order-live, order (s C.orders j))) (λ j. (t C.orders j C.order-live, order (t C.orders j))) n live-same
 
   none-shown : {A : Type 0} (p : ℕ → ℕ × A) (m : ℕ) → ((j : ℕ) → j < m → p j .0 ≡ 0) → shown p m ≡ []
@@ -134,14 +154,14 @@ module _ (s : Store) where
   none-shown p (suc m) h = rw (add-one m) at (shown-dead p p m (λ j l. refl) (h m (omega arith)) ∙ none-shown p m (λ j l. h j (omega arith)))
 
   resting-none : depth t .resting ≡ []
-  unfolding cleared unrested fill
+  unfolding cleared remade-maps unrested fill emptied remap
   resting-none = none-shown (λ j. (t C.orders j C.order-resting, resting (t C.orders j))) n (λ j h. ap (λ (r : Row). r C.order-resting) (row-is j h))
 
   abbrev g : Gateway
   g = with-rest (finished [] (gateway s .core)) (gateway s)
 
   parts : gateway t ≡ with-lists (ledger t .orders) (depth t .resting) g
-  unfolding cleared unrested fill listed
+  unfolding cleared remade-maps unrested fill listed emptied remap
   parts = refl
 
   pub cleared-view : gateway t ≡ with-rest (finished [] (gateway s .core)) (gateway s)
@@ -169,11 +189,29 @@ module _ (s : Store) where
         subst Stored (sym (row-is j h)) (record { hold-is = f .hold-is; owner-is = f .owner-is })
 
     bounds : Bounds t
-    unfolding cleared unrested fill
+    unfolding cleared remade-maps unrested fill emptied remap
     bounds = let c = d .tables .ordered .bounds in search arith
 
+    abbrev before : Store
+    before =
+        fill C.header 0 C.delivered (word s C.last ∷ word s C.last ∷ [])
+        (fill C.header 0 C.resting-orders (0 ∷ 0 ∷ 0 ∷ 0 ∷ 0 ∷ 0 ∷ 0 ∷ 0 ∷ []) (unrested (word s C.order-rows) (forget-tops (word s C.changed-rows) s)))
+
+    abbrev emptied-maps : Store
+    emptied-maps = emptied C.ask-map 8 (emptied C.bid-map 8 before)
+
+    bids-none : (j : ℕ) → j < most-levels → bits Buy t j ≡ 0
+    unfolding cleared remade-maps remap
+    bids-none j l =
+        same-bit C.bid-map t emptied-maps j refl ∙ emptied-other C.ask-map 8 C.bid-map j (emptied C.bid-map 8 before) (λ e. omega arith)
+        ∙ emptied-bit C.bid-map 8 j before (omega arith)
+
+    asks-none : (j : ℕ) → j < most-levels → bits Sell t j ≡ 0
+    unfolding cleared remade-maps remap
+    asks-none j l = same-bit C.ask-map t emptied-maps j refl ∙ emptied-bit C.ask-map 8 j (emptied C.bid-map 8 before) (omega arith)
+
     pub cleared-sound : Sound t
-    unfolding cleared unrested fill used size entries live
+    unfolding cleared remade-maps unrested fill emptied used size entries live remap
     cleared-sound =
         record {
           tables =
@@ -191,9 +229,10 @@ module _ (s : Store) where
                             live-count = d .tables .ordered .counted .live-count ∙ sym (ap length orders-same);
                             resting-count = sym (ap length resting-none);
                           };
+                      mapped = remapped _ (λ j h. rw (ap (λ (r : Row). r C.order-kept) (row-is j h)) (d .tables .ordered .sorted .flags j h .live-is));
                     };
-                bids = record { rising = λ i j h l. absurd (not-suc-le-zero l); are = sym (ap (D.levels Buy) resting-none); counted = refl };
-                asks = record { rising = λ i j h l. absurd (not-suc-le-zero l); are = sym (ap (D.levels Sell) resting-none); counted = refl };
+                bids = record { rising = λ i j h l. absurd (not-suc-le-zero l); are = sym (ap (D.levels Buy) resting-none); counted = refl; mapped = no-levels Buy t bids-none };
+                asks = record { rising = λ i j h l. absurd (not-suc-le-zero l); are = sym (ap (D.levels Sell) resting-none); counted = refl; mapped = no-levels Sell t asks-none };
                 live-few = d .tables .live-few;
                 resting-few = omega arith;
                 numbered = λ j h. rw (number-same j h) (d .tables .numbered j h);

@@ -25,7 +25,7 @@ use Rattle.listing.specs.Rests.{CanRest}
 use Rattle.listing.specs.Rows.{listing}
 use Rattle.gateway.specs.Listing.{listed-depth}
 use Rattle.finish.proofs.Agreed.{same-stop, same-leaves, other-leaves, live-inside, live-agrees, none-agrees, row-once, row-differs, as-many, not-as-many, agree-each}
-use Rattle.finish.proofs.Cleared.{unrest-is, cleared-is, reset-becomes}
+use Rattle.finish.proofs.Cleared.{unrest-is, remade-is, cleared-is, reset-becomes}
 
 -- ---- judging
 
@@ -114,4 +114,4 @@ module _ (xs list : List ℕ) (b : Between xs) (code : ℕ) (code-is : code ≡ 
       says-done xs (finish (listing list)) tt b nothing (finished (listing list) c (rest-of xs))
       (plan-is ∙ ap (λ x. cond x (sends [] (finished (listing list) c (rest-of xs))) (refuse code)) (eq-eqb code 0 z)) d
 
-pub ruleset laws = (same-stop, same-leaves, other-leaves, live-inside, live-agrees, none-agrees, row-once, row-differs, as-many, not-as-many, unrest-is, cleared-is, reset-becomes, differs, too-many, too-much, all-pass, can-rest, apply-becomes, finish-refused, finish-done, arith)
+pub ruleset laws = (same-stop, same-leaves, other-leaves, live-inside, live-agrees, none-agrees, row-once, row-differs, as-many, not-as-many, unrest-is, remade-is, cleared-is, reset-becomes, differs, too-many, too-much, all-pass, can-rest, apply-becomes, finish-refused, finish-done, arith)

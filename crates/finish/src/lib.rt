@@ -1,6 +1,7 @@
 // A restart ends: the book's listing is compared with the live orders, and the depth is taken from it (`finish` of exchange.rs).
 use listing::Entry;
 use store::cells;
+use store::limits;
 use table::Found;
 ghost use mathlib.Core.Path.{_≡_};
 ghost use mathlib.Core.List.{[]};
@@ -123,6 +124,16 @@ fn unrest_rows(m: &mut [u8], n: usize)
     }
 }
 
+// No row is a level, and the map of orders follows its rows.
+fn remake_maps(m: &mut [u8])
+    requires { ⌜ Holds (now m) ⌝ }
+    ensures { λ r. ⌜ Is (now (m .exit)) (P.remade-maps (cell (now (m .entry)))) ⌝ }
+{
+    bitmap::clear(m, store::BID_MAP, limits::MOST_LEVELS);
+    bitmap::clear(m, store::ASK_MAP, limits::MOST_LEVELS);
+    orders::remap(m);
+}
+
 // The eight counts from the resting orders to the levels are 0, and no changed level has a top.
 fn clear(m: &mut [u8])
     requires { ⌜ Ready (now m) ⌝ }
@@ -141,6 +152,7 @@ fn clear(m: &mut [u8])
         &[0, 0, 0, 0, 0, 0, 0, 0],
     );
     store::fill(m, store::HEADER, 0, cells::DELIVERED, &[last, last]);
+    remake_maps(m);
 }
 
 fn reset(m: &mut [u8])

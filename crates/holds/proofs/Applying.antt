@@ -28,7 +28,8 @@ use Rattle.store.proofs.Listed.{listed-length}
 use Rattle.clients.proofs.Views.{wallet-at-row}
 use Rattle.orders.specs.declared.Live.{Live}
 use Rattle.orders.specs.Orders.{Sees, live-row, number-at}
-use Rattle.sound.specs.Sound.{State, Becomes}
+use Rattle.orders.proofs.Kept.{stays-same, stays-then}
+use Rattle.sound.specs.Sound.{State, Becomes, InPlace}
 use Rattle.live.specs.Live as L
 use Rattle.live.specs.Live.{with-ledger, with-notices, wallet-notice}
 use Rattle.holds.specs.declared.Move.{Move}
@@ -38,18 +39,18 @@ use Rattle.holds.proofs.Weighing.{of, settled, notices-are, notices-by,
 
 -- ---- the change, in the arms of the match
 
-module _ {ys : List ℕ} (n : ℕ) (x : Move) (g : Gateway) where
-  pub did-fill : (p q v : ℕ) → x ≡ Fill p q v → Becomes ys (with-ledger (change (fill n (int p) q v)) g) → Becomes ys (with-ledger (change (change-of n x)) g)
-  did-fill p q v e h = subst (λ y. Becomes ys (with-ledger (change (change-of n y)) g)) (sym e) h
+module _ (xs : List ℕ) {ys : List ℕ} (n : ℕ) (x : Move) (g : Gateway) where
+  pub did-fill : (p q v : ℕ) → x ≡ Fill p q v → InPlace xs ys (with-ledger (change (fill n (int p) q v)) g) → InPlace xs ys (with-ledger (change (change-of n x)) g)
+  did-fill p q v e h = subst (λ y. InPlace xs ys (with-ledger (change (change-of n y)) g)) (sym e) h
 
-  pub did-leaves : (v : ℕ) → x ≡ Leaves v → Becomes ys (with-ledger (change (set-leaves n v)) g) → Becomes ys (with-ledger (change (change-of n x)) g)
-  did-leaves v e h = subst (λ y. Becomes ys (with-ledger (change (change-of n y)) g)) (sym e) h
+  pub did-leaves : (v : ℕ) → x ≡ Leaves v → InPlace xs ys (with-ledger (change (set-leaves n v)) g) → InPlace xs ys (with-ledger (change (change-of n x)) g)
+  did-leaves v e h = subst (λ y. InPlace xs ys (with-ledger (change (change-of n y)) g)) (sym e) h
 
-  pub did-reprice : (p v : ℕ) → x ≡ Reprice p v → Becomes ys (with-ledger (change (reprice n (int p) v)) g) → Becomes ys (with-ledger (change (change-of n x)) g)
-  did-reprice p v e h = subst (λ y. Becomes ys (with-ledger (change (change-of n y)) g)) (sym e) h
+  pub did-reprice : (p v : ℕ) → x ≡ Reprice p v → InPlace xs ys (with-ledger (change (reprice n (int p) v)) g) → InPlace xs ys (with-ledger (change (change-of n x)) g)
+  did-reprice p v e h = subst (λ y. InPlace xs ys (with-ledger (change (change-of n y)) g)) (sym e) h
 
-  pub did-retire : x ≡ Retire → Becomes ys (with-ledger (change (retire n)) g) → Becomes ys (with-ledger (change (change-of n x)) g)
-  did-retire e h = subst (λ y. Becomes ys (with-ledger (change (change-of n y)) g)) (sym e) h
+  pub did-retire : x ≡ Retire → InPlace xs ys (with-ledger (change (retire n)) g) → InPlace xs ys (with-ledger (change (change-of n x)) g)
+  did-retire e h = subst (λ y. InPlace xs ys (with-ledger (change (change-of n y)) g)) (sym e) h
 
 -- ---- what it holds then, in the arms of the match
 
@@ -72,8 +73,8 @@ notices-count s = listed-length (λ i. s C.notices i C.notice-account) (word s C
 with-none : (g : Gateway) → with-notices [] g ≡ g
 with-none g = ap (λ (ns : List ℕ). record { core = g .core; rest = pending (g .rest .depth) (g .rest .trades) ns (g .rest) }) (append-nil (g .rest .notices))
 
-pub quiet : {ys : List ℕ} → State ys → Becomes ys (with-notices [] (gateway (cell ys)))
-quiet {ys} st = record { state = st; gateway-is = sym (with-none (gateway (cell ys))) }
+pub quiet : {ys : List ℕ} → State ys → InPlace ys ys (with-notices [] (gateway (cell ys)))
+quiet {ys} st = record { becomes = record { state = st; gateway-is = sym (with-none (gateway (cell ys))) }; stays = stays-same (cell ys) }
 
 -- that money moved
 abbrev settled-notice : ℕ → Move → Store → List ℕ
@@ -93,17 +94,25 @@ module _ (xs : List ℕ) (st : State xs) (n : ℕ) (x : Move) (at : Found) (sees
   abbrev c : Change
   c = change-of n x
 
-  pub nothing-changed : at ≡ Nothing → Becomes xs (with-ledger (change c) (gateway s))
-  nothing-changed absent = record { state = st; gateway-is = sym (ap (λ (l : Ledger). with-ledger (λ _. l) (gateway s)) (unchanged (of n x) (ledger s) (none-there xs st n at sees absent))) }
+  pub nothing-changed : at ≡ Nothing → InPlace xs xs (with-ledger (change c) (gateway s))
+  nothing-changed absent =
+      record {
+        becomes = record { state = st; gateway-is = sym (ap (λ (l : Ledger). with-ledger (λ _. l) (gateway s)) (unchanged (of n x) (ledger s) (none-there xs st n at sees absent))) };
+        stays = stays-same s;
+      }
 
-  pub nothing-moved : at ≡ Nothing → Becomes xs (moved c (gateway s))
+  pub nothing-moved : at ≡ Nothing → InPlace xs xs (moved c (gateway s))
   nothing-moved absent =
       let gone = none-there xs st n at sees absent in
       record {
-        state = st;
-        gateway-is =
-            sym
-            (ap₂ (λ (ns : List ℕ) (l : Ledger). with-notices ns (with-ledger (λ _. l) (gateway s))) (notices-by n x (ledger s) gone) (unchanged (of n x) (ledger s) gone) ∙ with-none (gateway s));
+        becomes =
+            record {
+              state = st;
+              gateway-is =
+                  sym
+                  (ap₂ (λ (ns : List ℕ) (l : Ledger). with-notices ns (with-ledger (λ _. l) (gateway s))) (notices-by n x (ledger s) gone) (unchanged (of n x) (ledger s) gone) ∙ with-none (gateway s));
+            };
+        stays = stays-same s;
       }
 
   module _ (i : ℕ) (found : at ≡ At i) where
@@ -113,8 +122,8 @@ module _ (xs : List ℕ) (st : State xs) (n : ℕ) (x : Move) (at : Found) (sees
     abbrev was : Order
     was = order (s C.orders i)
 
-    pub changed : {ys : List ℕ} → Becomes ys (with-ledger (change (change-of (number-at i s) x)) (gateway s)) → Becomes ys (with-ledger (change c) (gateway s))
-    changed {ys} b = subst (λ k. Becomes ys (with-ledger (change (change-of k x)) (gateway s))) (row .row .1) b
+    pub changed : {ys : List ℕ} → InPlace xs ys (with-ledger (change (change-of (number-at i s) x)) (gateway s)) → InPlace xs ys (with-ledger (change c) (gateway s))
+    changed {ys} b = subst (λ k. InPlace xs ys (with-ledger (change (change-of k x)) (gateway s))) (row .row .1) b
 
     -- `new` is what it holds then
     module _ (new : ℕ) (holds : NewHold n x new (ledger s)) where
@@ -153,9 +162,9 @@ module _ (xs : List ℕ) (st : State xs) (n : ℕ) (x : Move) (at : Found) (sees
             let small : was .account < owner-slots = st .sound .held .rows i (row .row .0) (row .row .2) .owner-is in
             ap is-some (sym (wallet-at-row (was .account) t small)) ∙ ap (λ ws. is-some (getD ws (was .account) none)) e ∙ wallets-changed c (ledger s) (was .account)
 
-        module _ (room : length (change-notices c (ledger s)) + word s C.notice-rows ≤ most-notices) {ys : List ℕ} (did : Becomes ys (with-ledger (change (change-of (number-at i s) x)) (gateway s))) where
+        module _ (room : length (change-notices c (ledger s)) + word s C.notice-rows ≤ most-notices) {ys : List ℕ} (did : InPlace xs ys (with-ledger (change (change-of (number-at i s) x)) (gateway s))) where
           b : Becomes ys (with-ledger (change c) (gateway s))
-          b = changed did
+          b = changed did .becomes
 
           alike-y : Alike (cell ys)
           alike-y = alike (cell ys) (ap (λ (g : Gateway). g .core .ledger .wallets) (b .gateway-is))
@@ -166,13 +175,16 @@ module _ (xs : List ℕ) (st : State xs) (n : ℕ) (x : Move) (at : Found) (sees
           -- what the notice that money moved asks
           pub money-needs : State ys × (o .account < owner-slots) × (length (settled-notice (o .account) x (cell ys)) + word (cell ys) C.notice-rows ≤ most-notices)
           money-needs = (
-            did .state,
+            b .state,
             owner,
             omega
                 (arith, rows-y, ap (λ (ns : List ℕ). length ns) (noticed (cell ys) (cell ys) alike-y alike-y), length-append (settled-notice (o .account) x (cell ys)) (L.hold-notice (o .account) (int (o .hold)) (int new) (cell ys)), room),
           )
 
-          module _ {zs : List ℕ} (d : Becomes zs (with-notices (settled-notice (o .account) x (cell ys)) (gateway (cell ys)))) where
+          module _ {zs : List ℕ} (told : InPlace ys zs (with-notices (settled-notice (o .account) x (cell ys)) (gateway (cell ys)))) where
+            d : Becomes zs (with-notices (settled-notice (o .account) x (cell ys)) (gateway (cell ys)))
+            d = told .becomes
+
             alike-z : Alike (cell zs)
             alike-z = alike (cell zs) (ap (λ (g : Gateway). g .core .ledger .wallets) (d .gateway-is) ∙ ap (λ (g : Gateway). g .core .ledger .wallets) (b .gateway-is))
 
@@ -190,17 +202,21 @@ module _ (xs : List ℕ) (st : State xs) (n : ℕ) (x : Move) (at : Found) (sees
                   (arith, rows-z, ap (λ (ns : List ℕ). length ns) (noticed (cell ys) (cell zs) alike-y alike-z), length-append (settled-notice (o .account) x (cell ys)) (L.hold-notice (o .account) (int (o .hold)) (int new) (cell zs)), room),
             )
 
-            pub row-moved : {us : List ℕ} → Becomes us (with-notices (L.hold-notice (o .account) (int (o .hold)) (int new) (cell zs)) (gateway (cell zs))) → Becomes us (moved c (gateway s))
+            pub row-moved : {us : List ℕ} → InPlace zs us (with-notices (L.hold-notice (o .account) (int (o .hold)) (int new) (cell zs)) (gateway (cell zs))) → InPlace xs us (moved c (gateway s))
             row-moved e =
                 let sn = settled-notice (o .account) x (cell ys) in
                 let hn = L.hold-notice (o .account) (int (o .hold)) (int new) (cell zs) in
                 record {
-                  state = e .state;
-                  gateway-is =
-                      e .gateway-is ∙ ap (with-notices hn) (d .gateway-is ∙ ap (with-notices sn) (b .gateway-is))
-                      ∙ ap (λ (ns : List ℕ). record { core = with-ledger (change c) (gateway s) .core; rest = pending (gateway s .rest .depth) (gateway s .rest .trades) ns (gateway s .rest) })
-                      (append-assoc (gateway s .rest .notices) sn hn)
-                      ∙ ap (λ (ns : List ℕ). with-notices ns (with-ledger (change c) (gateway s))) (sym (noticed (cell ys) (cell zs) alike-y alike-z));
+                  becomes =
+                      record {
+                        state = e .becomes .state;
+                        gateway-is =
+                            e .becomes .gateway-is ∙ ap (with-notices hn) (d .gateway-is ∙ ap (with-notices sn) (b .gateway-is))
+                            ∙ ap (λ (ns : List ℕ). record { core = with-ledger (change c) (gateway s) .core; rest = pending (gateway s .rest .depth) (gateway s .rest .trades) ns (gateway s .rest) })
+                            (append-assoc (gateway s .rest .notices) sn hn)
+                            ∙ ap (λ (ns : List ℕ). with-notices ns (with-ledger (change c) (gateway s))) (sym (noticed (cell ys) (cell zs) alike-y alike-z));
+                      };
+                  stays = stays-then (did .stays) (stays-then (told .stays) (e .stays));
                 }
 
 pub ruleset applying = (did-fill, did-leaves, did-reprice, did-retire, nothing-changed, changed, arith)

@@ -1,5 +1,5 @@
 -- What a caller uses: what was weighed is the definitions' test, for one order and for two, also behind a new mark. Assumes nothing.
-use mathlib.Core.Path.{_≡_, refl, sym, ap, ap₂, subst, _∙_}
+use mathlib.Core.Path.{_≡_, refl, sym, ap, subst, _∙_}
 use mathlib.Core.Bool.{Bool, true, false, cond, _&&_}
 use mathlib.Core.Option.{Option, none, some, Option·map}
 use mathlib.Core.List.{List, [], _∷_, _++_}
@@ -11,8 +11,11 @@ use lib.IntN.{ℤ, _+ℤ_, _-ℤ_}
 use lib.ListN.{length, length-append, getD}
 use Rattle.words.specs.Words.{int}
 use Rattle.gateway.specs.Basics.{option, is-some}
+use Rattle.table.specs.Live.{look}
+use Rattle.table.specs.declared.Found.{Found}
 use Rattle.gateway.specs.Limits.{most-notices}
-use Rattle.gateway.specs.Ledger.{Order, Ledger, Change, mark-by, find, paper, wallet-of, change, same-side, held, fits, holds-fit}
+use Rattle.gateway.specs.Table.{update}
+use Rattle.gateway.specs.Ledger.{Order, Ledger, Change, number-of, with-leaves, mark-by, find, paper, wallet-of, change, same-side, held, fits, holds-fit}
 use Rattle.gateway.specs.Deliver.{order-notices, change-notices, notices-of}
 use Rattle.gateway.specs.Calls.{Gateway}
 use Rattle.gateway.specs.Invariant.{Ok}
@@ -20,10 +23,12 @@ use Rattle.gateway.proofs.Base.{split}
 use Rattle.gateway.proofs.Moves.{Of, names, find-changed, wallets-changed, marked-alike, changed-alike, holds-alike, notices-alike}
 use Rattle.store.specs.Cells as C
 use Rattle.store.specs.Layout.{cell}
-use Rattle.store.specs.View.{Store, word, side, ledger, gateway}
-use Rattle.sound.specs.Sound.{Becomes}
-use Rattle.live.specs.Live.{with-ledger}
+use Rattle.store.specs.View.{Store, word, side, order, ledger, gateway}
+use Rattle.orders.specs.Orders.{Sees}
+use Rattle.sound.specs.Sound.{Becomes, InPlace}
+use Rattle.sound.proofs.Kept.{seen-live}
 use Rattle.holds.specs.declared.Move.{Move}
+use Rattle.holds.specs.declared.Move.the-variants.{Leaves}
 use Rattle.holds.specs.declared.Shift.{Shift}
 use Rattle.holds.specs.Holds.{change-of, moved, Part, part-of, paper-order, part, NewHold, Weighs, Weighed, shift-fits, few-notices, pair-fits}
 use Rattle.holds.proofs.Totals as Totals
@@ -118,14 +123,31 @@ kept-hold n x w l h i y ne = hold-same n x w l (change (change-of i y) l) (find-
 pub kept-hold-at : (n : ℕ) (x : Move) (w : ℕ) (xs : List ℕ) {ys : List ℕ} → NewHold n x w (ledger (cell xs)) → (i : ℕ) (y : Move) → (i ≡ n → ⊥) → Becomes ys (moved (change-of i y) (gateway (cell xs))) → NewHold n x w (ledger (cell ys))
 kept-hold-at n x w xs h i y ne b = subst (λ g. NewHold n x w (g .core .ledger)) (sym (b .gateway-is)) (kept-hold n x w (ledger (cell xs)) h i y ne)
 
+-- it is found where it was
+pub kept-live : {xs ys : List ℕ} {g : Gateway} (b : InPlace xs ys g) (n : ℕ) (at : Found) (i : ℕ) (y : Move) → (i ≡ n → ⊥) → g .core .ledger .orders ≡ change (change-of i y) (ledger (cell xs)) .orders →
+    Sees C.order-live order number-of (cell xs) n at → Sees C.order-live order number-of (cell ys) n at
+kept-live {xs} b n at i y ne e = seen-live b n at (ap is-some (ap (find n) e ∙ find-changed i n ne (of i y) (ledger (cell xs))))
+
+-- and so is an order whose own open quantity changed
+find-updated : (n : ℕ) (f : Order → Order) → ((o : Order) → f o .number ≡ o .number) → (os : List Order) → is-some (find n (update number-of n f os)) ≡ is-some (find n os)
+unfolding look update
+find-updated n f h [] = refl
+find-updated n f h (o ∷ os) =
+    split
+    (λ b. (eqb (o .number) n ≡ b) → is-some (cond (eqb (cond b (f o) o .number) n) (some (cond b (f o) o)) (find n (update number-of n f os))) ≡ is-some (cond b (some o) (find n os)))
+    (eqb (o .number) n)
+    (λ _ e. ap (λ c. is-some (cond c (some (f o)) (find n (update number-of n f os)))) (ap (λ k. eqb k n) (h o) ∙ e))
+    (λ _ e. ap (λ c. is-some (cond c (some o) (find n (update number-of n f os)))) e ∙ find-updated n f h os)
+    refl
+
+pub left-live : {xs ys : List ℕ} (n v : ℕ) (b : InPlace xs ys (moved (change-of n (Leaves v)) (gateway (cell xs)))) (at : Found) →
+    Sees C.order-live order number-of (cell xs) n at → Sees C.order-live order number-of (cell ys) n at
+unfolding change
+left-live {xs} n v b at = seen-live b n at (find-updated n (with-leaves v) (λ o. refl) (ledger (cell xs) .orders))
+
 pub weighs-after : {j : ℕ} {y : Move} {t : Shift} {g : Gateway} → Weighs j y t g → (i : ℕ) (x : Move) → (i ≡ j → ⊥) → Weighs j y t (moved (change-of i x) g)
 weighs-after {j} {g = g} w i x ne =
     weighs-same w (moved (change-of i x) g) (find-changed i j ne (of i x) (g .core .ledger)) (wallets-changed (change-of i x) (g .core .ledger))
-
--- and where the mark has moved
-pub weighs-marked : {n : ℕ} {x : Move} {s : Shift} {g : Gateway} → Weighs n x s g → (a b : ℕ) (p : ℤ) → Weighs n x s (with-ledger (change (mark-by a b p)) g)
-unfolding change
-weighs-marked {g = g} w a b p = weighs-same w (with-ledger (change (mark-by a b p)) g) refl (λ i. refl)
 
 -- at most two notices
 pub weighs-few : {n : ℕ} {x : Move} {s : Shift} {g : Gateway} → Weighs n x s g → s .notices ≤ 2
@@ -137,10 +159,6 @@ weighs-few {n} {x} {s} {g} w = let e = w .noticed in omega (arith, ap length (no
 
 pub weighed : (xs : List ℕ) (i : ℕ) (x : Move) (h : Shift) → Weighs i x h (gateway (cell xs)) → Weighed h (ledger (cell xs))
 weighed xs i x h w = record { owned = w .owned; few = omega (arith, weighs-few w) }
-
--- in the bytes
-pub weighs-at : {n : ℕ} {x : Move} {s : Shift} {g : Gateway} {ys : List ℕ} → Weighs n x s g → Becomes ys g → Weighs n x s (gateway (cell ys))
-weighs-at {n} {x} {s} w b = subst (λ h. Weighs n x s h) (sym (b .gateway-is)) w
 
 -- ---- code 5
 
@@ -167,17 +185,6 @@ few-noticed {h = h} g w e = omega (arith, w .noticed, leb-true (h .notices + len
 pub noticed-room : (xs : List ℕ) (x : Change) → length (change-notices x (gateway (cell xs) .core .ledger)) + length (gateway (cell xs) .rest .notices) ≤ most-notices →
     length (change-notices x (ledger (cell xs))) + word (cell xs) C.notice-rows ≤ most-notices
 noticed-room xs x l = omega (arith, notices-count (cell xs), l)
-
-module _ (xs : List ℕ) {n : ℕ} {x : Move} {s : Shift} (w : Weighs n x s (gateway (cell xs))) where
-  -- what is asked to apply it
-  pub apply-room : s .notices + word (cell xs) C.notice-rows ≤ most-notices → length (change-notices (change-of n x) (ledger (cell xs))) + word (cell xs) C.notice-rows ≤ most-notices
-  apply-room h = omega (arith, w .noticed)
-
-  -- and what that leaves
-  pub rows-after : {ys : List ℕ} → Becomes ys (moved (change-of n x) (gateway (cell xs))) → word (cell ys) C.notice-rows ≡ word (cell xs) C.notice-rows + s .notices
-  rows-after {ys} b =
-      sym (notices-count (cell ys)) ∙ ap (λ (g : Gateway). length (g .rest .notices)) (b .gateway-is) ∙ length-append (gateway (cell xs) .rest .notices) (change-notices (change-of n x) (ledger (cell xs)))
-      ∙ ap₂ (λ i j. i + j) (notices-count (cell xs)) (w .noticed)
 
 -- ---- code 7
 
@@ -206,10 +213,3 @@ module _ {i j : ℕ} {x y : Move} {s t : Shift} {g : Gateway} (w : Weighs i x s 
         let e = ap length (notices-alike (change-of i x) (marked-alike a b p l)) in
         let f = ap length (notices-alike (change-of j y) (changed-alike (change-of i x) (marked-alike a b p l))) in
         omega (arith, length-append first (second ++ []), length-append second [], e, f, w .noticed, two-noticed)
-
--- the mark alone changes neither the totals nor what is noticed
-pub marked-fits : (a b : ℕ) (p : ℤ) (l : Ledger) → holds-fit (change (mark-by a b p) l) ≡ holds-fit l
-marked-fits a b p l = holds-alike (marked-alike a b p l)
-
-pub marked-notices : (a b : ℕ) (p : ℤ) (x : Change) (l : Ledger) → change-notices x (change (mark-by a b p) l) ≡ change-notices x l
-marked-notices a b p x l = notices-alike x (marked-alike a b p l)

@@ -33,7 +33,7 @@ use Rattle.live.proofs.Notices.{stays, differs}
 use Rattle.holds.specs.declared.Move.{Move}
 use Rattle.holds.specs.declared.Move.the-variants.{Fill, Leaves, Reprice, Retire}
 use Rattle.holds.specs.declared.Shift.{Shift}
-use Rattle.holds.specs.Holds.{change-of, part-of, paper-order, NewHold, Weighs, nothing, hold-after-word, settles, notice-count, shift-of}
+use Rattle.holds.specs.Holds.{change-of, part-of, paper-order, leaving, NewHold, Weighs, nothing, hold-after-word, settles, notice-count, shift-of}
 
 pub of : (n : ℕ) (x : Move) → Of n (change-of n x)
 of n (Fill p q v) = fills (int p) q v
@@ -179,11 +179,11 @@ module _ (xs : List ℕ) (st : State xs) (n : ℕ) (at : Found) (sees : Sees C.o
           after-is = new-is was (there .order)
 
       -- what it holds then, in words
-      pub left-holds : (v r : ℕ) → r ≡ L.hold-word (o .side) (o .priced) (o .price) v → NewHold n (Leaves v) r (ledger s)
-      left-holds v r e = holds-row (Leaves v) r (e ∙ ap (λ (w : Live). L.hold-word (w .side) (w .priced) (w .price) v) o-is)
-
-      pub repriced-holds : (p v r : ℕ) → r ≡ L.hold-word (o .side) 1 p v → NewHold n (Reprice p v) r (ledger s)
-      repriced-holds p v r e = holds-row (Reprice p v) r (e ∙ ap (λ (w : Live). L.hold-word (w .side) 1 p v) o-is)
+      pub left-holds : (b : Bool) (c q p v r : ℕ) → c ≡ cond b 1 (o .priced) → q ≡ cond b p (o .price) → r ≡ L.hold-word (o .side) c q v → NewHold n (leaving b p v) r (ledger s)
+      left-holds b c q p v r e f g =
+          holds-row (leaving b p v) r
+          (g ∙ ap₂ (λ c q. L.hold-word (o .side) c q v) e f ∙ ap (λ (w : Live). L.hold-word (w .side) (cond b 1 (w .priced)) (cond b p (w .price)) v) o-is
+          ∙ split (λ b. L.hold-word (s C.orders i C.order-side) (cond b 1 (s C.orders i C.order-priced)) (cond b p (s C.orders i C.order-price)) v ≡ hold-after-word (leaving b p v) (s C.orders i)) b (λ _. refl) (λ _. refl))
 
 -- ---- in the arms of a match
 
@@ -200,4 +200,4 @@ module _ (n : ℕ) (x : Move) (l : Ledger) (w : ℕ) where
 pub after-retire : (n : ℕ) (x : Move) (l : Ledger) → x ≡ Retire → NewHold n x 0 l
 after-retire n x l e = subst (λ y. NewHold n y 0 l) (sym e) (λ o _. int-zero)
 
-pub ruleset weighing = (settles-as, count-same, count-other, row-weighed, holds-nothing, weighs-nothing, row-small, owner-small, live-at, weighs-row, left-holds, repriced-holds, after-fill, after-leaves, after-reprice, after-retire, arith)
+pub ruleset weighing = (settles-as, count-same, count-other, row-weighed, holds-nothing, weighs-nothing, row-small, owner-small, live-at, weighs-row, left-holds, after-fill, after-leaves, after-reprice, after-retire, arith)

@@ -61,6 +61,11 @@ pub record Owned (s : Shift) (l : Ledger) : Type 0 where
   pub inside : s .account < owner-slots
   pub has-wallet : s .funded ≡ true → is-some (getD (l .wallets) (s .account) none) ≡ true
 
+-- the order has v open, at the price p where b says so
+abbrev pub leaving : Bool → ℕ → ℕ → Move
+leaving true p v = Reprice p v
+leaving false p v = Leaves v
+
 -- w is what the live order n holds after x
 abbrev pub NewHold : ℕ → Move → ℕ → Ledger → Type 0
 NewHold n x w l = (o : Order) → find n (l .orders) ≡ some o → int w ≡ hold-after (change-of n x) o

@@ -15,7 +15,7 @@ ghost use Rattle.store.specs.Cells as C;
 ghost use Rattle.store.specs.Layout.{cell};
 ghost use Rattle.store.specs.View.{word, order, ledger, gateway};
 ghost use Rattle.orders.specs.Orders.{Sees, number-at};
-ghost use Rattle.sound.specs.Sound.{State, Becomes};
+ghost use Rattle.sound.specs.Sound.{State, InPlace};
 ghost use Rattle.live.specs.Live.{At, with-ledger};
 ghost use Rattle.outcome.specs.Between.{Between};
 ghost use Rattle.holds.specs.declared.Move.{Move};
@@ -40,26 +40,16 @@ pub struct Shift {
     pub funded: bool,
 }
 
-// What the order `id`, which is at `at`, holds with this much open: of no live order 0.
-pub fn left(m: &[u8], id: u64, at: Found, leaves: u64) -> u64
+// What the order `id`, which is at `at`, holds with this much open: where `repriced`, at this price, else at its own. Of no live order 0.
+pub fn left(m: &[u8], id: u64, at: Found, repriced: bool, price: u64, leaves: u64) -> u64
     requires { ⌜ State (now m) × Sees C.order-live order number-of (cell (now m)) id at ⌝ }
-    ensures { λ r. ⌜ P.NewHold id (Leaves leaves) r (ledger (cell (now (m .entry)))) ⌝ }
+    ensures { λ r. ⌜ P.NewHold id (P.leaving repriced price leaves) r (ledger (cell (now (m .entry)))) ⌝ }
 {
     if let Found::At(i) = at {
         let o = orders::live_at(m, i);
-        return live::hold_of(o.side, o.priced, o.price, leaves);
-    }
-    0
-}
-
-// And at another price.
-pub fn repriced(m: &[u8], id: u64, at: Found, price: u64, leaves: u64) -> u64
-    requires { ⌜ State (now m) × Sees C.order-live order number-of (cell (now m)) id at ⌝ }
-    ensures { λ r. ⌜ P.NewHold id (Reprice price leaves) r (ledger (cell (now (m .entry)))) ⌝ }
-{
-    if let Found::At(i) = at {
-        let o = orders::live_at(m, i);
-        return live::hold_of(o.side, 1, price, leaves);
+        let flag = live::choose(repriced, 1, o.priced);
+        let p = live::choose(repriced, price, o.price);
+        return live::hold_of(o.side, flag, p, leaves);
     }
     0
 }
@@ -70,9 +60,9 @@ fn after(m: &[u8], id: u64, at: Found, x: Move) -> u64
     ensures { λ r. ⌜ P.NewHold id x r (ledger (cell (now (m .entry)))) ⌝ }
 {
     match x {
-        Move::Fill { leaves, .. } => left(m, id, at, leaves),
-        Move::Leaves { leaves } => left(m, id, at, leaves),
-        Move::Reprice { price, leaves } => repriced(m, id, at, price, leaves),
+        Move::Fill { leaves, .. } => left(m, id, at, false, 0, leaves),
+        Move::Leaves { leaves } => left(m, id, at, false, 0, leaves),
+        Move::Reprice { price, leaves } => left(m, id, at, true, price, leaves),
         Move::Retire => 0,
     }
 }
@@ -209,7 +199,7 @@ pub fn few(m: &[u8], notices: u64) -> bool
 // The order `id`, which is at `at`, traded `qty` at `price` and has `leaves` open: it holds `new` then. The change and its notices.
 pub fn fill(m: &mut [u8], id: u64, at: Found, new: u64, price: u64, qty: u64, leaves: u64)
     requires { ⌜ State (now m) × Sees C.order-live order number-of (cell (now m)) id at × P.NewHold id (Fill price qty leaves) new (ledger (cell (now m))) × (length (change-notices (P.change-of id (Fill price qty leaves)) (ledger (cell (now m)))) + word (cell (now m)) C.notice-rows ≤ most-notices) ⌝ }
-    ensures { λ r. ⌜ Becomes (now (m .exit)) (P.moved (P.change-of id (Fill price qty leaves)) (gateway (cell (now (m .entry))))) ⌝ }
+    ensures { λ r. ⌜ InPlace (now (m .entry)) (now (m .exit)) (P.moved (P.change-of id (Fill price qty leaves)) (gateway (cell (now (m .entry))))) ⌝ }
 {
     if let Found::At(i) = at {
         let o = orders::live_at(m, i);
@@ -222,7 +212,7 @@ pub fn fill(m: &mut [u8], id: u64, at: Found, new: u64, price: u64, qty: u64, le
 // It has `leaves` open.
 pub fn set_leaves(m: &mut [u8], id: u64, at: Found, new: u64, leaves: u64)
     requires { ⌜ State (now m) × Sees C.order-live order number-of (cell (now m)) id at × P.NewHold id (Leaves leaves) new (ledger (cell (now m))) × (length (change-notices (P.change-of id (Leaves leaves)) (ledger (cell (now m)))) + word (cell (now m)) C.notice-rows ≤ most-notices) ⌝ }
-    ensures { λ r. ⌜ Becomes (now (m .exit)) (P.moved (P.change-of id (Leaves leaves)) (gateway (cell (now (m .entry))))) ⌝ }
+    ensures { λ r. ⌜ InPlace (now (m .entry)) (now (m .exit)) (P.moved (P.change-of id (Leaves leaves)) (gateway (cell (now (m .entry))))) ⌝ }
 {
     if let Found::At(i) = at {
         let o = orders::live_at(m, i);
@@ -234,7 +224,7 @@ pub fn set_leaves(m: &mut [u8], id: u64, at: Found, new: u64, leaves: u64)
 // A modify gave it this price, and `leaves` open.
 pub fn reprice(m: &mut [u8], id: u64, at: Found, new: u64, price: u64, leaves: u64)
     requires { ⌜ State (now m) × Sees C.order-live order number-of (cell (now m)) id at × P.NewHold id (Reprice price leaves) new (ledger (cell (now m))) × (length (change-notices (P.change-of id (Reprice price leaves)) (ledger (cell (now m)))) + word (cell (now m)) C.notice-rows ≤ most-notices) ⌝ }
-    ensures { λ r. ⌜ Becomes (now (m .exit)) (P.moved (P.change-of id (Reprice price leaves)) (gateway (cell (now (m .entry))))) ⌝ }
+    ensures { λ r. ⌜ InPlace (now (m .entry)) (now (m .exit)) (P.moved (P.change-of id (Reprice price leaves)) (gateway (cell (now (m .entry))))) ⌝ }
 {
     if let Found::At(i) = at {
         let o = orders::live_at(m, i);
@@ -246,7 +236,7 @@ pub fn reprice(m: &mut [u8], id: u64, at: Found, new: u64, price: u64, leaves: u
 // It has left the book.
 pub fn retire(m: &mut [u8], id: u64, at: Found)
     requires { ⌜ State (now m) × Sees C.order-live order number-of (cell (now m)) id at × (length (change-notices (P.change-of id Retire) (ledger (cell (now m)))) + word (cell (now m)) C.notice-rows ≤ most-notices) ⌝ }
-    ensures { λ r. ⌜ Becomes (now (m .exit)) (P.moved (P.change-of id Retire) (gateway (cell (now (m .entry))))) ⌝ }
+    ensures { λ r. ⌜ InPlace (now (m .entry)) (now (m .exit)) (P.moved (P.change-of id Retire) (gateway (cell (now (m .entry))))) ⌝ }
 {
     if let Found::At(i) = at {
         let o = orders::live_at(m, i);
@@ -268,7 +258,7 @@ pub fn weigh_move(m: &[u8], id: u64, at: Found, x: Move) -> Shift
 
 fn change_row(m: &mut [u8], i: usize, x: Move, new: u64)
     requires { ⌜ State (now m) × At i (cell (now m)) × (new ≡ P.hold-after-word x (cell (now m) C.orders i)) ⌝ }
-    ensures { λ r. ⌜ Becomes (now (m .exit)) (with-ledger (change (P.change-of (number-at i (cell (now (m .entry)))) x)) (gateway (cell (now (m .entry))))) ⌝ }
+    ensures { λ r. ⌜ InPlace (now (m .entry)) (now (m .exit)) (with-ledger (change (P.change-of (number-at i (cell (now (m .entry)))) x)) (gateway (cell (now (m .entry))))) ⌝ }
 {
     match x {
         Move::Fill { price, qty, leaves } => live::traded(m, i, price, qty, leaves, new),
@@ -281,7 +271,7 @@ fn change_row(m: &mut [u8], i: usize, x: Move, new: u64)
 // The change without its notices: a replay leaves none.
 pub fn change(m: &mut [u8], id: u64, at: Found, x: Move)
     requires { ⌜ State (now m) × Sees C.order-live order number-of (cell (now m)) id at ⌝ }
-    ensures { λ r. ⌜ Becomes (now (m .exit)) (with-ledger (change (P.change-of id x)) (gateway (cell (now (m .entry))))) ⌝ }
+    ensures { λ r. ⌜ InPlace (now (m .entry)) (now (m .exit)) (with-ledger (change (P.change-of id x)) (gateway (cell (now (m .entry))))) ⌝ }
 {
     let new = after(m, id, at, x);
     if let Found::At(i) = at {

@@ -1,10 +1,10 @@
 -- What each operation makes of a side's levels, from the laws of `table` and of the layout. Assumes nothing.
 use mathlib.Core.Path.{_≡_, refl, sym, ap, ap₂, subst, _∙_}
-use mathlib.Core.Logic.{inr, ⊎-elim}
-use mathlib.Core.Bool.{true, false, not}
+use mathlib.Core.Logic.{_⊎_, inl, inr, ⊎-elim}
+use mathlib.Core.Bool.{true, false, cond, not}
 use mathlib.Core.List.{List, [], _∷_}
 use mathlib.Core.Option.{Option, none, some}
-use Prim.Native.Nat.{ℕ, suc, _+_, _*_, _-_, _≤_, _<_}
+use Prim.Native.Nat.{ℕ, suc, _+_, _*_, _-_, _/_, _%_, _≤_, _<_}
 use native.Mathlib.Nat.{eq-or-lt-of-le}
 use native.Mathlib.Omega.{arith}
 use borrow.Author.Tests.{eq-eqb, ne-eqb, lt-ltb, le-ltb}
@@ -25,12 +25,15 @@ use Rattle.table.proofs.Readers.{row-changed, row-other, opened-gap, closed-gap
 use Rattle.gateway.specs.Limits.{most-levels}
 use Rattle.store.specs.Cells as C
 use Rattle.store.specs.Layout.{blocks, start, spot, cell, store, Cell, Holds, Set, starts, cells}
-use Rattle.store.specs.View.{word}
-use Rattle.store.proofs.Places.{header-cell, bid-cell, ask-cell, cell-block, cell-same, cell-other}
+use Rattle.store.specs.View.{Store, word, Is}
+use Rattle.store.proofs.Places.{header-cell, bid-cell, ask-cell, bid-map-cell, ask-map-cell, cell-block, cell-same, cell-other}
 use Rattle.levels.specs.declared.Row.{Row}
 use Rattle.levels.specs.Rows.{widths, values, made, read}
-use Rattle.levels.specs.Levels.{block, used-cell, size-cell, base, key, orders, row, used, size, entries, grown, opened, one-more, changed, one-less, added, shown, removed, Joins, CanAdd, CanShow, CanRemove, Table, Recounted, Did, Sought, IsFirst, IsAt, Place, Alive, Free}
+use Rattle.levels.specs.Levels.{block, map-block, used-cell, size-cell, base, key, orders, row, used, size, bits, is-level, entries, grown, opened, one-more, changed, one-less, added, shown, removed, Joins, CanAdd, CanShow, CanRemove, Other, Table, Recounted, Did, Sought, IsFirst, IsAt, Place, Alive, Free}
 use Rattle.words.specs.Words.{modulus}
+use Rattle.bitmap.specs.Bitmap.{put-bit, Map, Mapped, Nearest}
+use Rattle.bitmap.proofs.Laws.{near-up, near-down, near-here, same-bit, put-block, put-same, put-other}
+use Rattle.bitmap.proofs.Mapped.{mapped-ext, mapped-one}
 
 -- ---- the block in bytes
 
@@ -63,6 +66,21 @@ apart Sell e = omega arith
 pub block-cell : (s : Side) (i k : ℕ) → i < most-levels → k < 4 → Cell (block s) i k
 block-cell Buy i k h l = bid-cell i k h l
 block-cell Sell i k h l = ask-cell i k h l
+
+pub map-row : (s : Side) (i : ℕ) → i < 8 → Cell (map-block s) i C.map-bits
+map-row Buy i h = bid-map-cell i C.map-bits h (omega arith)
+map-row Sell i h = ask-map-cell i C.map-bits h (omega arith)
+
+pub map-cell : (s : Side) (j : ℕ) → j < most-levels → Cell (map-block s) (j / 64) C.map-bits
+map-cell s j h = map-row s (j / 64) (omega arith)
+
+map-not-block : (s : Side) → map-block s ≡ block s → ⊥
+map-not-block Buy e = omega arith
+map-not-block Sell e = omega arith
+
+pub map-not-header : (s : Side) → map-block s ≡ C.header → ⊥
+map-not-header Buy e = omega arith
+map-not-header Sell e = omega arith
 
 -- rows of a state are in its slice
 pub base-fits : (s : Side) → base s + 16384 ≤ 8 * cells
@@ -110,6 +128,50 @@ read-local = local-wider (omega arith) (local-map made (gets-local widths))
 elsewhere : (s : Side) {xs ys : List ℕ} {b i k : ℕ} → Outside (base s) (base s + 16384) xs ys → Cell b i k → (b ≡ block s → ⊥) → cell ys b i k ≡ cell xs b i k
 elsewhere s p c ne = cell-block (block s) (block-below s) (rw (block-from s, block-to s) p) c ne
 
+bits-elsewhere : (s : Side) {xs ys : List ℕ} → Outside (base s) (base s + 16384) xs ys → (j : ℕ) → j < most-levels → bits s (cell ys) j ≡ bits s (cell xs) j
+bits-elsewhere s {xs} {ys} p j h = same-bit (map-block s) (cell ys) (cell xs) j (elsewhere s p (map-cell s j h) (map-not-block s))
+
+-- ---- which rows are levels
+
+-- a row is as live as it was
+abbrev pub Alike : (ℕ → Row) → (ℕ → Row) → ℕ → Type 0
+Alike f g j = (g j .orders ≡ f j .orders) ⊎ ((0 < g j .orders) × (0 < f j .orders))
+
+module _ (f : ℕ → Row) (n j : ℕ) where
+  level-unused : n ≤ j → is-level f n j ≡ 0
+  level-unused h = rw (le-ltb j n h) refl
+
+  level-dead : f j .orders ≡ 0 → is-level f n j ≡ 0
+  level-dead z = ⊎-elim (λ (h : j < n). rw (lt-ltb j n h, eq-eqb (f j .orders) 0 z) refl) level-unused (lt-or-le j n)
+
+  level-live : j < n → 0 < f j .orders → is-level f n j ≡ 1
+  level-live h l = rw (lt-ltb j n h, ne-eqb (f j .orders) 0 (λ e. omega arith)) refl
+
+  level-taken : is-level f n j ≡ 1 → (j < n) × (0 < f j .orders)
+  level-taken e =
+      ⊎-elim
+      (λ (h : j < n).
+      (h, ⊎-elim (λ (z : f j .orders ≡ 0). absurd (omega (arith, e, level-dead z))) (λ (z : f j .orders ≡ 0 → ⊥). omega (arith, z)) (same? (f j .orders) 0)))
+      (λ h. absurd (omega (arith, e, level-unused h)))
+      (lt-or-le j n)
+
+  level-free : j < n → is-level f n j ≡ 0 → f j .orders ≡ 0
+  level-free h e = ⊎-elim (λ (z : f j .orders ≡ 0). z) (λ (z : f j .orders ≡ 0 → ⊥). absurd (omega (arith, e, level-live h (omega (arith, z))))) (same? (f j .orders) 0)
+
+level-inside : (f : ℕ → Row) (n m j : ℕ) → j < n → j < m → is-level f n j ≡ is-level f m j
+level-inside f n m j h l = ap (λ b. cond b (cond (eqb (f j .orders) 0) 0 1) 0) (lt-ltb j n h ∙ sym (lt-ltb j m l))
+
+pub levels-alike : (f g : ℕ → Row) (n j : ℕ) → (j < n → Alike f g j) → is-level g n j ≡ is-level f n j
+levels-alike f g n j h =
+    ⊎-elim
+    (λ (l : j < n).
+    ⊎-elim
+    (λ (e : g j .orders ≡ f j .orders). ap (λ x. cond (ltb j n) (cond (eqb x 0) 0 1) 0) e)
+    (λ (p : (0 < g j .orders) × (0 < f j .orders)). level-live g n j l (p .0) ∙ sym (level-live f n j l (p .1)))
+    (h l))
+    (λ l. level-unused g n j l ∙ sym (level-unused f n j l))
+    (lt-or-le j n)
+
 -- ---- what is found
 
 module _ (s : Side) {xs : List ℕ} (t : Table s xs) {k i : ℕ} (b : Sought s xs k i) where
@@ -125,12 +187,13 @@ module _ (s : Side) {xs : List ℕ} (t : Table s xs) {k i : ℕ} (b : Sought s x
 
 module _ (s : Side) {xs : List ℕ} (t : Table s xs) where
   -- the block changed, and then the counts
-  recounted-did : {ys zs : List ℕ} {l : List Row} (u v : ℕ) → Outside (base s) (base s + 16384) xs ys → Recounted s ys zs u v → u ≤ most-levels →
-      Ascends key (row s (cell ys)) u → live orders (row s (cell ys)) u ≡ l → v ≡ length l → Did s xs zs l
+  recounted-did : {ys zs : List ℕ} {l : List Row} (u v d x : ℕ) → Outside (base s) (base s + 16384) xs ys → Recounted s ys zs u v d x → u ≤ most-levels →
+      Ascends key (row s (cell ys)) u → live orders (row s (cell ys)) u ≡ l → v ≡ length l →
+      is-level (row s (cell ys)) u d ≡ x → ((j : ℕ) → j < most-levels → (j ≡ d → ⊥) → is-level (row s (cell ys)) u j ≡ is-level (row s (cell xs)) (used s (cell xs)) j) → Did s xs zs l
   unfolding entries
-  recounted-did {ys} {zs} {l} u v q w few asc e n =
+  recounted-did {ys} {zs} {l} u v d x q w few asc e n one others =
       let mine : (i k : ℕ) → i < u → k < 4 → cell zs (block s) i k ≡ cell ys (block s) i k =
-      λ i k h m. w .kept (block s) i k (block-cell s i k (omega arith) m) (λ a _. header-not-block s (sym a), λ a _. header-not-block s (sym a)) in
+      λ i k h m. w .kept (block s) i k (block-cell s i k (omega arith) m) (λ a. map-not-block s (sym a)) (λ a _. header-not-block s (sym a), λ a _. header-not-block s (sym a)) in
       let same : (j : ℕ) → j < u → row s (cell zs) j ≡ row s (cell ys) j =
       λ j h. λ z. record { key = mine j 0 h (omega arith) z; qty = mine j 1 h (omega arith) z; orders = mine j 2 h (omega arith) z } in
       let list : entries s (cell zs) ≡ l = rw (w .used-is) (live-ext orders (row s (cell ys)) (row s (cell zs)) u same ∙ e) in
@@ -140,9 +203,14 @@ module _ (s : Side) {xs : List ℕ} (t : Table s xs) where
           few = rw (w .used-is) few;
           asc = rw (w .used-is) (ascends-ext key (row s (cell ys)) (row s (cell zs)) u (λ j h. ap key (same j h)) asc);
           counted = w .size-is ∙ n ∙ ap length (sym list);
+          mapped =
+              rw (w .used-is)
+              (mapped-one (map-block s) most-levels (cell xs) (cell zs) d (w .bit-is ∙ sym (levels-alike (row s (cell ys)) (row s (cell zs)) u d (λ h. inl (ap orders (same d h))) ∙ one))
+              (λ j h ne. w .bits-are j h ne ∙ bits-elsewhere s q j h)
+              (λ j h ne. levels-alike (row s (cell ys)) (row s (cell zs)) u j (λ l. inl (ap orders (same j l))) ∙ others j h ne) (t .mapped));
         };
         list = list;
-        kept = λ b i k z ne no. w .kept b i k z no ∙ elsewhere s q z ne;
+        kept = λ b i k z ne nm no. w .kept b i k z nm no ∙ elsewhere s q z ne;
       }
 
   module _ {ys : List ℕ} (i : ℕ) (r : Row) (h : i < used s (cell xs)) (f : Fit widths (values r)) (w : ys ≡ puts widths xs (base s + 32 * i) (values r)) where
@@ -167,6 +235,13 @@ module _ (s : Side) {xs : List ℕ} (t : Table s xs) where
         let c : word (cell ys) (used-cell s) ≡ word (cell xs) (used-cell s) = elsewhere s block-out (used-place s) (header-not-block s) in
         let n : word (cell ys) (size-cell s) ≡ word (cell xs) (size-cell s) = elsewhere s block-out (size-place s) (header-not-block s) in
         let same : row s (cell ys) i .key ≡ row s (cell xs) i .key = ap key row-here ∙ e in
+        let one-live : (j : ℕ) → j < used s (cell xs) → Alike (row s (cell xs)) (row s (cell ys)) j =
+        λ j h.
+        ⊎-elim
+        (λ (q : j ≡ i).
+        inr (omega (arith, new, ap (λ y. row s (cell ys) y .orders) q, ap orders row-here), omega (arith, old, ap (λ y. row s (cell xs) y .orders) q)))
+        (λ ne. inl (ap orders (row-only .other j h ne)))
+        (same? j i) in
         let list : entries s (cell ys) ≡ replace key r (entries s (cell xs)) =
         rw c
         (live-replace orders key row-only (t .asc) same old (omega (arith, new, ap orders row-here)) ∙ ap (λ x. replace key x (entries s (cell xs))) row-here) in
@@ -176,21 +251,24 @@ module _ (s : Side) {xs : List ℕ} (t : Table s xs) where
             few = rw c (t .few);
             asc = rw c (ascends-change key row-only same (t .asc));
             counted = n ∙ t .counted ∙ sym (ap length list ∙ replace-length key r (entries s (cell xs)));
+            mapped = rw c (mapped-ext (map-block s) most-levels (cell xs) (cell ys) (bits-elsewhere s block-out) (λ j h. levels-alike (row s (cell xs)) (row s (cell ys)) (used s (cell xs)) j (one-live j)) (t .mapped));
           };
           list = list;
-          kept = λ b j k z ne no. elsewhere s block-out z ne;
+          kept = λ b j k z ne nm no. elsewhere s block-out z ne;
         }
 
     -- a level goes: its row stays, dead
     pub struck-did : {zs : List ℕ} (u v : ℕ) → 0 < row s (cell xs) i .orders → r .orders ≡ 0 → r .key ≡ row s (cell xs) i .key →
-        u ≡ used s (cell xs) → v ≡ size s (cell xs) → Recounted s ys zs u (v - 1) → Did s xs zs (without key (r .key) (entries s (cell xs)))
+        u ≡ used s (cell xs) → v ≡ size s (cell xs) → Recounted s ys zs u (v - 1) i 0 → Did s xs zs (without key (r .key) (entries s (cell xs)))
     unfolding entries
     struck-did u v old dead e u-is v-is c =
         let same : row s (cell ys) i .key ≡ row s (cell xs) i .key = ap key row-here ∙ e in
         let gone : row s (cell ys) i .orders ≡ 0 = ap orders row-here ∙ dead in
         let list : _≡_ {A = List Row} _ _ = live-strike orders key row-only (t .asc) gone ∙ ap (λ k. without key k (entries s (cell xs))) (sym e) in
-        recounted-did (used s (cell xs)) (size s (cell xs) - 1) block-out (rw (u-is, v-is) at c) (t .few) (ascends-change key row-only same (t .asc)) list
+        recounted-did (used s (cell xs)) (size s (cell xs) - 1) i 0 block-out (rw (u-is, v-is) at c) (t .few) (ascends-change key row-only same (t .asc)) list
         (omega (arith, t .counted, ap length list, live-struck orders key row-only (t .asc) old gone))
+        (level-dead (row s (cell ys)) (used s (cell xs)) i gone)
+        (λ j g ne. levels-alike (row s (cell xs)) (row s (cell ys)) (used s (cell xs)) j (λ l. inl (ap orders (row-only .other j l ne))))
 
 never : {r : Row} {m : Option Row} → m ≡ some r → m ≡ none → ⊥
 never p q = let z : _≡_ {A = ℕ} 0 1 = cc in omega (arith, z)
@@ -260,19 +338,54 @@ module _ (s : Side) {xs : List ℕ} (ys : List ℕ) {zs : List ℕ} {k i d : ℕ
       (eq-or-lt-of-le b))
       (lt-or-le a i)
 
-  up-did : {us : List ℕ} (n v : ℕ) → n ≡ used s (cell xs) → v ≡ size s (cell xs) → Recounted s zs us (grown n d) (v + 1) → Did s xs us (insert key (opened k x) (entries s (cell xs)))
+  -- the rows from i up to d are live, and so were those before d
+  up-live : (j : ℕ) → i ≤ j → j ≤ d → 0 < row s (cell zs) j .orders
+  up-live j h l =
+      ⊎-elim
+      (λ (e : i ≡ j). omega (arith, ap (λ y. row s (cell zs) y .orders) (sym e), ap orders up-here))
+      (λ (g : i < j).
+      let e : j ≡ j - 1 + 1 = omega arith in
+      let f : row s (cell zs) j .orders ≡ row s (cell xs) (j - 1) .orders = ap (λ y. row s (cell zs) y .orders) e ∙ ap orders (up-gap .behind (j - 1) (omega arith) (omega arith)) in
+      omega (arith, f, q .up (j - 1) (omega arith) (omega arith)))
+      (eq-or-lt-of-le h)
+
+  up-new : 0 < row s (cell zs) d .orders
+  up-new = up-live d r (omega arith)
+
+  up-alike : (j : ℕ) → (d < j → j < used s (cell xs)) → (j ≡ d → ⊥) → Alike (row s (cell xs)) (row s (cell zs)) j
+  up-alike j h ne =
+      ⊎-elim
+      (λ (l : j < i). inl (ap orders (up-gap .before j l)))
+      (λ (l : i ≤ j).
+      ⊎-elim
+      (λ (b : j < d). inr (up-live j l (omega arith), q .up j l b))
+      (λ (b : d ≤ j). let g : d < j = omega (arith, ne) in inl (ap orders (up-same j g (h g))))
+      (lt-or-le j d))
+      (lt-or-le j i)
+
+  up-did : {us : List ℕ} (n v : ℕ) → n ≡ used s (cell xs) → v ≡ size s (cell xs) → Recounted s zs us (grown n d) (v + 1) d 1 → Did s xs us (insert key (opened k x) (entries s (cell xs)))
   unfolding entries
   up-did n v n-is v-is c =
       ⊎-elim
       (λ (h : d < used s (cell xs)).
       let asc : Ascends key (row s (cell zs)) (used s (cell xs)) =
       ascends-join key (row s (cell xs)) (row s (cell zs)) (d + 1) (used s (cell xs)) up-first (p .table .asc) (λ j g l. up-same j (omega arith) l) (up-cross h) in
-      recounted-did s (p .table) (used s (cell xs)) (size s (cell xs) + 1) up-out (rw (n-is, v-is, lt-ltb d (used s (cell xs)) h) at c) (p .table .few) asc
-      (live-over orders key up-gap h (q .dead h) up-same asc new ∙ ap (λ y. insert key y (entries s (cell xs))) up-here) many)
+      recounted-did s (p .table) (used s (cell xs)) (size s (cell xs) + 1) d 1 up-out (rw (n-is, v-is, lt-ltb d (used s (cell xs)) h) at c) (p .table .few) asc
+      (live-over orders key up-gap h (q .dead h) up-same asc new ∙ ap (λ y. insert key y (entries s (cell xs))) up-here) many
+      (level-live (row s (cell zs)) (used s (cell xs)) d h up-new)
+      (λ j g ne. levels-alike (row s (cell xs)) (row s (cell zs)) (used s (cell xs)) j (λ l. up-alike j (λ _. l) ne)))
       (λ (h : used s (cell xs) ≤ d).
       let e : d ≡ used s (cell xs) = omega (arith, q .to) in
-      recounted-did s (p .table) (d + 1) (size s (cell xs) + 1) up-out (rw (n-is, v-is, le-ltb d (used s (cell xs)) h) at c) (omega arith) up-first
-      (live-insert orders key up-gap up-first new ∙ ap₂ (λ (y : Row) m. insert key y (live orders (row s (cell xs)) m)) up-here e) many)
+      recounted-did s (p .table) (d + 1) (size s (cell xs) + 1) d 1 up-out (rw (n-is, v-is, le-ltb d (used s (cell xs)) h) at c) (omega arith) up-first
+      (live-insert orders key up-gap up-first new ∙ ap₂ (λ (y : Row) m. insert key y (live orders (row s (cell xs)) m)) up-here e) many
+      (level-live (row s (cell zs)) (d + 1) d (omega arith) up-new)
+      (λ j g ne.
+      ⊎-elim
+      (λ (l : j < used s (cell xs)).
+      level-inside (row s (cell zs)) (d + 1) (used s (cell xs)) j (omega arith) l
+      ∙ levels-alike (row s (cell xs)) (row s (cell zs)) (used s (cell xs)) j (λ l. up-alike j (λ m. absurd (omega arith)) ne))
+      (λ l. level-unused (row s (cell zs)) (d + 1) j (omega (arith, ne)) ∙ sym (level-unused (row s (cell xs)) (used s (cell xs)) j l))
+      (lt-or-le j (used s (cell xs)))))
       (lt-or-le d (used s (cell xs)))
     where
       new : 0 < row s (cell zs) i .orders
@@ -344,13 +457,34 @@ module _ (s : Side) {xs : List ℕ} (ys : List ℕ) {zs : List ℕ} {k i d : ℕ
       omega (arith, f, above s p q (λ e. omega arith) j (omega arith) n))
       (lt-or-le a (i - 1)))
 
-  down-did : {us : List ℕ} (n v : ℕ) → n ≡ used s (cell xs) → v ≡ size s (cell xs) → Recounted s zs us n (v + 1) → Did s xs us (insert key (opened k x) (entries s (cell xs)))
+  -- the rows from d up to i are live, and so were those behind d
+  down-live : (j : ℕ) → d ≤ j → j < i → 0 < row s (cell zs) j .orders
+  down-live j l b =
+      ⊎-elim
+      (λ (g : j < i - 1). omega (arith, ap orders (down-gap .behind j l g), q .down (j + 1) (omega arith) (omega arith)))
+      (λ (g : i - 1 ≤ j). let e : j ≡ i - 1 = omega arith in omega (arith, ap (λ y. row s (cell zs) y .orders) e, ap orders down-here))
+      (lt-or-le j (i - 1))
+
+  down-alike : (j : ℕ) → j < used s (cell xs) → (j ≡ d → ⊥) → Alike (row s (cell xs)) (row s (cell zs)) j
+  down-alike j g ne =
+      ⊎-elim
+      (λ (l : j < d). inl (ap orders (sym (down-gap .before j l))))
+      (λ (l : d ≤ j).
+      ⊎-elim
+      (λ (b : j < i). inr (down-live j l b, q .down j (omega (arith, ne)) b))
+      (λ (b : i ≤ j). inl (ap orders (down-same j (omega arith) g)))
+      (lt-or-le j i))
+      (lt-or-le j d)
+
+  down-did : {us : List ℕ} (n v : ℕ) → n ≡ used s (cell xs) → v ≡ size s (cell xs) → Recounted s zs us n (v + 1) d 1 → Did s xs us (insert key (opened k x) (entries s (cell xs)))
   unfolding entries
   down-did n v n-is v-is c =
-      recounted-did s (p .table) (used s (cell xs)) (size s (cell xs) + 1) down-out (rw (n-is, v-is) at c) (p .table .few) down-asc
+      recounted-did s (p .table) (used s (cell xs)) (size s (cell xs) + 1) d 1 down-out (rw (n-is, v-is) at c) (p .table .few) down-asc
       (live-under orders key down-gap (omega (arith, in-use)) (q .dead (omega (arith, in-use))) down-same (p .table .asc) down-asc (omega (arith, ap orders down-here))
       ∙ ap (λ y. insert key y (entries s (cell xs))) down-here)
       (omega (arith, p .table .counted, insert-length key (opened k x) (entries s (cell xs))))
+      (level-live (row s (cell zs)) (used s (cell xs)) d (omega (arith, in-use)) (down-live d (omega arith) h))
+      (λ j g ne. levels-alike (row s (cell xs)) (row s (cell zs)) (used s (cell xs)) j (λ l. down-alike j l ne))
 
 -- ---- the functions, one law for each way
 
@@ -372,21 +506,49 @@ module _ (s : Side) (xs : List ℕ) where
   unfolding size
   size-is n k e p = p ∙ ap (cell xs C.header 0) e
 
-  pub recount-is : {ys zs : List ℕ} (u v j k : ℕ) → Holds xs → j ≡ used-cell s → k ≡ size-cell s → Set xs ys C.header 0 j u → Set ys zs C.header 0 k v → Recounted s xs zs u v
-  unfolding used size
-  recount-is {ys} {zs} u v j k h e f p q =
-      let a : ys ≡ store xs C.header 0 (used-cell s) u = rw e at (p .exact) in
-      let b : zs ≡ store ys C.header 0 (size-cell s) v = rw f at (q .exact) in
-      record {
-        holds = q .holds;
-        used-is =
-            ap (λ us. cell us C.header 0 (used-cell s)) b ∙ cell-other ys v (size-place s) (used-place s) (λ _ _ e. apart s (sym e))
-            ∙ ap (λ us. cell us C.header 0 (used-cell s)) a ∙ cell-same xs u (used-place s) h (p .fits);
-        size-is = ap (λ us. cell us C.header 0 (size-cell s)) b ∙ cell-same ys v (size-place s) (p .holds) (q .fits);
-        kept = λ c i n z o.
-            ap (λ us. cell us c i n) b ∙ cell-other ys v (size-place s) z (λ x _ y. o .1 (sym x) (sym y))
-            ∙ ap (λ us. cell us c i n) a ∙ cell-other xs u (used-place s) z (λ x _ y. o .0 (sym x) (sym y));
-      }
+  module _ {ys zs us : List ℕ} (u v j k b d x : ℕ) (h : Holds xs) (few : d < most-levels) (one : x ≤ 1) (e : j ≡ used-cell s) (f : k ≡ size-cell s) (g : b ≡ map-block s)
+      (p : Set xs ys C.header 0 j u) (q : Set ys zs C.header 0 k v) (r : Is us (put-bit b d x (cell zs))) where
+    set-used : ys ≡ store xs C.header 0 (used-cell s) u
+    set-used = rw e at (p .exact)
+
+    set-size : zs ≡ store ys C.header 0 (size-cell s) v
+    set-size = rw f at (q .exact)
+
+    set-bit : Is us (put-bit (map-block s) d x (cell zs))
+    set-bit = rw g at r
+
+    counts-only : (c i n : ℕ) → Cell c i n → Other s c n → cell zs c i n ≡ cell xs c i n
+    counts-only c i n z o =
+        ap (λ vs. cell vs c i n) set-size ∙ cell-other ys v (size-place s) z (λ x _ y. o .1 (sym x) (sym y))
+        ∙ ap (λ vs. cell vs c i n) set-used ∙ cell-other xs u (used-place s) z (λ x _ y. o .0 (sym x) (sym y))
+
+    bit-only : (c i n : ℕ) → Cell c i n → (c ≡ map-block s → ⊥) → cell us c i n ≡ cell zs c i n
+    bit-only c i n z ne = set-bit .same c i n z ∙ ap (λ w. w i n) (put-block (map-block s) d x (cell zs) c ne)
+
+    bits-put : (i : ℕ) → i < most-levels → bits s (cell us) i ≡ bits s (put-bit (map-block s) d x (cell zs)) i
+    bits-put i l = same-bit (map-block s) (cell us) (put-bit (map-block s) d x (cell zs)) i (set-bit .same (map-block s) (i / 64) 0 (map-cell s i l))
+
+    bits-before : (i : ℕ) → i < most-levels → bits s (cell zs) i ≡ bits s (cell xs) i
+    bits-before i l =
+        same-bit (map-block s) (cell zs) (cell xs) i
+        (counts-only (map-block s) (i / 64) 0 (map-cell s i l) (λ z _. map-not-header s z, λ z _. map-not-header s z))
+
+    pub recount-is : Recounted s xs us u v d x
+    unfolding used size
+    recount-is =
+        record {
+          holds = set-bit .holds;
+          used-is =
+              bit-only C.header 0 (used-cell s) (used-place s) (λ z. map-not-header s (sym z))
+              ∙ ap (λ vs. cell vs C.header 0 (used-cell s)) set-size ∙ cell-other ys v (size-place s) (used-place s) (λ _ _ e. apart s (sym e))
+              ∙ ap (λ vs. cell vs C.header 0 (used-cell s)) set-used ∙ cell-same xs u (used-place s) h (p .fits);
+          size-is =
+              bit-only C.header 0 (size-cell s) (size-place s) (λ z. map-not-header s (sym z))
+              ∙ ap (λ vs. cell vs C.header 0 (size-cell s)) set-size ∙ cell-same ys v (size-place s) (p .holds) (q .fits);
+          bit-is = bits-put d few ∙ put-same (map-block s) d x (cell zs) one;
+          bits-are = λ i l ne. bits-put i l ∙ put-other (map-block s) i d x (cell zs) one ne ∙ bits-before i l;
+          kept = λ c i n z ne o. bit-only c i n z ne ∙ counts-only c i n z o;
+        }
 
   pub sorted-at : (b n : ℕ) → Table s xs → n ≡ used s (cell xs) → b ≡ base s → Sorted b 32 n xs
   sorted-at b n t e h = rw h (sorted s xs t e)
@@ -519,7 +681,7 @@ module _ (s : Side) {xs : List ℕ} (t : Table s xs) where
   size-few = omega (arith, t .counted, live-few orders (row s (cell xs)) (used s (cell xs)))
 
   pub take-out-is : {ys zs : List ℕ} (i k u v : ℕ) → i < used s (cell xs) → 0 < row s (cell xs) i .orders → k ≡ row s (cell xs) i .key → k < modulus →
-      u ≡ used s (cell xs) → v ≡ size s (cell xs) → ys ≡ puts widths xs (base s + 32 * i) (k ∷ 0 ∷ 0 ∷ []) → Recounted s ys zs u (v - 1) → Did s xs zs (without key k (entries s (cell xs)))
+      u ≡ used s (cell xs) → v ≡ size s (cell xs) → ys ≡ puts widths xs (base s + 32 * i) (k ∷ 0 ∷ 0 ∷ []) → Recounted s ys zs u (v - 1) i 0 → Did s xs zs (without key k (entries s (cell xs)))
   take-out-is i k u v h l e f u-is v-is w c =
       struck-did s t i (record { key = k; qty = 0; orders = 0 }) h (f, (omega arith, (omega arith, tt))) w u v l refl e u-is v-is c
 
@@ -527,114 +689,51 @@ module _ (s : Side) {xs : List ℕ} (t : Table s xs) where
   unfolding entries
   some-level i h l = omega (arith, t .counted, live-some orders (row s (cell xs)) i (used s (cell xs)) h l)
 
-  -- where all rows are live there are as many levels
-  pub dead-below : (i : ℕ) → Alive s xs i (used s (cell xs)) → size s (cell xs) < used s (cell xs) → ((j : ℕ) → j < i → 0 < row s (cell xs) j .orders) → ⊥
-  unfolding entries
-  dead-below i q h low =
-      let n = live-all orders (row s (cell xs)) (used s (cell xs)) (λ j l. ⊎-elim (low j) (λ g. q j g l) (lt-or-le j i)) in
-      omega (arith, t .counted, n)
-
   pub place-is : (k i v : ℕ) → CanAdd (size s (cell xs)) v (look key k (entries s (cell xs))) → Sought s xs k i → look key k (entries s (cell xs)) ≡ none → Place s xs k i
   place-is k i v p b a = record { table = t; room = rw a at p; sought = b; absent = a }
 
--- ---- the dead rows are looked for
+-- ---- the nearest dead row, by the map
 
--- the rows from lo up to hi are live, and i is among them or at their end
-pub record Around (s : Side) (xs : List ℕ) (i lo hi : ℕ) : Type 0 where
-  pub low : lo ≤ i
-  pub high : i ≤ hi
-  pub top : hi ≤ used s (cell xs)
-  pub live : Alive s xs lo hi
+side-map : (s : Side) → Map (map-block s) most-levels
+side-map Buy = record { block-is = omega arith; wide = omega arith; size = refl }
+side-map Sell = record { block-is = omega arith; wide = omega arith; size = refl }
 
-module _ (s : Side) (xs : List ℕ) (i : ℕ) where
-  pub none-seen : i ≤ used s (cell xs) → Around s xs i i i
-  none-seen h = record { low = omega arith; high = omega arith; top = h; live = λ j a b. absurd (omega arith) }
+pub map-has : (s : Side) (b : ℕ) → b ≡ map-block s → Map b most-levels
+map-has s b e = rw e (side-map s)
 
-  module _ (lo hi n : ℕ) (r : Row) (p : Around s xs i lo hi) (t : Table s xs) (n-is : n ≡ used s (cell xs)) (h : hi < n) (e : r ≡ row s (cell xs) hi) where
-    pub free-above : r .orders ≡ 0 → Free s xs i hi
-    free-above z =
-        record { to = p .top; fits = omega (arith, t .few); dead = λ _. ap orders (sym e) ∙ z; live = λ ne l. p .live i (p .low) (omega (arith, p .high, ne)) }
+pub map-of-cell : (s : Side) (b j : ℕ) → b ≡ map-block s → j < most-levels → Cell b (j / 64) 0
+map-of-cell s b j e h = rw e (map-cell s j h)
 
-    pub one-above : (r .orders ≡ 0 → ⊥) → Around s xs i lo (hi + 1)
-    one-above l =
-        record {
-          low = p .low;
-          high = omega (arith, p .high);
-          top = omega arith;
-          live = λ j a b.
-              ⊎-elim (λ (q : j < hi). p .live j a q)
-              (λ q. let w : j ≡ hi = omega arith in let f : row s (cell xs) j .orders ≡ r .orders = ap (λ y. row s (cell xs) y .orders) w ∙ ap orders (sym e) in omega (arith, l, f))
-              (lt-or-le j hi);
-        }
+pub free-is : (s : Side) {xs : List ℕ} (b i d : ℕ) → Table s xs → i ≤ used s (cell xs) → size s (cell xs) < most-levels → b ≡ map-block s → Nearest b (cell xs) most-levels i d → Free s xs i d
+unfolding entries
+free-is s {xs} b i d t h few e f =
+    record {
+      to = ⊎-elim (λ (l : used s (cell xs) < d). absurd (omega (arith, taken (used s (cell xs)) (omega (arith, n .to)) (near-up small n (used s (cell xs)) h l) .0))) (λ l. l) (lt-or-le (used s (cell xs)) d);
+      fits = fits;
+      dead = λ l. level-free (row s (cell xs)) (used s (cell xs)) d l (sym (t .mapped .bits d fits) ∙ n .free fits);
+      up = λ j a l. taken j (omega arith) (near-up small n j a l) .1;
+      down = λ j a l. taken j (omega (arith, t .few)) (near-down small n j a l) .1;
+      live = λ ne l. taken i (omega (arith, t .few)) (near-here small n ne (omega (arith, t .few))) .1;
+    }
+  where
+    n : Nearest (map-block s) (cell xs) most-levels i d
+    n = rw e at f
 
--- the rows from d up to i are live
-pub record Below (s : Side) (xs : List ℕ) (i d : ℕ) : Type 0 where
-  pub within : d ≤ i
-  pub live : (j : ℕ) → d ≤ j → j < i → 0 < row s (cell xs) j .orders
+    small : i ≤ most-levels
+    small = omega (arith, t .few)
 
-module _ (s : Side) (xs : List ℕ) (i : ℕ) where
-  pub none-below : Below s xs i i
-  none-below = record { within = omega arith; live = λ j a b. absurd (omega arith) }
+    taken : (j : ℕ) → j < most-levels → bits s (cell xs) j ≡ 1 → (j < used s (cell xs)) × (0 < row s (cell xs) j .orders)
+    taken j l q = level-taken (row s (cell xs)) (used s (cell xs)) j (sym (t .mapped .bits j l) ∙ q)
 
-  pub one-below : (d : ℕ) (r : Row) → Below s xs i d → 0 < d → r ≡ row s (cell xs) (d - 1) → (r .orders ≡ 0 → ⊥) → Below s xs i (d - 1)
-  one-below d r p h e l =
-      record {
-        within = omega (arith, p .within);
-        live = λ j a b.
-            ⊎-elim
-            (λ (q : j < d). let w : j ≡ d - 1 = omega arith in let f : row s (cell xs) j .orders ≡ r .orders = ap (λ y. row s (cell xs) y .orders) w ∙ ap orders (sym e) in omega (arith, l, f))
-            (λ q. p .live j q b)
-            (lt-or-le j d);
-      }
+    -- where all rows are taken there are as many levels
+    full : d ≡ most-levels → ⊥
+    full q =
+        let many : most-levels ≤ used s (cell xs) = omega (arith, taken 511 (omega arith) (n .full q 511 (omega arith) (omega arith)) .0) in
+        let length-is = live-all orders (row s (cell xs)) (used s (cell xs)) (λ j l. taken j (omega (arith, t .few)) (n .full q j (omega arith) (omega (arith, t .few))) .1) in
+        omega (arith, t .counted, length-is)
 
-  pub dead-is : (d : ℕ) (r : Row) → r ≡ row s (cell xs) d → r .orders ≡ 0 → row s (cell xs) d .orders ≡ 0
-  dead-is d r e z = ap orders (sym e) ∙ z
-
-  -- none is dead: then there are as many levels as rows
-  pub none-dead : {P : Type 0} (d : ℕ) → Table s xs → Alive s xs i (used s (cell xs)) → size s (cell xs) < used s (cell xs) → Below s xs i d → d ≤ 0 → P
-  none-dead d t q h p z = absurd (dead-below s t i q h (λ j l. p .live j (omega arith) l))
-
--- the row below them is looked at
-module _ (s : Side) (xs : List ℕ) (i lo hi : ℕ) (p : Around s xs i lo hi) (t : Table s xs) (h : i < hi) (k : 0 < lo) (r : Row) (e : r ≡ row s (cell xs) (lo - 1)) where
-  pub free-below : r .orders ≡ 0 → Free s xs i (lo - 1)
-  free-below z =
-      record {
-        to = omega (arith, p .low, p .high, p .top);
-        fits = omega (arith, p .low, p .high, p .top, t .few);
-        dead = λ _. ap orders (sym e) ∙ z;
-        live = λ ne l. p .live i (p .low) h;
-      }
-
-  pub one-more-below : (r .orders ≡ 0 → ⊥) → Around s xs i (lo - 1) hi
-  one-more-below l =
-      record {
-        low = omega (arith, p .low);
-        high = p .high;
-        top = p .top;
-        live = λ j a b.
-            ⊎-elim
-            (λ (q : j < lo). let w : j ≡ lo - 1 = omega arith in let f : row s (cell xs) j .orders ≡ r .orders = ap (λ y. row s (cell xs) y .orders) w ∙ ap orders (sym e) in omega (arith, l, f))
-            (λ q. p .live j q b)
-            (lt-or-le j lo);
-      }
-
--- they reach to the last row
-module _ {s : Side} {xs : List ℕ} {i lo hi : ℕ} (p : Around s xs i lo hi) (t : Table s xs) (n : ℕ) (n-is : n ≡ used s (cell xs)) (h : n ≤ hi) where
-  pub to-the-end : Alive s xs lo (used s (cell xs))
-  to-the-end j a b = p .live j a (omega arith)
-
-  pub free-behind : n < most-levels → Free s xs i n
-  free-behind l =
-      record { to = omega arith; fits = l; dead = λ q. absurd (omega arith); live = λ ne q. p .live i (p .low) (omega arith) }
-
-  pub free-under : (d : ℕ) → d < lo → row s (cell xs) d .orders ≡ 0 → Free s xs i d
-  free-under d l z =
-      record {
-        to = omega (arith, p .low, p .high, p .top);
-        fits = omega (arith, p .low, p .high, p .top, t .few);
-        dead = λ _. z;
-        live = λ ne q. p .live i (p .low) (omega arith);
-      }
+    fits : d < most-levels
+    fits = ⊎-elim (λ (l : d < most-levels). l) (λ l. absurd (full (omega (arith, n .to)))) (lt-or-le d most-levels)
 
 pub grown-in : (n d : ℕ) → d < n → n ≡ grown n d
 grown-in n d h = rw (lt-ltb d n h) refl
@@ -643,13 +742,17 @@ pub grown-behind : (n d : ℕ) → n ≤ d → d + 1 ≡ grown n d
 grown-behind n d h = rw (le-ltb d n h) refl
 
 pub put-up-is : (s : Side) {xs : List ℕ} (ys : List ℕ) {zs us : List ℕ} (n g v b i d k x : ℕ) → Place s xs k i → Free s xs i d → i ≤ d → k < modulus → x < modulus →
-    n ≡ used s (cell xs) → v ≡ size s (cell xs) → b ≡ base s → Opened b 32 d i xs ys → zs ≡ puts widths ys (base s + 32 * i) (values (opened k x)) → g ≡ grown n d → Recounted s zs us g (v + 1) →
+    n ≡ used s (cell xs) → v ≡ size s (cell xs) → b ≡ base s → Opened b 32 d i xs ys → zs ≡ puts widths ys (base s + 32 * i) (values (opened k x)) → g ≡ grown n d → Recounted s zs us g (v + 1) d 1 →
     Did s xs us (insert key (opened k x) (entries s (cell xs)))
 put-up-is s ys n g v b i d k x p q r kf xf n-is v-is e o w g-is c = up-did s ys p q r x kf xf (rw e at o) w n v n-is v-is (rw g-is at c)
 
 pub put-down-is : (s : Side) {xs : List ℕ} (ys : List ℕ) {zs us : List ℕ} (n v b i d k x : ℕ) → Place s xs k i → Free s xs i d → d < i → k < modulus → x < modulus →
-    n ≡ used s (cell xs) → v ≡ size s (cell xs) → b ≡ base s → Closed b 32 i d xs ys → zs ≡ puts widths ys (base s + 32 * (i - 1)) (values (opened k x)) → Recounted s zs us n (v + 1) →
+    n ≡ used s (cell xs) → v ≡ size s (cell xs) → b ≡ base s → Closed b 32 i d xs ys → zs ≡ puts widths ys (base s + 32 * (i - 1)) (values (opened k x)) → Recounted s zs us n (v + 1) d 1 →
     Did s xs us (insert key (opened k x) (entries s (cell xs)))
 put-down-is s ys n v b i d k x p q h kf xf n-is v-is e o w c = down-did s ys p q h x kf xf (rw e at o) w n v n-is v-is c
 
-pub ruleset laws = (read-is, write-is, used-is, size-is, recount-is, sorted-at, sought-is, past-is, here-is, not-here-is, low-is, bears-is, join-is, show-is, remove-last-is, remove-one-is, add-join-is, add-new-is, take-out-is, some-level, size-few, none-seen, none-below, one-below, dead-is, grown-in, grown-behind, put-up-is, put-down-is, arith)
+-- no rows
+pub no-levels : (z : Side) (s : Store) → ((j : ℕ) → j < most-levels → bits z s j ≡ 0) → Mapped (map-block z) most-levels s (is-level (row z s) 0)
+no-levels z s e = record { bits = λ j h. e j h ∙ sym (level-unused (row z s) 0 j (omega arith)) }
+
+pub ruleset laws = (read-is, write-is, used-is, size-is, recount-is, sorted-at, sought-is, past-is, here-is, not-here-is, low-is, bears-is, join-is, show-is, remove-last-is, remove-one-is, add-join-is, add-new-is, take-out-is, some-level, size-few, map-of-cell, map-has, free-is, grown-in, grown-behind, put-up-is, put-down-is, arith)

@@ -21,6 +21,7 @@ use Rattle.gateway.specs.Depth.{Level}
 use Rattle.store.specs.Cells as C
 use Rattle.store.specs.Layout.{first-byte, cell, Cell, Holds}
 use Rattle.store.specs.View.{Store, word}
+use Rattle.bitmap.specs.Bitmap.{bit, Mapped}
 use Rattle.levels.specs.declared.Row.{Row}
 
 -- ---- where they stand
@@ -28,6 +29,11 @@ use Rattle.levels.specs.declared.Row.{Row}
 abbrev pub block : Side → ℕ
 block Buy = C.bids
 block Sell = C.asks
+
+-- its map: a bit for each row, 1 where it is a level
+abbrev pub map-block : Side → ℕ
+map-block Buy = C.bid-map
+map-block Sell = C.ask-map
 
 -- the header's cells: how many rows are in use, and how many levels there are
 abbrev pub used-cell : Side → ℕ
@@ -59,6 +65,13 @@ used s t = word t (used-cell s)
 unfoldable pub size : Side → Store → ℕ
 size s t = word t (size-cell s)
 
+abbrev pub bits : Side → Store → ℕ → ℕ
+bits s t = bit (map-block s) t
+
+-- whether the row j of n in use is a level, as 0 or 1
+abbrev pub is-level : (ℕ → Row) → ℕ → ℕ → ℕ
+is-level f n j = cond (ltb j n) (cond (eqb (f j .orders) 0) 0 1) 0
+
 unfoldable pub entries : Side → Store → List Row
 entries s t = live orders (row s t) (used s t)
 
@@ -85,21 +98,24 @@ pub record Table (s : Side) (xs : List ℕ) : Type 0 where
   pub few : used s (cell xs) ≤ most-levels
   pub asc : Ascends key (row s (cell xs)) (used s (cell xs))
   pub counted : size s (cell xs) ≡ length (entries s (cell xs))
+  pub mapped : Mapped (map-block s) most-levels (cell xs) (is-level (row s (cell xs)) (used s (cell xs)))
 
 -- that cell of the header is none of the side's two
 abbrev pub Other : Side → ℕ → ℕ → Type 0
 Other s b k = (b ≡ C.header → k ≡ used-cell s → ⊥) × (b ≡ C.header → k ≡ size-cell s → ⊥)
 
--- every cell but those of the side's block and its counts is as before
+-- every cell but those of the side's block, its map and its counts is as before
 abbrev pub Kept : Side → List ℕ → List ℕ → Type 0
-Kept s xs ys = (b i k : ℕ) → Cell b i k → (b ≡ block s → ⊥) → Other s b k → cell ys b i k ≡ cell xs b i k
+Kept s xs ys = (b i k : ℕ) → Cell b i k → (b ≡ block s → ⊥) → (b ≡ map-block s → ⊥) → Other s b k → cell ys b i k ≡ cell xs b i k
 
--- the counts are u and v now, and nothing else has changed
-pub record Recounted (s : Side) (xs ys : List ℕ) (u v : ℕ) : Type 0 where
+-- the counts are u and v now, and the bit of the row d is x; nothing else has changed
+pub record Recounted (s : Side) (xs ys : List ℕ) (u v d x : ℕ) : Type 0 where
   pub holds : Holds ys
   pub used-is : used s (cell ys) ≡ u
   pub size-is : size s (cell ys) ≡ v
-  pub kept : (b i k : ℕ) → Cell b i k → Other s b k → cell ys b i k ≡ cell xs b i k
+  pub bit-is : bits s (cell ys) d ≡ x
+  pub bits-are : (j : ℕ) → j < most-levels → (j ≡ d → ⊥) → bits s (cell ys) j ≡ bits s (cell xs) j
+  pub kept : (b i k : ℕ) → Cell b i k → (b ≡ map-block s → ⊥) → Other s b k → cell ys b i k ≡ cell xs b i k
 
 -- the side's rows are l now
 pub record Did (s : Side) (xs ys : List ℕ) (l : List Row) : Type 0 where
@@ -137,11 +153,13 @@ pub record Place (s : Side) (xs : List ℕ) (k i : ℕ) : Type 0 where
 abbrev pub Alive : Side → List ℕ → ℕ → ℕ → Type 0
 Alive s xs i d = (j : ℕ) → i ≤ j → j < d → 0 < row s (cell xs) j .orders
 
--- d is a dead row, or the number of rows in use where one more fits; and the row i is dead only where it is d
+-- d is a dead row, or the number of rows in use where one more fits; and the rows between it and i are live, i among them
 pub record Free (s : Side) (xs : List ℕ) (i d : ℕ) : Type 0 where
   pub to : d ≤ used s (cell xs)
   pub fits : d < most-levels
   pub dead : d < used s (cell xs) → row s (cell xs) d .orders ≡ 0
+  pub up : Alive s xs i d
+  pub down : Alive s xs (d + 1) i
   pub live : (d ≡ i → ⊥) → i < used s (cell xs) → 0 < row s (cell xs) i .orders
 
 -- how many rows are in use once the row d is

@@ -50,6 +50,15 @@ fn size_cell(side: Side) -> usize
     }
 }
 
+fn map_of(side: Side) -> usize
+    ensures { λ r. ⌜ r ≡ L.map-block side ⌝ }
+{
+    match side {
+        Side::Buy => store::BID_MAP,
+        Side::Sell => store::ASK_MAP,
+    }
+}
+
 // How many rows are in use.
 pub fn used(m: &[u8], side: Side) -> usize
     requires { ⌜ Holds (now m) ⌝ }
@@ -66,12 +75,14 @@ pub fn size(m: &[u8], side: Side) -> usize
     store::get(m, store::HEADER, 0, size_cell(side)) as usize
 }
 
-fn recount(m: &mut [u8], side: Side, rows: usize, levels: usize)
-    requires { ⌜ Holds (now m) ⌝ }
-    ensures { λ r. ⌜ L.Recounted side (now (m .entry)) (now (m .exit)) rows levels ⌝ }
+// The counts are these, and the bit of the row d is v.
+fn recount(m: &mut [u8], side: Side, rows: usize, levels: usize, d: usize, v: u64)
+    requires { ⌜ Holds (now m) × (d < most-levels) × (v ≤ 1) ⌝ }
+    ensures { λ r. ⌜ L.Recounted side (now (m .entry)) (now (m .exit)) rows levels d v ⌝ }
 {
     store::set(m, store::HEADER, 0, used_cell(side), rows as u64);
     store::set(m, store::HEADER, 0, size_cell(side), levels as u64);
+    bitmap::put(m, map_of(side), d, v);
 }
 
 pub fn read_row(m: &[u8], side: Side, i: usize) -> Row
@@ -198,45 +209,12 @@ fn join(m: &mut [u8], side: Side, i: usize, visible: u64)
     );
 }
 
-// The last dead row before i, where all rows from i on are live, and not all rows are.
-fn last_dead(m: &[u8], side: Side, i: usize) -> usize
-    requires { ⌜ L.Table side (now m) × L.Alive side (now m) i (L.used side (cell (now m))) × (i ≤ L.used side (cell (now m))) × (L.size side (cell (now m)) < L.used side (cell (now m))) ⌝ }
-    ensures { λ r. ⌜ (r < i) × (L.row side (cell (now (m .entry))) r .orders ≡ 0) ⌝ }
-{
-    let mut d = i;
-    while 0 < d {
-        d -= 1;
-        if read_row(m, side, d).orders == 0 {
-            return d;
-        }
-    }
-    0
-}
-
-// The nearest dead row to i, or the number of rows in use where one more fits.
+// The nearest dead row to i, or the number of rows in use where one more fits. The map has it: no row is looked at.
 fn nearest(m: &[u8], side: Side, i: usize) -> usize
     requires { ⌜ L.Table side (now m) × (i ≤ L.used side (cell (now m))) × (L.size side (cell (now m)) < most-levels) ⌝ }
     ensures { λ r. ⌜ L.Free side (now (m .entry)) i r ⌝ }
 {
-    let n = used(m, side);
-    let mut lo = i;
-    let mut hi = i;
-    while hi < n {
-        if read_row(m, side, hi).orders == 0 {
-            return hi;
-        }
-        hi += 1;
-        if 0 < lo {
-            lo -= 1;
-            if read_row(m, side, lo).orders == 0 {
-                return lo;
-            }
-        }
-    }
-    if n < limits::MOST_LEVELS {
-        return n;
-    }
-    last_dead(m, side, lo)
+    bitmap::nearest(m, map_of(side), limits::MOST_LEVELS, i)
 }
 
 fn grown(n: usize, d: usize) -> usize
@@ -264,7 +242,7 @@ fn put_up(m: &mut [u8], side: Side, i: usize, d: usize, key: u64, visible: u64)
             orders: 1,
         },
     );
-    recount(m, side, grown(n, d), k + 1);
+    recount(m, side, grown(n, d), k + 1, d, 1);
 }
 
 // The same where the rows before it move down, over the dead row d.
@@ -285,7 +263,7 @@ fn put_down(m: &mut [u8], side: Side, i: usize, d: usize, key: u64, visible: u64
             orders: 1,
         },
     );
-    recount(m, side, n, k + 1);
+    recount(m, side, n, k + 1, d, 1);
 }
 
 fn put_in(m: &mut [u8], side: Side, i: usize, key: u64, visible: u64)
@@ -349,7 +327,7 @@ fn take_out(m: &mut [u8], side: Side, i: usize, key: u64)
             orders: 0,
         },
     );
-    recount(m, side, n, k - 1);
+    recount(m, side, n, k - 1, i, 0);
 }
 
 // An order that showed `visible` goes. Its level may be in the row `hint`.

@@ -1,7 +1,6 @@
 // A book listing in a lent list of rows, for set-up and `finish`: its entries, how often a number is listed, its price levels, and its resting
 // orders as they come to stand in the depth (`Depth::of` of marketdata/src/lib.rs).
 use store::limits;
-use table::Found;
 ghost use mathlib.Core.Path.{_≡_};
 ghost use mathlib.Core.Bool.{true};
 ghost use Prim.Native.Nat.{_+_, _<_, _≤_};
@@ -220,16 +219,8 @@ fn rest_row(m: &mut [u8], list: &[u8], j: usize)
 {
     let e = entry_at(list, j);
     if e.kind == 0 {
-        marketdata::rest(
-            m,
-            e.number,
-            e.side,
-            e.price,
-            e.visible,
-            e.leaves,
-            Found::Nothing,
-            0,
-        );
+        let at = orders::find_live(m, e.number);
+        marketdata::rest(m, e.number, e.side, e.price, e.visible, e.leaves, at, 0);
     }
 }
 

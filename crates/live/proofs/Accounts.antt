@@ -20,7 +20,7 @@ use Rattle.levels.specs.Levels.{used, size, row}
 use Rattle.clients.proofs.Views.{cache-view}
 use Rattle.pending.proofs.Chain.{chained-same}
 use Rattle.sound.specs.Sound.{held-cell, Clients, Tables}
-use Rattle.sound.proofs.Kept.{sided, tables-beside, clients-write}
+use Rattle.sound.proofs.Kept.{sided, outline, tables-beside, clients-write}
 use Rattle.sound.proofs.Totals.{Counts}
 use Rattle.live.specs.Live.{hold-word, shift}
 
@@ -40,8 +40,8 @@ unfolding used size
 tables-write a k v s d =
     tables-beside
     (record {
-      keeps = record { rows-are = refl; live-are = refl; resting-are = refl; cells = λ j k l m. refl };
-      sizes = λ z. refl;
+      keeps = record { rows-are = refl; live-are = refl; resting-are = refl; cells = λ j k l m. refl; map-is = λ j l. refl };
+      sizes = sided (λ z. outline z (write C.accounts a k v s) ≡ outline z s) refl refl;
       levels-are = sided (λ z. (j : ℕ) → j < used z s → row z (write C.accounts a k v s) j ≡ row z s j) (λ j l. refl) (λ j l. refl);
     })
     (record { bounds = bounds-from s (write C.accounts a k v s) (λ k l x y z. refl) (d .ordered .bounds .orders-fit) (d .ordered .bounds); last-is = omega arith; run = d .run; chained = chained-same refl (d .chained) })

@@ -20,11 +20,12 @@ use Rattle.store.proofs.Frames.{Agree}
 use Rattle.orders.specs.declared.Live.{Live}
 use Rattle.orders.specs.Orders.{live-row, number-at, make-room}
 use Rattle.orders.proofs.Views.{revised, find-at, live-some}
-use Rattle.sound.specs.Sound.{Sound, State, Becomes}
-use Rattle.sound.proofs.Kept.{becomes}
+use Rattle.orders.proofs.Kept.{stays-then}
+use Rattle.sound.specs.Sound.{Sound, State, Becomes, InPlace}
+use Rattle.sound.proofs.Kept.{becomes, in-place}
 use Rattle.sound.proofs.Totals.{open-few}
-use Rattle.live.specs.Live.{At, hold-word, hold-left, hold-repriced, with-ledger, placing, CanPlace, Seeds, revise, retire, left, pay, place}
-use Rattle.live.proofs.Views.{revise-view, revise-sound, retire-view, retire-sound, open-some}
+use Rattle.live.specs.Live.{At, hold-word, with-ledger, placing, CanPlace, Seeds, revise, retire, left, pay, place}
+use Rattle.live.proofs.Views.{revise-view, revise-sound, revise-stays, retire-view, retire-sound, retire-stays, open-some}
 use Rattle.live.proofs.Money.{with-wallets, pay-view, pay-sound, pay-elsewhere}
 use Rattle.live.proofs.Placed.{room, word-kept, place-view, place-sound, place-last}
 
@@ -36,22 +37,20 @@ live-row-same q r h = rw (h C.order-account (omega arith), h C.order-client-ref 
 
 -- o is what was read of the row
 pub record Reads (i : ℕ) (o : Live) (s : Store) : Type 0 where
-  pub inside : i < word s C.order-rows
-  pub live : 0 < s C.orders i C.order-live
+  pub at : At i s
   pub is : o ≡ live-row (s C.orders i)
 
 pub reads : {i : ℕ} {o : Live} {s : Store} → At i s → o ≡ live-row (s C.orders i) → Reads i o s
-reads a e = record { inside = a .inside; live = a .live; is = e }
+reads a e = record { at = a; is = e }
 
 -- what reading it asks
 pub row-fits : {xs : List ℕ} {i : ℕ} → State xs → At i (cell xs) → Holds xs × (i < order-room)
 row-fits st a = (st .holds, omega (arith, a .inside, st .sound .tables .ordered .bounds .orders-fit))
 
-pub left-as : {i : ℕ} {o : Live} {s : Store} → Reads i o s → (h v : ℕ) → h ≡ hold-left v (s C.orders i) → h ≡ hold-word (o .side) (o .priced) (o .price) v
-left-as a h v k = k ∙ sym (ap (λ (o : Live). hold-word (o .side) (o .priced) (o .price) v) (a .is))
-
-pub repriced-as : {i : ℕ} {o : Live} {s : Store} → Reads i o s → (h p v : ℕ) → h ≡ hold-repriced p v (s C.orders i) → h ≡ hold-word (o .side) 1 p v
-repriced-as a h p v k = k ∙ sym (ap (λ (o : Live). hold-word (o .side) 1 p v) (a .is))
+-- what it holds with the flag c, the price p and v open, by its row and by what was read
+pub hold-as : {i : ℕ} {o : Live} {s : Store} → Reads i o s → (c p : Live → ℕ) (h v : ℕ) →
+    h ≡ hold-word (s C.orders i C.order-side) (c (live-row (s C.orders i))) (p (live-row (s C.orders i))) v → h ≡ hold-word (o .side) (c o) (p o) v
+hold-as a c p h v k = k ∙ sym (ap (λ (o : Live). hold-word (o .side) (c o) (p o) v) (a .is))
 
 module _ {xs : List ℕ} (st : State xs) {i : ℕ} {o : Live} (a : Reads i o (cell xs)) where
   abbrev s : Store
@@ -68,94 +67,94 @@ module _ {xs : List ℕ} (st : State xs) {i : ℕ} {o : Live} (a : Reads i o (ce
 
   -- what the operations need
   row-small : i < order-room
-  row-small = omega (arith, a .inside, d .tables .ordered .bounds .orders-fit)
+  row-small = omega (arith, a .at .inside, d .tables .ordered .bounds .orders-fit)
 
   pub owner-small : o .account < owner-slots
-  owner-small = rw (a .is) (d .held .rows i (a .inside) (a .live) .owner-is)
+  owner-small = rw (a .is) (d .held .rows i (a .at .inside) (a .at .live) .owner-is)
 
   some-live : 0 < word s C.live-orders
-  some-live = live-some s i (d .tables .ordered) (a .inside) (a .live)
+  some-live = live-some s i (d .tables .ordered) (a .at .inside) (a .at .live)
 
   some-open : 0 < s C.accounts (o .account) C.account-open-orders
-  some-open = rw (a .is) (open-some s d i (a .inside) (a .live))
+  some-open = rw (a .is) (open-some s d i (a .at .inside) (a .at .live))
 
-  pub set-leaves-becomes : {ys : List ℕ} (v : ℕ) → Is ys (revise i o (o .priced) (o .price) v s) → Becomes ys (with-ledger (change (Ledger.set-leaves n v)) (gateway s))
+  pub set-leaves-becomes : {ys : List ℕ} (v : ℕ) → Is ys (revise i o (o .priced) (o .price) v s) → InPlace xs ys (with-ledger (change (Ledger.set-leaves n v)) (gateway s))
   unfolding change
   set-leaves-becomes v h =
       let r = s C.orders i in
       let k = rw (a .is) at h in
-      becomes k (revise-sound s d i (a .inside) (a .live) (r C.order-priced) (r C.order-price) v) (revise-view s d i (a .inside) (a .live) (r C.order-priced) (r C.order-price) v (with-leaves v) refl)
+      in-place st k (revise-sound s d i (a .at .inside) (a .at .live) (r C.order-priced) (r C.order-price) v) (revise-view s d i (a .at .inside) (a .at .live) (r C.order-priced) (r C.order-price) v (with-leaves v) refl)
+      (revise-stays s d i (a .at .inside) (a .at .live) (r C.order-priced) (r C.order-price) v)
 
-  pub retire-becomes : {ys : List ℕ} → Is ys (retire i o s) → Becomes ys (with-ledger (change (Ledger.retire n)) (gateway s))
+  pub retire-becomes : {ys : List ℕ} → Is ys (retire i o s) → InPlace xs ys (with-ledger (change (Ledger.retire n)) (gateway s))
   unfolding change
-  retire-becomes h = becomes (rw (a .is) at h) (retire-sound s d i (a .inside) (a .live)) (retire-view s d i (a .inside) (a .live))
+  retire-becomes h = in-place st (rw (a .is) at h) (retire-sound s d i (a .at .inside) (a .at .live)) (retire-view s d i (a .at .inside) (a .at .live)) (retire-stays s d i (a .at .inside) (a .at .live))
 
   -- what `end` and `leave` ask, and `revise`
   abbrev pub Needs : Type 0
-  Needs = Holds xs × (i < order-room) × (o .account < owner-slots) × (0 < word s C.live-orders) × (0 < s C.accounts (o .account) C.account-open-orders)
+  Needs = Holds xs × (i < order-room) × (o .account < owner-slots) × (0 < word s C.live-orders) × (0 < s C.accounts (o .account) C.account-open-orders) × (s C.orders i C.order-resting ≤ 1)
 
   pub needs-met : Needs
-  needs-met = (st .holds, row-small, owner-small, some-live, some-open)
+  needs-met = (st .holds, row-small, owner-small, some-live, some-open, d .tables .ordered .sorted .flags i (a .at .inside) .resting-is)
 
-  left-becomes : {ys : List ℕ} (c p v : ℕ) (f : Order → Order) → with-leaves v (f was) ≡ revised c p v was → Is ys (left i o c p v s) → Becomes ys (with-ledger (leaving n f v) (gateway s))
+  left-becomes : {ys : List ℕ} (c p v : ℕ) (f : Order → Order) → with-leaves v (f was) ≡ revised c p v was → Is ys (left i o c p v s) → InPlace xs ys (with-ledger (leaving n f v) (gateway s))
   unfolding left
   left-becomes {ys} c p v f e h =
       split
       (λ b. Is ys (cond b (retire i (live-row (s C.orders i)) s) (revise i (live-row (s C.orders i)) c p v s)) →
-      Becomes ys (with-ledger (λ l. with-orders (cond b (remove n (l .orders)) (update number-of n (λ x. with-leaves v (f x)) (l .orders))) l) (gateway s)))
+      InPlace xs ys (with-ledger (λ l. with-orders (cond b (remove n (l .orders)) (update number-of n (λ x. with-leaves v (f x)) (l .orders))) l) (gateway s)))
       (eqb v 0)
-      (λ _ k. becomes k (retire-sound s d i (a .inside) (a .live)) (retire-view s d i (a .inside) (a .live)))
-      (λ _ k. becomes k (revise-sound s d i (a .inside) (a .live) c p v) (revise-view s d i (a .inside) (a .live) c p v (λ x. with-leaves v (f x)) e))
+      (λ _ k. in-place st k (retire-sound s d i (a .at .inside) (a .at .live)) (retire-view s d i (a .at .inside) (a .at .live)) (retire-stays s d i (a .at .inside) (a .at .live)))
+      (λ _ k. in-place st k (revise-sound s d i (a .at .inside) (a .at .live) c p v) (revise-view s d i (a .at .inside) (a .at .live) c p v (λ x. with-leaves v (f x)) e) (revise-stays s d i (a .at .inside) (a .at .live) c p v))
       (rw (a .is) at h)
 
-  pub reprice-becomes : {ys : List ℕ} (p v : ℕ) → Is ys (left i o 1 p v s) → Becomes ys (with-ledger (change (Ledger.reprice n (int p) v)) (gateway s))
+  pub reprice-becomes : {ys : List ℕ} (p v : ℕ) → Is ys (left i o 1 p v s) → InPlace xs ys (with-ledger (change (Ledger.reprice n (int p) v)) (gateway s))
   unfolding change
   reprice-becomes p v h = left-becomes 1 p v (with-price (int p)) refl h
 
-  pub pay-becomes : {ys : List ℕ} (p q : ℕ) → Is ys (pay (o .account) (side (o .side)) p q s) → Becomes ys (with-ledger (λ l. with-wallets (paid-to (int p) q (l .wallets) was) l) (gateway s))
+  pub pay-becomes : {ys : List ℕ} (p q : ℕ) → Is ys (pay (o .account) (side (o .side)) p q s) → InPlace xs ys (with-ledger (λ l. with-wallets (paid-to (int p) q (l .wallets) was) l) (gateway s))
   pay-becomes p q h =
-      becomes h (pay-sound (o .account) (side (o .side)) p q s owner-small d)
+      in-place st h (pay-sound (o .account) (side (o .side)) p q s owner-small d)
       (pay-view (o .account) (side (o .side)) p q s owner-small was (ap (λ x. x .account) (sym (a .is))) (ap (λ x. side (x .side)) (sym (a .is))))
+      (record { rows-are = elsewhere C.header 0 C.order-rows (λ e. omega arith); numbers-are = λ j l. elsewhere C.orders j C.order-number (λ e. omega arith) })
+    where
+      elsewhere : (b j k : ℕ) → (b ≡ C.accounts → ⊥) → pay (o .account) (side (o .side)) p q s b j k ≡ s b j k
+      elsewhere = pay-elsewhere (o .account) (side (o .side)) p q s owner-small
 
   -- the order is still there
   pub pay-at : {ys : List ℕ} (p q : ℕ) → Is ys (pay (o .account) (side (o .side)) p q s) → Reads i o (cell ys)
   pay-at {ys} p q h =
       record {
-        inside = rw word-is (a .inside);
-        live = rw (row-is C.order-live (omega arith)) (a .live);
+        at = record { inside = rw (pay-becomes p q h .stays .rows-are) (a .at .inside); live = rw (row-is C.order-live (omega arith)) (a .at .live) };
         is = a .is ∙ sym (live-row-same (cell ys C.orders i) (s C.orders i) row-is);
       }
     where
       row-is : Agree 16 (cell ys C.orders i) (s C.orders i)
       row-is k l = h .same C.orders i k (order-cell i k row-small l) ∙ pay-elsewhere (o .account) (side (o .side)) p q s owner-small C.orders i k (λ e. omega arith)
 
-      word-is : word (cell ys) C.order-rows ≡ word s C.order-rows
-      word-is = h .same C.header 0 C.order-rows (header-cell C.order-rows (omega arith)) ∙ pay-elsewhere (o .account) (side (o .side)) p q s owner-small C.header 0 C.order-rows (λ e. omega arith)
-
   -- the side as the code reads it
   pub paid : {ys : List ℕ} (p q : ℕ) (w : Side) → w ≡ side (o .side) → Is ys (pay (o .account) w p q s) → Is ys (pay (o .account) (side (o .side)) p q s)
   paid p q w e h = rw (← e) h
 
-  pub pay-number : {ys : List ℕ} (p q : ℕ) → Is ys (pay (o .account) (side (o .side)) p q s) → number-at i (cell ys) ≡ n
-  pay-number p q h =
-      h .same C.orders i C.order-number (order-cell i C.order-number row-small (omega arith))
-      ∙ pay-elsewhere (o .account) (side (o .side)) p q s owner-small C.orders i C.order-number (λ e. omega arith)
-
 pub traded-becomes : {xs ys zs : List ℕ} (st : State xs) {i : ℕ} {o : Live} (a : Reads i o (cell xs)) (p q v : ℕ) →
     Is ys (pay (o .account) (side (o .side)) p q (cell xs)) → Is zs (left i o (o .priced) (o .price) v (cell ys)) →
-    Becomes zs (with-ledger (change (Ledger.fill (number-at i (cell xs)) (int p) q v)) (gateway (cell xs)))
+    InPlace xs zs (with-ledger (change (Ledger.fill (number-at i (cell xs)) (int p) q v)) (gateway (cell xs)))
 unfolding change Ledger.pay
 traded-becomes {xs} {ys} st {i} {o} a p q v h k =
     let b = pay-becomes st a p q h in
     let c = pay-at st a p q h in
-    let e = left-becomes (b .state) c (o .priced) (o .price) v (λ x. x) (rw (c .is) refl) k in
+    let e = left-becomes (b .becomes .state) c (o .priced) (o .price) v (λ x. x) (rw (c .is) refl) k in
     record {
-      state = e .state;
-      gateway-is =
-          e .gateway-is
-          ∙ ap₂ (λ m g. with-ledger (leaving m (λ x. x) v) g) (pay-number st a p q h) (b .gateway-is)
-          ∙ sym (ap (λ f. with-ledger (λ l. leaving (number-at i (cell xs)) (λ x. x) v (with-wallets (Ledger.pay (int p) q f (l .wallets)) l)) (gateway (cell xs)))
-          (find-at (cell xs) i (st .sound .tables .ordered) (a .inside) (a .live)));
+      becomes =
+          record {
+            state = e .becomes .state;
+            gateway-is =
+                e .becomes .gateway-is
+                ∙ ap₂ (λ m g. with-ledger (leaving m (λ x. x) v) g) (b .stays .numbers-are i (a .at .inside)) (b .becomes .gateway-is)
+                ∙ sym (ap (λ f. with-ledger (λ l. leaving (number-at i (cell xs)) (λ x. x) v (with-wallets (Ledger.pay (int p) q f (l .wallets)) l)) (gateway (cell xs)))
+                (find-at (cell xs) i (st .sound .tables .ordered) (a .at .inside) (a .at .live)));
+          };
+      stays = stays-then (b .stays) (e .stays);
     }
 
 pub place-becomes : {xs ys : List ℕ} (st : State xs) (n : ℕ) (o : Live) → CanPlace n o (cell xs) → Is ys (place n o (cell xs)) → Becomes ys (with-ledger (placing n o) (gateway (cell xs)))

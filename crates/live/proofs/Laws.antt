@@ -24,7 +24,7 @@ use Rattle.gateway.specs.Ledger.{hold, price-option, fits}
 use Rattle.gateway.proofs.Base.{split}
 use Rattle.store.specs.Cells as C
 use Rattle.store.specs.Layout.{cell, Holds, Set}
-use Rattle.store.specs.View.{Row, Store, Is, write, flag, side, wallet}
+use Rattle.store.specs.View.{Row, Store, Is, word, write, flag, side, wallet, order-room}
 use Rattle.store.proofs.Places.{account-cell}
 use Rattle.store.proofs.Rows.{same-write, write-same, then-set, is-itself}
 use Rattle.orders.specs.declared.Live.{Live}
@@ -116,15 +116,15 @@ module _ (xs : List ℕ) (a : ℕ) (z : Side) (p q : ℕ) (w r : Wallet) (w-is :
       (λ _ k. settle-is f g s k) (λ _ k. subst (Is ys) unpaid k) (rw (← u, ← v) h))
 
 pub place-is : (xs : List ℕ) {ys zs us vs : List ℕ} (n : ℕ) (o : Live) (h c : ℕ) (w : Side) → o .account < owner-slots → h ≡ hold-word (o .side) (o .priced) (o .price) (o .leaves) →
-    c ≡ cell xs C.accounts (o .account) C.account-open-orders → w ≡ side (o .side) → Is ys (Orders.make-room (cell xs)) →
+    c ≡ cell xs C.accounts (o .account) C.account-open-orders → w ≡ side (o .side) → word (cell ys) C.order-rows < order-room → Is ys (Orders.make-room (cell xs)) →
     Is zs (Orders.append n (record { account = o .account; «client_ref» = o .«client_ref»; side = o .side; priced = o .priced; price = o .price; leaves = o .leaves; hold = h }) (cell ys)) →
     Set zs us C.accounts (o .account) C.account-open-orders (c + 1) → Is vs (shift (o .account) w 0 h (cell us)) → Is vs (place n o (cell xs))
 unfolding place
-place-is xs n o h c w l e f g p q r t =
+place-is xs n o h c w l e f g m p q r t =
     let o′ : Live = record { account = o .account; «client_ref» = o .«client_ref»; side = o .side; priced = o .priced; price = o .price; leaves = o .leaves; hold = h } in
     rw (← e, ← f, ← g)
     (then-shift (o .account) w 0 h l
-    (then-set (then-append n o′ p q)
+    (then-set (then-append n o′ m p q)
     (account-cell (o .account) C.account-open-orders l (omega arith)) r) t)
 
 -- ---- totals in range

@@ -22,8 +22,8 @@ use Rattle.store.specs.Layout.{cell}
 use Rattle.store.specs.View.{Store, word, wallet, gateway, Is, Ready}
 use Rattle.pending.specs.Pending as Pending
 use Rattle.pending.proofs.Views.{notices-view}
-use Rattle.sound.specs.Sound.{State, Becomes}
-use Rattle.sound.proofs.Kept.{becomes}
+use Rattle.sound.specs.Sound.{State, InPlace}
+use Rattle.sound.proofs.Kept.{in-place}
 use Rattle.sound.proofs.Waiting.{notices-sound}
 use Rattle.live.specs.Live.{with-notices, notice-where, wallet-notice, hold-notice}
 
@@ -71,7 +71,7 @@ module _ (xs : List ℕ) {ns ms : List ℕ} (e : ns ≡ ms) where
   pub same-needs : length ms + word (cell xs) C.notice-rows ≤ most-notices → length ns + word (cell xs) C.notice-rows ≤ most-notices
   same-needs l = rw e l
 
-  pub same-becomes : {ys : List ℕ} → Becomes ys (with-notices ns (gateway (cell xs))) → Becomes ys (with-notices ms (gateway (cell xs)))
+  pub same-becomes : {ys : List ℕ} → InPlace xs ys (with-notices ns (gateway (cell xs))) → InPlace xs ys (with-notices ms (gateway (cell xs)))
   same-becomes b = rw (← e) b
 
 -- one is pushed, or none
@@ -83,5 +83,5 @@ module _ {xs : List ℕ} (st : State xs) (a k : ℕ) (b : Bool) (e : k ≡ cond 
   pub where-needs : Ready xs × (k ≤ 1) × (k + word (cell xs) C.notice-rows ≤ most-notices)
   where-needs = (record { holds = st .holds; bounds = st .sound .tables .ordered .bounds }, counted .0, counted .1)
 
-  pub where-becomes : {ys : List ℕ} → Is ys (Pending.notices a k (cell xs)) → Becomes ys (with-notices (notice-where a b) (gateway (cell xs)))
-  where-becomes h = becomes h (notices-sound (cell xs) (st .sound) a k (counted .1)) (rw e (notices-view a (cell xs) b))
+  pub where-becomes : {ys : List ℕ} → Is ys (Pending.notices a k (cell xs)) → InPlace xs ys (with-notices (notice-where a b) (gateway (cell xs)))
+  where-becomes h = in-place st h (notices-sound (cell xs) (st .sound) a k (counted .1)) (rw e (notices-view a (cell xs) b)) (record { rows-are = refl; numbers-are = λ j l. refl })

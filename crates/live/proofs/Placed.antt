@@ -18,11 +18,11 @@ use Rattle.orders.specs.Orders.{order-of}
 use Rattle.orders.specs.Orders as Orders
 use Rattle.orders.proofs.Views.{Touched, Did, new-row, append-touched, append-view}
 use Rattle.orders.proofs.Room.{make-room-view, make-room-room, make-room-each, make-room-other}
-use Rattle.levels.specs.Levels.{block, used, size, row}
+use Rattle.levels.specs.Levels.{block, map-block, used, size, row}
 use Rattle.pending.specs.Pending.{Chained}
 use Rattle.pending.proofs.Chain.{chained-same}
 use Rattle.sound.specs.Sound.{Stored, held-cell, Clients, Tables, Sound}
-use Rattle.sound.proofs.Kept.{level-counts, levels-kept, clients-kept, clients-write, clients-room, chained-room}
+use Rattle.sound.proofs.Kept.{outline, maps-same, levels-kept, clients-kept, clients-write, clients-room, chained-room}
 use Rattle.sound.proofs.Totals.{Swapped, Counts, held-swapped}
 use Rattle.live.specs.Live.{CanPlace, with-ledger, holding, placing, shift, place}
 use Rattle.live.proofs.Accounts.{shift-view, open-view, tables-write, tables-shift, clients-shift, shift-counts, open-counts, hold-is, held-one, open-one}
@@ -39,10 +39,10 @@ module _ (s : Store) (d : Sound s) (n : ℕ) (o : Live) (can : CanPlace n o s) w
 
   -- what squeezing leaves alone
   pub word-kept : (k : ℕ) → (k ≡ C.order-rows → ⊥) → word roomy k ≡ word s k
-  word-kept k ne = make-room-other s (d .tables .ordered) C.header 0 k (λ e. omega arith) (λ e. omega arith) (λ e. ne)
+  word-kept k ne = make-room-other s (d .tables .ordered) C.header 0 k (λ e. omega arith) (λ e. omega arith) (λ e. omega arith) (λ e. ne)
 
   account-kept : (a k : ℕ) → roomy C.accounts a k ≡ s C.accounts a k
-  account-kept a k = make-room-other s (d .tables .ordered) C.accounts a k (λ e. omega arith) (λ e. omega arith) (λ e f. omega arith)
+  account-kept a k = make-room-other s (d .tables .ordered) C.accounts a k (λ e. omega arith) (λ e. omega arith) (λ e. omega arith) (λ e f. omega arith)
 
   pub room : word roomy C.order-rows < order-room
   room = make-room-room s (d .tables .ordered) (omega (arith, can .room, d .tables .resting-few))
@@ -87,13 +87,18 @@ module _ (s : Store) (d : Sound s) (n : ℕ) (o : Live) (can : CanPlace n o s) w
 
   same-levels : (z : Side) (j k : ℕ) → grown (block z) j k ≡ s (block z) j k
   unfolding Orders.append fill
-  same-levels Buy j k = make-room-other s (d .tables .ordered) C.bids j k (λ e. omega arith) (λ e. omega arith) (λ e f. omega arith)
-  same-levels Sell j k = make-room-other s (d .tables .ordered) C.asks j k (λ e. omega arith) (λ e. omega arith) (λ e f. omega arith)
+  same-levels Buy j k = make-room-other s (d .tables .ordered) C.bids j k (λ e. omega arith) (λ e. omega arith) (λ e. omega arith) (λ e f. omega arith)
+  same-levels Sell j k = make-room-other s (d .tables .ordered) C.asks j k (λ e. omega arith) (λ e. omega arith) (λ e. omega arith) (λ e f. omega arith)
 
-  same-sizes : (z : Side) → level-counts z grown ≡ level-counts z s
+  same-map : (z : Side) (j : ℕ) → grown (map-block z) j C.map-bits ≡ s (map-block z) j C.map-bits
+  unfolding Orders.append fill
+  same-map Buy j = make-room-other s (d .tables .ordered) C.bid-map j C.map-bits (λ e. omega arith) (λ e. omega arith) (λ e. omega arith) (λ e f. omega arith)
+  same-map Sell j = make-room-other s (d .tables .ordered) C.ask-map j C.map-bits (λ e. omega arith) (λ e. omega arith) (λ e. omega arith) (λ e f. omega arith)
+
+  same-sizes : (z : Side) → outline z grown ≡ outline z s
   unfolding Orders.append fill used size
-  same-sizes Buy = λ i. (word-kept C.bid-rows (λ e. omega arith) i, word-kept C.bid-levels (λ e. omega arith) i)
-  same-sizes Sell = λ i. (word-kept C.ask-rows (λ e. omega arith) i, word-kept C.ask-levels (λ e. omega arith) i)
+  same-sizes Buy = λ i. (word-kept C.bid-rows (λ e. omega arith) i, word-kept C.bid-levels (λ e. omega arith) i, maps-same s grown Buy (λ j l. same-map Buy j) i)
+  same-sizes Sell = λ i. (word-kept C.ask-rows (λ e. omega arith) i, word-kept C.ask-levels (λ e. omega arith) i, maps-same s grown Sell (λ j l. same-map Sell j) i)
 
   same-rows : (z : Side) (j : ℕ) → row z grown j ≡ row z s j
   same-rows z j = λ i. record { key = same-levels z j C.level-price i; qty = same-levels z j C.level-qty i; orders = same-levels z j C.level-orders i }

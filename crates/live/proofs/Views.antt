@@ -16,14 +16,15 @@ use Rattle.store.specs.Cells as C
 use Rattle.store.specs.View.{Row, Store, word, write, fill, side, order, ledger, depth, gateway}
 use Rattle.store.proofs.Rows.{put-cell}
 use Rattle.orders.specs.declared.Live.{Live}
-use Rattle.orders.specs.Orders.{Ordered, live-row, strike}
+use Rattle.orders.specs.Orders.{Ordered, Stays, live-row, strike}
 use Rattle.orders.specs.Orders as Orders
 use Rattle.orders.proofs.Views as Lists
 use Rattle.orders.proofs.Views.{Touched, Did, put-cells, revised, revise-touched, retire-touched, live-parts}
+use Rattle.orders.proofs.Kept.{stays-touched}
 use Rattle.levels.specs.Levels.{used, size, row}
 use Rattle.pending.proofs.Chain.{chains, chained-same}
 use Rattle.sound.specs.Sound.{Stored, Clients, Tables, Sound}
-use Rattle.sound.proofs.Kept.{sided, level-counts, levels-kept, clients-kept, clients-write}
+use Rattle.sound.proofs.Kept.{sided, outline, levels-kept, clients-kept, clients-write}
 use Rattle.sound.proofs.Totals.{Swapped, Counts, open-parts, held-swapped}
 use Rattle.live.specs.Live.{with-ledger, hold-word, shift, revise, retire}
 use Rattle.live.proofs.Accounts.{shift-view, open-view, tables-write, tables-shift, clients-shift, shift-counts, open-counts, hold-is, held-one, open-one}
@@ -37,7 +38,7 @@ one-is (suc n) x h k = refl
 -- what the tables need where one row changes and no order rests otherwise
 module _ {s u : Store} (i : ℕ) (r : Row) (c : Touched i r s u) (d : Tables s) (g : Ordered u) (rows-are : word u C.order-rows ≡ word s C.order-rows) (number-is : r C.order-number ≡ s C.orders i C.order-number)
     (live-is : word u C.live-orders ≤ word s C.live-orders) (resting-is : word u C.resting-orders ≡ word s C.resting-orders) (rest : depth u .resting ≡ depth s .resting)
-    (sizes : (z : Side) → level-counts z u ≡ level-counts z s) (rows : (z : Side) (j : ℕ) → row z u j ≡ row z s j) (same : chains u ≡ chains s) where
+    (sizes : (z : Side) → outline z u ≡ outline z s) (rows : (z : Side) (j : ℕ) → row z u j ≡ row z s j) (same : chains u ≡ chains s) where
   word-kept : (k : ℕ) → (k ≡ C.order-rows → ⊥) → (k ≡ C.live-orders → ⊥) → (k ≡ C.resting-orders → ⊥) → word u k ≡ word s k
   word-kept = c .words
 
@@ -135,7 +136,7 @@ module _ (s : Store) (d : Sound s) (i : ℕ) (l : i < word s C.order-rows) (m : 
     tables-revised =
         let g = does (revised c p v) refl in
         tables-shift _ _ _ _ u
-        (tables-row i now-row touched (d .tables) (g .ordered) refl refl (omega arith) refl (ap (λ x. x .rest .depth .resting) (g .view)) (λ z. refl) (sided (λ z. (j : ℕ) → row z u j ≡ row z s j) (λ j. refl) (λ j. refl)) refl)
+        (tables-row i now-row touched (d .tables) (g .ordered) refl refl (omega arith) refl (ap (λ x. x .rest .depth .resting) (g .view)) (sided (λ z. outline z u ≡ outline z s) refl refl) (sided (λ z. (j : ℕ) → row z u j ≡ row z s j) (λ j. refl) (λ j. refl)) refl)
 
     clients-revised : Clients t
     unfolding revise fill
@@ -151,6 +152,10 @@ module _ (s : Store) (d : Sound s) (i : ℕ) (l : i < word s C.order-rows) (m : 
               held-swapped swapped counts (d .held) hold-one (now-stored .hold-is ∙ sym (held-one (order now-row))) (sym (open-one (order was))) (sym (open-one (order now-row)))
               (rows-kept now-row touched refl (λ _. now-stored));
         }
+
+    pub revise-stays : Stays s t
+    unfolding revise shift fill
+    revise-stays = let e = stays-touched touched refl refl in record { rows-are = e .rows-are; numbers-are = e .numbers-are }
 
   -- ---- the end of it
 
@@ -197,7 +202,7 @@ module _ (s : Store) (d : Sound s) (i : ℕ) (l : i < word s C.order-rows) (m : 
       let g = Lists.retire-view s i (d .tables .ordered) l m in
       tables-shift _ _ _ _ _
       (tables-write _ _ _ struck
-      (tables-row i ended-row (retire-touched s i (d .tables .ordered) l) (d .tables) (g .ordered) refl refl (omega arith) refl (ap (λ x. x .rest .depth .resting) (g .view)) (sided (λ z. level-counts z struck ≡ level-counts z s) refl refl) (sided (λ z. (j : ℕ) → row z struck j ≡ row z s j) (λ j. refl) (λ j. refl)) refl))
+      (tables-row i ended-row (retire-touched s i (d .tables .ordered) l) (d .tables) (g .ordered) refl refl (omega arith) refl (ap (λ x. x .rest .depth .resting) (g .view)) (sided (λ z. outline z struck ≡ outline z s) refl refl) (sided (λ z. (j : ℕ) → row z struck j ≡ row z s j) (λ j. refl) (λ j. refl)) refl))
 
   clients-retired : Clients ended
   unfolding retire strike
@@ -214,3 +219,7 @@ module _ (s : Store) (d : Sound s) (i : ℕ) (l : i < word s C.order-rows) (m : 
             held-swapped retire-swapped retire-counts (d .held) hold-one int-zero (sym (open-one (order was))) refl
             (rows-kept ended-row (retire-touched s i (d .tables .ordered) l) refl (λ n. absurd (omega arith)));
       }
+
+  pub retire-stays : Stays s ended
+  unfolding retire shift strike
+  retire-stays = let e = stays-touched (retire-touched s i (d .tables .ordered) l) refl refl in record { rows-are = e .rows-are; numbers-are = e .numbers-are }

@@ -17,7 +17,7 @@ ghost use Rattle.store.specs.Cells as C;
 ghost use Rattle.store.specs.Layout.{cell, Holds};
 ghost use Rattle.store.specs.View.{word, side, order-room, gateway, Is};
 ghost use Rattle.orders.specs.Orders.{number-at};
-ghost use Rattle.sound.specs.Sound.{held-cell, State, Becomes};
+ghost use Rattle.sound.specs.Sound.{held-cell, State, Becomes, InPlace};
 ghost use Rattle.live.specs.Live as P;
 
 // The cell of an account's row with what its orders of a side hold.
@@ -31,7 +31,7 @@ fn held_cell(side: Side) -> usize
 }
 
 // One of two numbers. Whether an account has a wallet cannot be foreseen, so nothing jumps on it.
-fn choose(b: bool, x: u64, y: u64) -> u64
+pub fn choose(b: bool, x: u64, y: u64) -> u64
     ensures { λ r. ⌜ r ≡ cond b x y ⌝ }
 {
     if b { x } else { y }
@@ -111,7 +111,7 @@ fn revise(m: &mut [u8], i: usize, o: Live, priced: u64, price: u64, leaves: u64,
 // The order's open quantity is now `leaves`: what it holds follows.
 pub fn set_leaves(m: &mut [u8], i: usize, leaves: u64, hold: u64)
     requires { ⌜ State (now m) × P.At i (cell (now m)) × (hold ≡ P.hold-left leaves (cell (now m) C.orders i)) ⌝ }
-    ensures { λ r. ⌜ Becomes (now (m .exit)) (P.with-ledger (Ledger.change (Ledger.set-leaves (number-at i (cell (now (m .entry)))) leaves)) (gateway (cell (now (m .entry))))) ⌝ }
+    ensures { λ r. ⌜ InPlace (now (m .entry)) (now (m .exit)) (P.with-ledger (Ledger.change (Ledger.set-leaves (number-at i (cell (now (m .entry)))) leaves)) (gateway (cell (now (m .entry))))) ⌝ }
 {
     let o = orders::live_at(m, i);
     revise(m, i, o, o.priced, o.price, leaves, hold);
@@ -119,7 +119,7 @@ pub fn set_leaves(m: &mut [u8], i: usize, leaves: u64, hold: u64)
 
 // The order ends: what it held goes back, and its account has one order less.
 fn end(m: &mut [u8], i: usize, o: Live)
-    requires { ⌜ Holds (now m) × (i < order-room) × (o .account < owner-slots) × (0 < word (cell (now m)) C.live-orders) × (0 < cell (now m) C.accounts (o .account) C.account-open-orders) ⌝ }
+    requires { ⌜ Holds (now m) × (i < order-room) × (o .account < owner-slots) × (0 < word (cell (now m)) C.live-orders) × (0 < cell (now m) C.accounts (o .account) C.account-open-orders) × (cell (now m) C.orders i C.order-resting ≤ 1) ⌝ }
     ensures { λ r. ⌜ Is (now (m .exit)) (P.retire i o (cell (now (m .entry)))) ⌝ }
 {
     let a = o.account as usize;
@@ -132,7 +132,7 @@ fn end(m: &mut [u8], i: usize, o: Live)
 // The order has left the book.
 pub fn retire(m: &mut [u8], i: usize)
     requires { ⌜ State (now m) × P.At i (cell (now m)) ⌝ }
-    ensures { λ r. ⌜ Becomes (now (m .exit)) (P.with-ledger (Ledger.change (Ledger.retire (number-at i (cell (now (m .entry)))))) (gateway (cell (now (m .entry))))) ⌝ }
+    ensures { λ r. ⌜ InPlace (now (m .entry)) (now (m .exit)) (P.with-ledger (Ledger.change (Ledger.retire (number-at i (cell (now (m .entry)))))) (gateway (cell (now (m .entry))))) ⌝ }
 {
     let o = orders::live_at(m, i);
     end(m, i, o);
@@ -140,7 +140,7 @@ pub fn retire(m: &mut [u8], i: usize)
 
 // An order with nothing left is done.
 fn leave(m: &mut [u8], i: usize, o: Live, priced: u64, price: u64, leaves: u64, hold: u64)
-    requires { ⌜ Holds (now m) × (i < order-room) × (o .account < owner-slots) × (0 < word (cell (now m)) C.live-orders) × (0 < cell (now m) C.accounts (o .account) C.account-open-orders) × (hold ≡ P.hold-word (o .side) priced price leaves) ⌝ }
+    requires { ⌜ Holds (now m) × (i < order-room) × (o .account < owner-slots) × (0 < word (cell (now m)) C.live-orders) × (0 < cell (now m) C.accounts (o .account) C.account-open-orders) × (cell (now m) C.orders i C.order-resting ≤ 1) × (hold ≡ P.hold-word (o .side) priced price leaves) ⌝ }
     ensures { λ r. ⌜ Is (now (m .exit)) (P.left i o priced price leaves (cell (now (m .entry)))) ⌝ }
 {
     if leaves == 0 {
@@ -153,7 +153,7 @@ fn leave(m: &mut [u8], i: usize, o: Live, priced: u64, price: u64, leaves: u64, 
 // A modify changed its price and its open quantity.
 pub fn reprice(m: &mut [u8], i: usize, price: u64, leaves: u64, hold: u64)
     requires { ⌜ State (now m) × P.At i (cell (now m)) × (hold ≡ P.hold-repriced price leaves (cell (now m) C.orders i)) ⌝ }
-    ensures { λ r. ⌜ Becomes (now (m .exit)) (P.with-ledger (Ledger.change (Ledger.reprice (number-at i (cell (now (m .entry)))) (int price) leaves)) (gateway (cell (now (m .entry))))) ⌝ }
+    ensures { λ r. ⌜ InPlace (now (m .entry)) (now (m .exit)) (P.with-ledger (Ledger.change (Ledger.reprice (number-at i (cell (now (m .entry)))) (int price) leaves)) (gateway (cell (now (m .entry))))) ⌝ }
 {
     let o = orders::live_at(m, i);
     leave(m, i, o, 1, price, leaves, hold);
@@ -175,7 +175,7 @@ fn pay(m: &mut [u8], account: usize, side: Side, price: u64, qty: u64)
 // The order traded `qty` at `price`, and has `leaves` open.
 pub fn traded(m: &mut [u8], i: usize, price: u64, qty: u64, leaves: u64, hold: u64)
     requires { ⌜ State (now m) × P.At i (cell (now m)) × (hold ≡ P.hold-left leaves (cell (now m) C.orders i)) ⌝ }
-    ensures { λ r. ⌜ Becomes (now (m .exit)) (P.with-ledger (Ledger.change (Ledger.fill (number-at i (cell (now (m .entry)))) (int price) qty leaves)) (gateway (cell (now (m .entry))))) ⌝ }
+    ensures { λ r. ⌜ InPlace (now (m .entry)) (now (m .exit)) (P.with-ledger (Ledger.change (Ledger.fill (number-at i (cell (now (m .entry)))) (int price) qty leaves)) (gateway (cell (now (m .entry))))) ⌝ }
 {
     let o = orders::live_at(m, i);
     pay(m, o.account as usize, store::side_of(o.side), price, qty);
@@ -227,7 +227,7 @@ pub fn seed(m: &mut [u8], number: u64, o: Live)
 // A notice of the account, or none.
 fn notice_where(m: &mut [u8], account: u64, noticed: bool)
     requires { ⌜ State (now m) × (length (P.notice-where account noticed) + word (cell (now m)) C.notice-rows ≤ most-notices) ⌝ }
-    ensures { λ r. ⌜ Becomes (now (m .exit)) (P.with-notices (P.notice-where account noticed) (gateway (cell (now (m .entry))))) ⌝ }
+    ensures { λ r. ⌜ InPlace (now (m .entry)) (now (m .exit)) (P.with-notices (P.notice-where account noticed) (gateway (cell (now (m .entry))))) ⌝ }
 {
     pending::push_notices(m, account, choose(noticed, 1, 0));
 }
@@ -235,7 +235,7 @@ fn notice_where(m: &mut [u8], account: u64, noticed: bool)
 // A notice that the account's wallet changed, where it has one.
 pub fn notice(m: &mut [u8], account: u64)
     requires { ⌜ State (now m) × (account < owner-slots) × (length (P.wallet-notice account (cell (now m))) + word (cell (now m)) C.notice-rows ≤ most-notices) ⌝ }
-    ensures { λ r. ⌜ Becomes (now (m .exit)) (P.with-notices (P.wallet-notice account (cell (now (m .entry)))) (gateway (cell (now (m .entry))))) ⌝ }
+    ensures { λ r. ⌜ InPlace (now (m .entry)) (now (m .exit)) (P.with-notices (P.wallet-notice account (cell (now (m .entry)))) (gateway (cell (now (m .entry))))) ⌝ }
 {
     let funded = clients::is_funded(m, account as usize);
     notice_where(m, account, funded);
@@ -244,7 +244,7 @@ pub fn notice(m: &mut [u8], account: u64)
 // A notice that what the account's order holds went from `old` to `new`.
 pub fn notice_hold(m: &mut [u8], account: u64, old: u64, new: u64)
     requires { ⌜ State (now m) × (account < owner-slots) × (length (P.hold-notice account (int old) (int new) (cell (now m))) + word (cell (now m)) C.notice-rows ≤ most-notices) ⌝ }
-    ensures { λ r. ⌜ Becomes (now (m .exit)) (P.with-notices (P.hold-notice account (int old) (int new) (cell (now (m .entry)))) (gateway (cell (now (m .entry))))) ⌝ }
+    ensures { λ r. ⌜ InPlace (now (m .entry)) (now (m .exit)) (P.with-notices (P.hold-notice account (int old) (int new) (cell (now (m .entry)))) (gateway (cell (now (m .entry))))) ⌝ }
 {
     let funded = clients::is_funded(m, account as usize);
     notice_where(m, account, funded & (old != new));

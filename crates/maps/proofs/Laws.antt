@@ -1,7 +1,7 @@
 -- What the calls answer, from what the functions below them ensure. Assumes nothing.
 use mathlib.Core.Path.{_≡_, refl, sym, ap, _∙_}
 use mathlib.Core.List.{List}
-use Prim.Native.Nat.{ℕ, _+_, _<_}
+use Prim.Native.Nat.{ℕ, _+_, _≤_, _<_}
 use native.Mathlib.Numerals.{add-one}
 use native.Mathlib.Omega.{arith}
 use borrow.Author.Needs.{needs}
@@ -42,6 +42,9 @@ module _ (xs : List ℕ) (n : ℕ) (f : Found) (i : ℕ) (s : Live-at xs n f) (e
 
   pub some-live : Ordered (cell xs) → 0 < word (cell xs) C.live-orders
   some-live o = live-some (cell xs) i o (at-i .row .0) (at-i .row .2)
+
+  pub flag-small : Ordered (cell xs) → cell xs C.orders i C.order-resting ≤ 1
+  flag-small o = o .sorted .flags i (at-i .row .0) .resting-is
 
   pub leaves-is : (l : Live) → l ≡ live-row (cell xs C.orders i) → l .leaves ≡ option 0 (λ o. o .leaves) (look number-of n (ledger (cell xs) .orders))
   leaves-is l q = rw (at-i .order) (ap (λ (x : Live). x .leaves) q)
@@ -89,4 +92,4 @@ buy n e = rw (eq-eqb n 0 e) refl
 pub sell : (n : ℕ) → (n ≡ 0 → ⊥) → Sell ≡ side n
 sell n e = rw (ne-eqb n 0 e) refl
 
-pub ruleset laws = (needs, row-inside, some-live, leaves-is, done-at, leaves-none, done-none, room-made, live-fits, qty-is, qty-none, level-inside, buy, sell, then-append)
+pub ruleset laws = (needs, row-inside, some-live, flag-small, leaves-is, done-at, leaves-none, done-none, room-made, live-fits, qty-is, qty-none, level-inside, buy, sell, then-append)

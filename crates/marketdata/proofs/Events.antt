@@ -15,16 +15,18 @@ use Rattle.orderbook.specs.declared.Event.the-variants.{Rested, Trade, Replenis
 use Rattle.words.specs.Words.{int}
 use Rattle.table.specs.declared.Found.{Found}
 use Rattle.table.specs.declared.Found.the-variants.{At, Nothing}
-use Rattle.gateway.specs.Basics.{option}
+use Rattle.gateway.specs.Basics.{option, is-some}
 use Rattle.gateway.specs.Depth as D
 use Rattle.gateway.proofs.Base.{split}
 use Rattle.gateway.proofs.Sorted.{look-key, look-without, look-replace}
 use Rattle.store.specs.Cells as C
 use Rattle.store.specs.Layout.{cell, Holds}
-use Rattle.store.specs.View.{Ready, side, resting, depth, gateway, order-room}
+use Rattle.store.specs.View.{side, resting, depth, gateway, order-room}
 use Rattle.orders.specs.declared.Resting.{Resting}
-use Rattle.orders.specs.Orders.{Sorted, Sees, resting-row}
-use Rattle.sound.specs.Sound.{State, Becomes}
+use Rattle.orders.specs.Orders.{Sees, resting-row}
+use Rattle.sound.specs.Sound.{State, InPlace}
+use Rattle.sound.proofs.Kept.{seen-resting}
+use Rattle.orders.proofs.Kept.{stays-same, stays-then}
 use Rattle.marketdata.specs.Marketdata as P
 use Rattle.marketdata.specs.Marketdata.{with-depth, resting-at, Roomy, Judged, CanFill, CanTrade, replenished, traded}
 use Rattle.orders.specs.Orders.{resting-of}
@@ -53,9 +55,6 @@ rested-applies n o d = refl
 
 -- ---- where the order rests
 
-pub find-asks : {xs : List ℕ} → State xs → Ready xs × Sorted (cell xs)
-find-asks s = (record { holds = s .holds; bounds = s .sound .tables .ordered .bounds }, s .sound .tables .ordered .sorted)
-
 -- what a lookup sees
 abbrev pub Seen : List ℕ → ℕ → Found → Type 0
 Seen xs n r = Sees C.order-resting resting D.resting-number (cell xs) n r
@@ -79,8 +78,8 @@ module _ (xs : List ℕ) (n i : ℕ) (s : State xs) (r : Found) (seen : Seen xs 
   pub found-judged : (f : D.Resting → D.Depth → D.Depth) → Judged (D.where-resting n f (depth (cell xs))) → Judged (f (resting-at i (cell xs)) (depth (cell xs)))
   found-judged f h = rw (found-view f) at h
 
-  pub found-becomes : {ys : List ℕ} (f : D.Resting → D.Depth → D.Depth) → Becomes ys (with-depth (f (resting-at i (cell xs))) (gateway (cell xs))) → Becomes ys (with-depth (D.where-resting n f) (gateway (cell xs)))
-  found-becomes {ys} f b = subst (λ (d : D.Depth). Becomes ys (with-depth (λ _. d) (gateway (cell xs)))) (sym (found-view f)) b
+  pub found-becomes : {ys : List ℕ} (f : D.Resting → D.Depth → D.Depth) → InPlace xs ys (with-depth (f (resting-at i (cell xs))) (gateway (cell xs))) → InPlace xs ys (with-depth (D.where-resting n f) (gateway (cell xs)))
+  found-becomes {ys} f b = subst (λ (d : D.Depth). InPlace xs ys (with-depth (λ _. d) (gateway (cell xs)))) (sym (found-view f)) b
 
   pub found-shows : (o : Resting) → o ≡ resting-row (cell xs C.orders i) → (q : ℕ) → D.shows n q (depth (cell xs) .resting) ≡ true → q ≤ o .visible
   found-shows o w q h =
@@ -89,11 +88,11 @@ module _ (xs : List ℕ) (n i : ℕ) (s : State xs) (r : Found) (seen : Seen xs 
 
 -- where it does not, nothing happens
 pub nothing-becomes : (xs : List ℕ) (n : ℕ) → State xs → (r : Found) → Seen xs n r → r ≡ Nothing → (f : D.Resting → D.Depth → D.Depth) →
-    Becomes xs (with-depth (D.where-resting n f) (gateway (cell xs)))
+    InPlace xs xs (with-depth (D.where-resting n f) (gateway (cell xs)))
 nothing-becomes xs n s r seen absent f =
     let e : Seen xs n Nothing = rw absent at seen in
-    subst (λ (d : D.Depth). Becomes xs (with-depth (λ _. d) (gateway (cell xs)))) (sym (ap (option (depth (cell xs)) (λ o. f o (depth (cell xs)))) (e .order)))
-    (record { state = s; gateway-is = refl })
+    subst (λ (d : D.Depth). InPlace xs xs (with-depth (λ _. d) (gateway (cell xs)))) (sym (ap (option (depth (cell xs)) (λ o. f o (depth (cell xs)))) (e .order)))
+    (record { becomes = record { state = s; gateway-is = refl }; stays = stays-same (cell xs) })
 
 -- ---- a trade's two fills
 
@@ -134,9 +133,18 @@ module _ {d : D.Depth} (taker maker q tl ml : ℕ) (c : CanTrade taker maker q t
         room = c .room;
       }
 
-module _ (xs : List ℕ) (taker maker q tl ml : ℕ) (c : CanTrade taker maker q tl ml (depth (cell xs))) {ys : List ℕ} (b : Becomes ys (with-depth (D.where-resting maker (D.filled q ml)) (gateway (cell xs)))) where
-  pub taker-asks : State ys × CanFill taker q tl (depth (cell ys))
-  taker-asks = (b .state, rw (ap (λ g. g .rest .depth) (b .gateway-is)) (taker-can taker maker q tl ml c))
+module _ (xs : List ℕ) (taker maker q tl ml : ℕ) (c : CanTrade taker maker q tl ml (depth (cell xs))) {ys : List ℕ} (b : InPlace xs ys (with-depth (D.where-resting maker (D.filled q ml)) (gateway (cell xs)))) where
+  -- the maker's fill leaves the taker where it is
+  pub taker-asks : (at : Found) → Seen xs taker at → State ys × Seen ys taker at × CanFill taker q tl (depth (cell ys))
+  taker-asks at h = (
+    b .becomes .state,
+    seen-resting b taker at (ap is-some (fill-where maker q ml (depth (cell xs)) .others taker (c .two))) h,
+    rw (ap (λ g. g .rest .depth) (b .becomes .gateway-is)) (taker-can taker maker q tl ml c),
+  )
 
-  pub trade-done : {zs : List ℕ} → Becomes zs (with-depth (D.where-resting taker (D.filled q tl)) (gateway (cell ys))) → Becomes zs (with-depth (traded taker maker q tl ml) (gateway (cell xs)))
-  trade-done e = record { state = e .state; gateway-is = e .gateway-is ∙ ap (with-depth (D.where-resting taker (D.filled q tl))) (b .gateway-is) }
+  pub trade-done : {zs : List ℕ} → InPlace ys zs (with-depth (D.where-resting taker (D.filled q tl)) (gateway (cell ys))) → InPlace xs zs (with-depth (traded taker maker q tl ml) (gateway (cell xs)))
+  trade-done e =
+      record {
+        becomes = record { state = e .becomes .state; gateway-is = e .becomes .gateway-is ∙ ap (with-depth (D.where-resting taker (D.filled q tl))) (b .becomes .gateway-is) };
+        stays = stays-then (b .stays) (e .stays);
+      }

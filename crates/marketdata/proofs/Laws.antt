@@ -12,11 +12,12 @@ use Rattle.words.specs.Words.{int, half, _⊖_, modulus}
 use Rattle.table.specs.Live.{look, without, insert, replace}
 use Rattle.gateway.specs.Limits.{most-changed}
 use Rattle.gateway.specs.Depth as D
+use Rattle.gateway.proofs.Base.{split}
 use Rattle.gateway.proofs.Sorted.{length-insert}
 use Rattle.gateway.proofs.Levels.{same-itself}
 use Rattle.store.specs.Cells as C
 use Rattle.store.specs.Layout.{cell, Holds}
-use Rattle.store.specs.View.{Is, word, side, resting, depth, gateway, order-room}
+use Rattle.store.specs.View.{Store, Is, word, fill, side, resting, depth, gateway, order-room}
 use Rattle.orders.specs.declared.Resting.{Resting}
 use Rattle.orders.specs.Orders as Orders
 use Rattle.levels.specs.Levels.{entries, price, removed, shown, Table, CanRemove}
@@ -24,10 +25,11 @@ use Rattle.levels.specs.Levels as L
 use Rattle.pending.specs.Pending as Pending
 use Rattle.pending.proofs.Keys.{same-price-is}
 use Rattle.pending.proofs.Views.{remember-view}
-use Rattle.sound.specs.Sound.{State, Becomes}
-use Rattle.sound.proofs.Kept.{becomes}
+use Rattle.sound.specs.Sound.{State, Becomes, InPlace}
+use Rattle.sound.proofs.Kept.{in-place}
 use Rattle.marketdata.specs.Marketdata.{At, Free, resting-at, with-depth, with-resting, remembering, Roomy, Fits, CanShow, Judged, CanAdd, CanOpen, Opens, replenished, stays}
-use Rattle.orders.specs.Orders.{number-at, resting-of}
+use Rattle.orders.specs.Orders.{Stays, number-at, resting-of}
+use Rattle.orders.proofs.Kept.{stays-same, stays-then}
 use Rattle.pending.specs.Pending.{key}
 use Rattle.gateway.proofs.AtPrice.{level-fits, few-parts}
 use Rattle.gateway.proofs.Depths.{lesser-le}
@@ -38,9 +40,14 @@ use Rattle.marketdata.proofs.Rests.{add-can, rest-can, rest-done}
 
 -- ---- a level has changed
 
+remember-stays : (x p : ℕ) (s : Store) → Stays s (Pending.remember x p s)
+unfolding Pending.remember fill
+remember-stays x p s =
+    split (λ c. Stays s (cond c s (Pending.push-level x p s))) (D.is-changed (key x p) (depth s .changed)) (λ _. stays-same s) (λ _. record { rows-are = refl; numbers-are = λ j l. refl })
+
 pub remember-done : {xs ys : List ℕ} (x p : ℕ) → State xs → Roomy (remembering (key x p) (depth (cell xs))) → Is ys (Pending.remember x p (cell xs)) →
-    Becomes ys (with-depth (remembering (key x p)) (gateway (cell xs)))
-remember-done {xs} x p s h e = becomes e (remember-sound x p (cell xs) (s .sound) h) (remember-view x p (cell xs))
+    InPlace xs ys (with-depth (remembering (key x p)) (gateway (cell xs)))
+remember-done {xs} x p s h e = in-place s e (remember-sound x p (cell xs) (s .sound) h) (remember-view x p (cell xs)) (remember-stays x p (cell xs))
 
 -- the orders changed, and their level is remembered
 module _ (xs : List ℕ) {ys : List ℕ} (f : List D.Resting → List D.Resting) (b : Becomes ys (with-depth (with-resting f) (gateway (cell xs)))) where
@@ -52,6 +59,12 @@ module _ (xs : List ℕ) {ys : List ℕ} (f : List D.Resting → List D.Resting)
 
   remembered : {zs : List ℕ} (q : D.Key) → Becomes zs (with-depth (remembering q) (gateway (cell ys))) → Becomes zs (with-depth (λ d. remembering q (with-resting f d)) (gateway (cell xs)))
   remembered q c = record { state = c .state; gateway-is = c .gateway-is ∙ ap (with-depth (remembering q)) (b .gateway-is) }
+
+-- and no row moved
+module _ (xs : List ℕ) {ys zs : List ℕ} (f : List D.Resting → List D.Resting) (q : D.Key) where
+  remembered-here : InPlace xs ys (with-depth (with-resting f) (gateway (cell xs))) → InPlace ys zs (with-depth (remembering q) (gateway (cell ys))) →
+      InPlace xs zs (with-depth (λ d. remembering q (with-resting f d)) (gateway (cell xs)))
+  remembered-here b c = record { becomes = remembered xs f (b .becomes) q (c .becomes); stays = stays-then (b .stays) (c .stays) }
 
 -- ---- a resting order
 
@@ -79,10 +92,10 @@ module _ {xs : List ℕ} (s : State xs) (i : ℕ) (o : Resting) (a : At i o (cel
       did : L.Did (r .side) xs ys (removed k (r .visible) (entries (r .side) (cell xs)))
       did = rw (side-is, visible-is) at d
 
-      pub take-off-asks : Holds ys × (i < order-room) × (0 < word (cell ys) C.resting-orders)
-      take-off-asks = let t = gone-can s i (a .inside) (a .rests) k price-is did in (d .table .holds, t .0, t .1)
+      pub take-off-asks : Holds ys × (i < order-room) × (0 < word (cell ys) C.resting-orders) × (cell ys C.orders i C.order-live ≤ 1)
+      take-off-asks = let t = gone-can s i (a .inside) (a .rests) k price-is did in (d .table .holds, t .0, t .1, t .2)
 
-      pub strike-done : {zs : List ℕ} → Is zs (Orders.take-off i (cell ys)) → Becomes zs (with-depth (with-resting (without D.resting-number (r .number))) (gateway (cell xs)))
+      pub strike-done : {zs : List ℕ} → Is zs (Orders.take-off i (cell ys)) → InPlace xs zs (with-depth (with-resting (without D.resting-number (r .number))) (gateway (cell xs)))
       strike-done h = gone-done s i (a .inside) (a .rests) k price-is did h
 
     module _ (w v : ℕ) where
@@ -97,31 +110,31 @@ module _ {xs : List ℕ} (s : State xs) (i : ℕ) (o : Resting) (a : At i o (cel
         pub show-asks : Holds ys × (i < order-room)
         show-asks = (d .table .holds, showed-can s i (a .inside) (a .rests) k price-is w v now-shown)
 
-        pub reshow-done : {zs : List ℕ} → Is zs (Orders.show i w v (cell ys)) → Becomes zs (with-depth (with-resting (replace D.resting-number (D.showing w v r))) (gateway (cell xs)))
+        pub reshow-done : {zs : List ℕ} → Is zs (Orders.show i w v (cell ys)) → InPlace xs zs (with-depth (with-resting (replace D.resting-number (D.showing w v r))) (gateway (cell xs)))
         reshow-done h = showed-done s i (a .inside) (a .rests) k price-is w v now-shown h
 
   -- and its level is remembered
   module _ {ys : List ℕ} where
-    pub off-asks : Roomy (D.take-off r (depth (cell xs))) → Becomes ys (with-depth (with-resting (without D.resting-number (r .number))) (gateway (cell xs))) →
+    pub off-asks : Roomy (D.take-off r (depth (cell xs))) → InPlace xs ys (with-depth (with-resting (without D.resting-number (r .number))) (gateway (cell xs))) →
         State ys × Roomy (remembering (key (o .side) (o .price)) (depth (cell ys)))
     unfolding D.take-off
-    off-asks h b = remember-asks xs (without D.resting-number (r .number)) b (key (o .side) (o .price)) (rw key-is h)
+    off-asks h b = remember-asks xs (without D.resting-number (r .number)) (b .becomes) (key (o .side) (o .price)) (rw key-is h)
 
-    pub remove-done : {zs : List ℕ} → Becomes ys (with-depth (with-resting (without D.resting-number (r .number))) (gateway (cell xs))) →
-        Becomes zs (with-depth (remembering (key (o .side) (o .price))) (gateway (cell ys))) → Becomes zs (with-depth (D.take-off r) (gateway (cell xs)))
+    pub remove-done : {zs : List ℕ} → InPlace xs ys (with-depth (with-resting (without D.resting-number (r .number))) (gateway (cell xs))) →
+        InPlace ys zs (with-depth (remembering (key (o .side) (o .price))) (gateway (cell ys))) → InPlace xs zs (with-depth (D.take-off r) (gateway (cell xs)))
     unfolding D.take-off
-    remove-done b c = rw key-is at (remembered xs (without D.resting-number (r .number)) b (key (o .side) (o .price)) c)
+    remove-done b c = rw key-is at (remembered-here xs (without D.resting-number (r .number)) (key (o .side) (o .price)) b c)
 
     module _ (w v : ℕ) where
-      pub shown-asks : Roomy (D.show (D.showing w v r) (depth (cell xs))) → Becomes ys (with-depth (with-resting (replace D.resting-number (D.showing w v r))) (gateway (cell xs))) →
+      pub shown-asks : Roomy (D.show (D.showing w v r) (depth (cell xs))) → InPlace xs ys (with-depth (with-resting (replace D.resting-number (D.showing w v r))) (gateway (cell xs))) →
           State ys × Roomy (remembering (key (o .side) (o .price)) (depth (cell ys)))
       unfolding D.show
-      shown-asks h b = remember-asks xs (replace D.resting-number (D.showing w v r)) b (key (o .side) (o .price)) (rw key-is h)
+      shown-asks h b = remember-asks xs (replace D.resting-number (D.showing w v r)) (b .becomes) (key (o .side) (o .price)) (rw key-is h)
 
-      pub show-done : {zs : List ℕ} → Becomes ys (with-depth (with-resting (replace D.resting-number (D.showing w v r))) (gateway (cell xs))) →
-          Becomes zs (with-depth (remembering (key (o .side) (o .price))) (gateway (cell ys))) → Becomes zs (with-depth (D.show (D.showing w v r)) (gateway (cell xs)))
+      pub show-done : {zs : List ℕ} → InPlace xs ys (with-depth (with-resting (replace D.resting-number (D.showing w v r))) (gateway (cell xs))) →
+          InPlace ys zs (with-depth (remembering (key (o .side) (o .price))) (gateway (cell ys))) → InPlace xs zs (with-depth (D.show (D.showing w v r)) (gateway (cell xs)))
       unfolding D.show
-      show-done b c = rw key-is at (remembered xs (replace D.resting-number (D.showing w v r)) b (key (o .side) (o .price)) c)
+      show-done b c = rw key-is at (remembered-here xs (replace D.resting-number (D.showing w v r)) (key (o .side) (o .price)) b c)
 
 -- ---- whether a modify leaves an order in place
 
@@ -161,14 +174,14 @@ module _ (xs : List ℕ) (i : ℕ) (o : Resting) (a : At i o (cell xs)) where
     pub fill-off-asks : v ≡ 0 → Roomy (D.filled q v it d) → Roomy (D.take-off it d)
     fill-off-asks e h = rw (filled-off e d) at h
 
-    pub fill-off-done : {ys : List ℕ} → v ≡ 0 → Becomes ys (with-depth (D.take-off it) (gateway (cell xs))) → Becomes ys (with-depth (D.filled q v it) (gateway (cell xs)))
-    fill-off-done {ys} e b = subst (λ (x : D.Depth). Becomes ys (with-depth (λ _. x) (gateway (cell xs)))) (sym (filled-off e d)) b
+    pub fill-off-done : {ys : List ℕ} → v ≡ 0 → InPlace xs ys (with-depth (D.take-off it) (gateway (cell xs))) → InPlace xs ys (with-depth (D.filled q v it) (gateway (cell xs)))
+    fill-off-done {ys} e b = subst (λ (x : D.Depth). InPlace xs ys (with-depth (λ _. x) (gateway (cell xs)))) (sym (filled-off e d)) b
 
     pub fill-show-asks : (v ≡ 0 → ⊥) → Roomy (D.filled q v it d) → CanShow (o .visible) (D.showing (o .visible - q) v it) d
     fill-show-asks n h = record { fits = λ l. absurd (omega arith); room = rw (filled-shows n d) at h }
 
-    pub fill-show-done : {ys : List ℕ} → (v ≡ 0 → ⊥) → Becomes ys (with-depth (D.show (D.showing (o .visible - q) v it)) (gateway (cell xs))) → Becomes ys (with-depth (D.filled q v it) (gateway (cell xs)))
-    fill-show-done {ys} n b = subst (λ (x : D.Depth). Becomes ys (with-depth (λ _. x) (gateway (cell xs)))) (sym (filled-shows n d)) b
+    pub fill-show-done : {ys : List ℕ} → (v ≡ 0 → ⊥) → InPlace xs ys (with-depth (D.show (D.showing (o .visible - q) v it)) (gateway (cell xs))) → InPlace xs ys (with-depth (D.filled q v it) (gateway (cell xs)))
+    fill-show-done {ys} n b = subst (λ (x : D.Depth). InPlace xs ys (with-depth (λ _. x) (gateway (cell xs)))) (sym (filled-shows n d)) b
 
   module _ (w : ℕ) where
     shows-next : (x : D.Depth) → D.show (D.showing w (o .leaves) it) x ≡ replenished w it x
@@ -178,8 +191,8 @@ module _ (xs : List ℕ) (i : ℕ) (o : Resting) (a : At i o (cell xs)) where
     unfolding D.show
     replenish-asks h = rw (ap (λ (y : Resting). y .leaves) (a .is)) (record { fits = λ _. level-fits (it .side) (it .price) _ (h .fits); room = few-parts _ (h .few) .2 })
 
-    pub replenish-done : {ys : List ℕ} → Becomes ys (with-depth (D.show (D.showing w (o .leaves) it)) (gateway (cell xs))) → Becomes ys (with-depth (replenished w it) (gateway (cell xs)))
-    replenish-done {ys} b = subst (λ (x : D.Depth). Becomes ys (with-depth (λ _. x) (gateway (cell xs)))) (shows-next d) b
+    pub replenish-done : {ys : List ℕ} → InPlace xs ys (with-depth (D.show (D.showing w (o .leaves) it)) (gateway (cell xs))) → InPlace xs ys (with-depth (replenished w it) (gateway (cell xs)))
+    replenish-done {ys} b = subst (λ (x : D.Depth). InPlace xs ys (with-depth (λ _. x) (gateway (cell xs)))) (shows-next d) b
 
   module _ (p v : ℕ) where
     abbrev stay : Bool
@@ -193,16 +206,16 @@ module _ (xs : List ℕ) (i : ℕ) (o : Resting) (a : At i o (cell xs)) where
     pub modify-show-asks : (w : ℕ) (b : Bool) → b ≡ stay → b ≡ true → w ≡ D.lesser (o .visible) v → Roomy (D.modified (int p) v it d) → CanShow (o .visible) (D.showing w v it) d
     modify-show-asks w b e t q h = rw q (record { fits = λ l. absurd (omega (arith, lesser-le (o .visible) v)); room = rw (modified-is true (sym t ∙ e) d) at h })
 
-    pub modify-show-done : {ys : List ℕ} (w : ℕ) (b : Bool) → b ≡ stay → b ≡ true → w ≡ D.lesser (o .visible) v → Becomes ys (with-depth (D.show (D.showing w v it)) (gateway (cell xs))) →
-        Becomes ys (with-depth (D.modified (int p) v it) (gateway (cell xs)))
+    pub modify-show-done : {ys : List ℕ} (w : ℕ) (b : Bool) → b ≡ stay → b ≡ true → w ≡ D.lesser (o .visible) v → InPlace xs ys (with-depth (D.show (D.showing w v it)) (gateway (cell xs))) →
+        InPlace xs ys (with-depth (D.modified (int p) v it) (gateway (cell xs)))
     modify-show-done {ys} w b e t q h =
-        subst (λ (x : D.Depth). Becomes ys (with-depth (λ _. x) (gateway (cell xs)))) (ap (λ w. D.show (D.showing w v it) d) q ∙ sym (modified-is true (sym t ∙ e) d)) h
+        subst (λ (x : D.Depth). InPlace xs ys (with-depth (λ _. x) (gateway (cell xs)))) (ap (λ w. D.show (D.showing w v it) d) q ∙ sym (modified-is true (sym t ∙ e) d)) h
 
     pub modify-off-asks : (b : Bool) → b ≡ stay → b ≡ false → Roomy (D.modified (int p) v it d) → Roomy (D.take-off it d)
     modify-off-asks b e t h = rw (modified-is false (sym t ∙ e) d) at h
 
-    pub modify-off-done : {ys : List ℕ} (b : Bool) → b ≡ stay → b ≡ false → Becomes ys (with-depth (D.take-off it) (gateway (cell xs))) → Becomes ys (with-depth (D.modified (int p) v it) (gateway (cell xs)))
-    modify-off-done {ys} b e t h = subst (λ (x : D.Depth). Becomes ys (with-depth (λ _. x) (gateway (cell xs)))) (sym (modified-is false (sym t ∙ e) d)) h
+    pub modify-off-done : {ys : List ℕ} (b : Bool) → b ≡ stay → b ≡ false → InPlace xs ys (with-depth (D.take-off it) (gateway (cell xs))) → InPlace xs ys (with-depth (D.modified (int p) v it) (gateway (cell xs)))
+    modify-off-done {ys} b e t h = subst (λ (x : D.Depth). InPlace xs ys (with-depth (λ _. x) (gateway (cell xs)))) (sym (modified-is false (sym t ∙ e) d)) h
 
 -- ---- an order that comes
 

@@ -17,9 +17,10 @@ use Rattle.store.specs.Cells as C
 use Rattle.store.specs.Layout.{cell}
 use Rattle.store.specs.View.{Row, Store, Is, word, fill, side, resting, ledger, depth, gateway, order-room}
 use Rattle.orders.specs.declared.Resting.{Resting}
-use Rattle.orders.specs.Orders.{Ordered, strike}
+use Rattle.orders.specs.Orders.{Ordered, Stays, strike}
 use Rattle.orders.specs.Orders as Orders
 use Rattle.orders.proofs.Views.{Did, with-lists, resting-rises, resting-at, resting-some, take-off-touched, take-off-view, show-touched, show-view}
+use Rattle.orders.proofs.Kept.{stays-then, stays-touched, stays-keeps, stays-bytes}
 use Rattle.levels.specs.declared.Row as LRow
 use Rattle.levels.specs.Levels.{entries, price, removed, shown, Table, CanRemove, CanShow}
 use Rattle.levels.specs.Levels as L
@@ -27,7 +28,7 @@ use Rattle.levels.proofs.Best.{level-of, level-found}
 use Rattle.levels.proofs.Depth as Levels
 use Rattle.levels.proofs.Depth.{entries-rise}
 use Rattle.levels.proofs.Views.{levels-view}
-use Rattle.sound.specs.Sound.{State, Becomes}
+use Rattle.sound.specs.Sound.{State, Becomes, InPlace}
 use Rattle.sound.proofs.Kept.{becomes}
 use Rattle.marketdata.specs.Marketdata.{with-depth, with-resting}
 use Rattle.gateway.proofs.AtPrice.{same-mine, reshown-at}
@@ -56,6 +57,10 @@ module _ {xs : List ℕ} (s : State xs) (z : Side) {ys : List ℕ} {l : List LRo
       word t C.resting-orders ≤ most-orders → Becomes zs (with-depth (with-resting (λ _. rs)) (gateway (cell xs)))
   row-done {rs = rs} t h f e b r few =
       becomes h (orders-step f e b r few) (e .view ∙ ap (λ g. with-lists (g .core .ledger .orders) rs g) view-kept)
+
+  -- no row moves
+  row-stays : {zs : List ℕ} {t : Store} → Is zs t → Stays (cell ys) t → Stays (cell xs) (cell zs)
+  row-stays h e = stays-bytes (s .sound .tables .ordered .bounds) (stays-then (stays-keeps (keeps z d s)) e) h
 
 -- what is stored of a level
 pub level-stored : {xs : List ℕ} → State xs → (z : Side) (k : ℕ) → D.level-in (price k) (D.levels z (depth (cell xs) .resting)) ≡ level-of k (look L.key k (entries z (cell xs)))
@@ -131,10 +136,10 @@ module _ {xs : List ℕ} (s : State xs) (i : ℕ) (inside : i < word (cell xs) C
           levels-step z d s (without D.resting-number (r .number) os) (Levels.remove-view z k r os table (side-levels (s .sound .tables) z .are) (same-mine z) e asc there x q d)
           (other-side r os (without D.resting-number (r .number) os) (λ w. parted (r .price) (r .visible)) (λ w. levels-without w r os asc there))
 
-      pub gone-can : (i < order-room) × (0 < word (cell ys) C.resting-orders)
+      pub gone-can : (i < order-room) × (0 < word (cell ys) C.resting-orders) × (cell ys C.orders i C.order-live ≤ 1)
       gone-can =
           let o = gone-next .ordered in
-          (omega (arith, inside-kept s z d i inside, o .bounds .orders-fit), resting-some (cell ys) i o (inside-kept s z d i inside) (rests-kept d))
+          (omega (arith, inside-kept s z d i inside, o .bounds .orders-fit), resting-some (cell ys) i o (inside-kept s z d i inside) (rests-kept d), o .sorted .flags i (inside-kept s z d i inside) .live-is)
 
       gone-view : Did (cell ys) (Orders.take-off i (cell ys)) (ledger (cell ys) .orders) (without D.resting-number (r .number) os)
       gone-view =
@@ -150,10 +155,14 @@ module _ {xs : List ℕ} (s : State xs) (i : ℕ) (inside : i < word (cell xs) C
       unfolding strike
       gone-words = (refl, omega arith)
 
-      pub gone-done : {zs : List ℕ} → Is zs (Orders.take-off i (cell ys)) → Becomes zs (with-depth (with-resting (without D.resting-number (r .number))) (gateway (cell xs)))
+      pub gone-done : {zs : List ℕ} → Is zs (Orders.take-off i (cell ys)) → InPlace xs zs (with-depth (with-resting (without D.resting-number (r .number))) (gateway (cell xs)))
       gone-done h =
           let t = take-off-touched (cell ys) i (gone-next .ordered) (inside-kept s z d i inside) in
-          row-done s z d (Orders.take-off i (cell ys)) h gone-next gone-view gone-beyond (rows-touched i _ t refl (gone-words .0) gone-beyond gone-next) (omega (arith, gone-words .1, gone-next .resting-few))
+          record {
+            becomes =
+                row-done s z d (Orders.take-off i (cell ys)) h gone-next gone-view gone-beyond (rows-touched i _ t refl (gone-words .0) gone-beyond gone-next) (omega (arith, gone-words .1, gone-next .resting-few));
+            stays = row-stays s z d h (stays-touched t (gone-words .0) refl);
+          }
 
     -- ---- it shows w, and v are left of it
 
@@ -204,8 +213,11 @@ module _ {xs : List ℕ} (s : State xs) (i : ℕ) (inside : i < word (cell xs) C
         unfolding fill
         showed-beyond = beyond-same (cell ys) (Orders.show i w v (cell ys)) refl
 
-        pub showed-done : {zs : List ℕ} → Is zs (Orders.show i w v (cell ys)) → Becomes zs (with-depth (with-resting (replace D.resting-number r′)) (gateway (cell xs)))
+        pub showed-done : {zs : List ℕ} → Is zs (Orders.show i w v (cell ys)) → InPlace xs zs (with-depth (with-resting (replace D.resting-number r′)) (gateway (cell xs)))
         unfolding fill
         showed-done h =
             let t = show-touched (cell ys) i (showed-next .ordered) (inside-kept s z d i inside) w v in
-            row-done s z d (Orders.show i w v (cell ys)) h showed-next showed-view showed-beyond (rows-touched i _ t refl refl showed-beyond showed-next) (showed-next .resting-few)
+            record {
+              becomes = row-done s z d (Orders.show i w v (cell ys)) h showed-next showed-view showed-beyond (rows-touched i _ t refl refl showed-beyond showed-next) (showed-next .resting-few);
+              stays = row-stays s z d h (stays-touched t refl refl);
+            }

@@ -2,6 +2,7 @@
 -- two the levels are those of the list of orders to come. Assumes nothing.
 use mathlib.Core.Path.{_≡_, refl, sym, ap, _∙_}
 use mathlib.Core.Bool.{false, cond}
+use mathlib.Core.Logic.{inl}
 use mathlib.Core.List.{List, [], _∷_, _++_}
 use Prim.Native.Nat.{ℕ, _+_, _≤_, _<_}
 use native.Mathlib.Omega.{arith}
@@ -20,7 +21,7 @@ use Rattle.gateway.proofs.Base.{split}
 use Rattle.store.specs.Cells as C
 use Rattle.store.specs.Layout.{cell}
 use Rattle.store.specs.View.{Row, Store, Bounds, word, session, ledger, depth, changed-key}
-use Rattle.store.proofs.Places.{header-cell, account-cell, session-cell, command-cell, order-cell, changed-cell, top-cell}
+use Rattle.store.proofs.Places.{header-cell, account-cell, session-cell, command-cell, order-cell, changed-cell, top-cell, order-map-cell}
 use Rattle.store.proofs.Listed.{listed-length}
 use Rattle.orders.specs.declared.Live.{Live}
 use Rattle.orders.specs.Orders.{Ordered, live-row, order-of}
@@ -28,7 +29,7 @@ use Rattle.orders.proofs.Views.{Touched, Did, Keeps, same-rows, ordered-kept}
 use Rattle.levels.specs.declared.Row as LRow
 use Rattle.levels.specs.Levels.{block, row, used, size, entries, best, Table}
 use Rattle.levels.specs.Levels as L
-use Rattle.levels.proofs.Laws.{header-not-block}
+use Rattle.levels.proofs.Laws.{header-not-block, levels-alike}
 use Rattle.levels.proofs.Depth.{Holding}
 use Rattle.levels.proofs.Views.{asks-stay, bids-stay}
 use Rattle.clients.proofs.Links.{two-cells}
@@ -36,7 +37,9 @@ use Rattle.pending.specs.Pending as Pending
 use Rattle.pending.proofs.Chain.{chains, chained-kept, chained-same}
 use Rattle.sound.specs.Sound.{Stored, Held, Levels, Clients, Tables, Sound, State}
 use Rattle.sound.proofs.Listed.{side-table}
-use Rattle.sound.proofs.Kept.{sided, level-counts, caches, total-same, held-kept, numbered-kept, marks, clients-kept}
+use Rattle.bitmap.specs.Bitmap.{Mapped}
+use Rattle.bitmap.proofs.Mapped.{mapped-ext}
+use Rattle.sound.proofs.Kept.{sided, map-cells, bits-same, outline, caches, total-same, held-kept, numbered-kept, marks, clients-kept}
 use Rattle.sound.proofs.Waiting.{push-level-sound}
 use Rattle.marketdata.specs.Marketdata.{Roomy, remembering}
 use Rattle.pending.specs.Pending.{key}
@@ -46,6 +49,7 @@ pub record Follows (rs : List Resting) (s : Store) : Type 0 where
   pub ordered : Ordered s
   pub rising : (z : Side) → Ascends L.key (row z s) (used z s)
   pub counted : (z : Side) → size z s ≡ length (entries z s)
+  pub mapped : (z : Side) → Mapped (L.map-block z) most-levels s (L.is-level (row z s) (used z s))
   pub are : (z : Side) → best z (entries z s) ≡ D.levels z rs
   pub live-few : word s C.live-orders ≤ most-orders
   pub resting-few : word s C.resting-orders ≤ most-orders
@@ -65,6 +69,7 @@ follows-itself d =
       ordered = t .ordered;
       rising = λ z. side-levels t z .rising;
       counted = λ z. side-levels t z .counted;
+      mapped = λ z. side-levels t z .mapped;
       are = λ z. side-levels t z .are;
       live-few = t .live-few;
       resting-few = t .resting-few;
@@ -89,12 +94,20 @@ not-side : (z : Side) {b : ℕ} → C.asks < b → b ≡ block z → ⊥
 not-side Buy h e = omega arith
 not-side Sell h e = omega arith
 
+not-map : (z : Side) {b : ℕ} → b < C.bid-map → b ≡ L.map-block z → ⊥
+not-map Buy h e = omega arith
+not-map Sell h e = omega arith
+
+not-levels : (z : Side) → C.order-map ≡ L.map-block z → ⊥
+not-levels Buy e = omega arith
+not-levels Sell e = omega arith
+
 module _ (z : Side) {xs ys : List ℕ} {l : List LRow.Row} (d : L.Did z xs ys l) (s : State xs) where
   abbrev was : Tables (cell xs)
   was = s .sound .tables
 
   word-kept : (k : ℕ) → k < C.bid-levels → (k ≡ C.bid-rows → ⊥) → (k ≡ C.ask-rows → ⊥) → word (cell ys) k ≡ word (cell xs) k
-  word-kept k q b a = d .kept C.header 0 k (header-cell k (omega arith)) (header-not-block z) (not-count z q b a)
+  word-kept k q b a = d .kept C.header 0 k (header-cell k (omega arith)) (header-not-block z) (not-map z (omega arith)) (not-count z q b a)
 
   pub keeps : Keeps (cell xs) (cell ys)
   keeps =
@@ -102,14 +115,15 @@ module _ (z : Side) {xs ys : List ℕ} {l : List LRow.Row} (d : L.Did z xs ys l)
         rows-are = word-kept C.order-rows (omega arith) (λ e. omega arith) (λ e. omega arith);
         live-are = word-kept C.live-orders (omega arith) (λ e. omega arith) (λ e. omega arith);
         resting-are = word-kept C.resting-orders (omega arith) (λ e. omega arith) (λ e. omega arith);
-        cells = λ j k h q. d .kept C.orders j k (order-cell j k (omega (arith, was .ordered .bounds .orders-fit)) q) (not-block z (omega arith)) (λ e. absurd (omega arith), λ e. absurd (omega arith));
+        cells = λ j k h q. d .kept C.orders j k (order-cell j k (omega (arith, was .ordered .bounds .orders-fit)) q) (not-block z (omega arith)) (not-map z (omega arith)) (λ e. absurd (omega arith), λ e. absurd (omega arith));
+        map-is = λ j h. d .kept C.order-map j C.map-bits (order-map-cell j C.map-bits h (omega arith)) (not-side z (omega arith)) (not-levels z) (λ e. absurd (omega arith), λ e. absurd (omega arith));
       }
 
   caches-kept : (a : ℕ) → a < owner-slots → caches (cell ys) a ≡ caches (cell xs) a
   caches-kept a h = λ i. (at C.account-cash-held (omega arith) i, at C.account-position-held (omega arith) i, at C.account-open-orders (omega arith) i)
     where
       at : (k : ℕ) → k < 16 → cell ys C.accounts a k ≡ cell xs C.accounts a k
-      at k q = d .kept C.accounts a k (account-cell a k h q) (not-block z (omega arith)) (λ e. absurd (omega arith), λ e. absurd (omega arith))
+      at k q = d .kept C.accounts a k (account-cell a k h q) (not-block z (omega arith)) (not-map z (omega arith)) (λ e. absurd (omega arith), λ e. absurd (omega arith))
 
   clients-stay : Clients (cell ys)
   clients-stay =
@@ -117,20 +131,20 @@ module _ (z : Side) {xs ys : List ℕ} {l : List LRow.Row} (d : L.Did z xs ys l)
       (λ i h. two-cells (cell ys C.sessions i) (cell xs C.sessions i) (session i C.session-connected h (omega arith)) (session i C.session-account h (omega arith)))
       (λ a h i. (account a C.account-session h (omega arith) i, account a C.account-max-open h (omega arith) i, account a C.account-rate h (omega arith) i))
       (word-kept C.waiting (omega arith) (λ e. omega arith) (λ e. omega arith))
-      (λ j h. d .kept C.batch j C.command-owner (command-cell j C.command-owner (omega (arith, was .ordered .bounds .batch-fits)) (omega arith)) (not-block z (omega arith)) (λ e. absurd (omega arith), λ e. absurd (omega arith)))
+      (λ j h. d .kept C.batch j C.command-owner (command-cell j C.command-owner (omega (arith, was .ordered .bounds .batch-fits)) (omega arith)) (not-block z (omega arith)) (not-map z (omega arith)) (λ e. absurd (omega arith), λ e. absurd (omega arith)))
       (s .sound .clients)
     where
       session : (i k : ℕ) → i < session-slots → k < 8 → cell ys C.sessions i k ≡ cell xs C.sessions i k
-      session i k h q = d .kept C.sessions i k (session-cell i k h q) (not-block z (omega arith)) (λ e. absurd (omega arith), λ e. absurd (omega arith))
+      session i k h q = d .kept C.sessions i k (session-cell i k h q) (not-block z (omega arith)) (not-map z (omega arith)) (λ e. absurd (omega arith), λ e. absurd (omega arith))
 
       account : (a k : ℕ) → a < owner-slots → k < 16 → cell ys C.accounts a k ≡ cell xs C.accounts a k
-      account a k h q = d .kept C.accounts a k (account-cell a k h q) (not-block z (omega arith)) (λ e. absurd (omega arith), λ e. absurd (omega arith))
+      account a k h q = d .kept C.accounts a k (account-cell a k h q) (not-block z (omega arith)) (not-map z (omega arith)) (λ e. absurd (omega arith), λ e. absurd (omega arith))
 
   chained-stay : Pending.Chained (cell ys)
   chained-stay =
       chained-kept (cell xs) (cell ys) (word-kept C.changed-rows (omega arith) (λ e. omega arith) (λ e. omega arith))
-      (λ j k h q. d .kept C.changed j k (changed-cell j k (omega (arith, was .ordered .bounds .changed-fit)) q) (not-side z (omega arith)) (λ e. absurd (omega arith), λ e. absurd (omega arith)))
-      (λ k h. d .kept C.tops k C.top-row (top-cell k C.top-row h (omega arith)) (not-side z (omega arith)) (λ e. absurd (omega arith), λ e. absurd (omega arith)))
+      (λ j k h q. d .kept C.changed j k (changed-cell j k (omega (arith, was .ordered .bounds .changed-fit)) q) (not-side z (omega arith)) (not-map z (omega arith)) (λ e. absurd (omega arith), λ e. absurd (omega arith)))
+      (λ k h. d .kept C.tops k C.top-row (top-cell k C.top-row h (omega arith)) (not-side z (omega arith)) (not-map z (omega arith)) (λ e. absurd (omega arith), λ e. absurd (omega arith)))
       (was .chained)
 
   module _ (rs : List Resting) (mine : Holding z ys rs) (other : (w : Side) → same-side w z ≡ false → D.levels w rs ≡ D.levels w (depth (cell xs) .resting)) where
@@ -166,6 +180,7 @@ module _ (z : Side) {xs ys : List ℕ} {l : List LRow.Row} (d : L.Did z xs ys l)
           ordered = ordered-kept keeps bounds (was .ordered);
           rising = λ w. both w .0 .asc;
           counted = λ w. both w .0 .counted;
+          mapped = λ w. both w .0 .mapped;
           are = λ w. both w .1;
           live-few = rw (keeps .live-are) (was .live-few);
           resting-few = rw (keeps .resting-are) (was .resting-few);
@@ -194,16 +209,16 @@ pub record Beyond (s t : Store) : Type 0 where
   pub live-are : word t C.live-orders ≡ word s C.live-orders
   pub last-is : word t C.last ≡ word s C.last
   pub flying-is : word t C.flying ≡ word s C.flying
-  pub sizes : (z : Side) → level-counts z t ≡ level-counts z s
+  pub sizes : (z : Side) → outline z t ≡ outline z s
   pub levels-are : (z : Side) (j : ℕ) → row z t j ≡ row z s j
   pub caches-are : (a : ℕ) → caches t a ≡ caches s a
   pub clients-are : Clients s → Clients t
   pub chained-are : Pending.Chained s → Pending.Chained t
 
 -- the words and rows of that
-abbrev pub outside : Store → ℕ × ℕ × ℕ × (ℕ × ℕ) × (ℕ × ℕ) × (ℕ → Row) × (ℕ → Row) × (ℕ → Row) × (ℕ → Row) × (ℕ → Row) × ℕ × (ℕ × (ℕ → Row) × (ℕ → Row))
+abbrev pub outside : Store → ℕ × ℕ × ℕ × (ℕ × ℕ × List ℕ) × (ℕ × ℕ × List ℕ) × (ℕ → Row) × (ℕ → Row) × (ℕ → Row) × (ℕ → Row) × (ℕ → Row) × ℕ × (ℕ × (ℕ → Row) × (ℕ → Row))
 outside s =
-    (word s C.live-orders, word s C.last, word s C.flying, (word s C.bid-rows, word s C.bid-levels), (word s C.ask-rows, word s C.ask-levels), s C.bids, s C.asks, s C.accounts, s C.sessions, s C.batch, word s C.waiting, chains s)
+    (word s C.live-orders, word s C.last, word s C.flying, (word s C.bid-rows, word s C.bid-levels, map-cells Buy s), (word s C.ask-rows, word s C.ask-levels, map-cells Sell s), s C.bids, s C.asks, s C.accounts, s C.sessions, s C.batch, word s C.waiting, chains s)
 
 pub beyond-same : (s t : Store) → outside t ≡ outside s → Beyond s t
 unfolding used size
@@ -212,7 +227,7 @@ beyond-same s t e =
       live-are = ap (λ x. x .0) e;
       last-is = ap (λ x. x .1) e;
       flying-is = ap (λ x. x .2) e;
-      sizes = sided (λ z. level-counts z t ≡ level-counts z s) (ap (λ x. x .3) e) (ap (λ x. x .4) e);
+      sizes = sided (λ z. outline z t ≡ outline z s) (ap (λ x. x .3) e) (ap (λ x. x .4) e);
       levels-are = sided (λ z. (j : ℕ) → row z t j ≡ row z s j) (λ j. ap (λ x. level (x .5 j)) e) (λ j. ap (λ x. level (x .6 j)) e);
       caches-are = λ a. ap (λ x. (x .7 a C.account-cash-held, x .7 a C.account-position-held, x .7 a C.account-open-orders)) e;
       clients-are =
@@ -246,6 +261,7 @@ module _ {rs : List Resting} {s t : Store} (f : Follows rs s) (d : Did s t (ledg
         rising = rw n (ascends-ext L.key (row z s) (row z t) (used z s) (λ j h. ap L.key (b .levels-are z j)) (f .rising z));
         are = ap (best z) list ∙ f .are z ∙ sym (ap (λ g. D.levels z (g .rest .depth .resting)) (d .view));
         counted = ap (λ x. x .1) (b .sizes z) ∙ f .counted z ∙ sym (ap length list);
+        mapped = rw n (mapped-ext (L.map-block z) most-levels s t (bits-same s t z (ap (λ x. x .2) (b .sizes z))) (λ j h. levels-alike (row z s) (row z t) (used z s) j (λ _. inl (ap L.orders (b .levels-are z j)))) (f .mapped z));
       }
 
   live-same : ledger t .orders ≡ ledger s .orders

@@ -9,12 +9,14 @@ ghost use Prim.Native.Nat.{_≤_};
 ghost use Rattle.words.specs.Words.{int};
 ghost use Rattle.table.specs.Live.{without, insert, replace};
 ghost use Rattle.gateway.specs.Depth as D;
+ghost use Rattle.gateway.specs.Ledger.{number-of};
+ghost use Rattle.store.specs.Cells as C;
 ghost use Rattle.store.specs.Layout.{cell};
-ghost use Rattle.store.specs.View.{side, depth, gateway, Ready};
+ghost use Rattle.store.specs.View.{side, order, resting, depth, gateway, Ready};
 ghost use Rattle.store.specs.View as View;
-ghost use Rattle.orders.specs.Orders.{number-at, resting-of};
+ghost use Rattle.orders.specs.Orders.{Sees, number-at, resting-of};
 ghost use Rattle.pending.specs.Pending as Pending;
-ghost use Rattle.sound.specs.Sound.{State, Becomes};
+ghost use Rattle.sound.specs.Sound.{State, Becomes, InPlace};
 ghost use Rattle.marketdata.specs.Marketdata as P;
 
 // The place of the level of a side, a code, and a price, a word.
@@ -53,7 +55,7 @@ pub fn level_of(m: &[u8], side: u64, price: u64) -> Row
 // The level of that side, a code, and that price, a word, has changed.
 fn remember(m: &mut [u8], side: u64, price: u64)
     requires { ⌜ State (now m) × P.Roomy (P.remembering (Pending.key side price) (depth (cell (now m)))) ⌝ }
-    ensures { λ r. ⌜ Becomes (now (m .exit)) (P.with-depth (P.remembering (Pending.key side price)) (gateway (cell (now (m .entry))))) ⌝ }
+    ensures { λ r. ⌜ InPlace (now (m .entry)) (now (m .exit)) (P.with-depth (P.remembering (Pending.key side price)) (gateway (cell (now (m .entry))))) ⌝ }
 {
     pending::changed::remember(m, side, price);
 }
@@ -61,7 +63,7 @@ fn remember(m: &mut [u8], side: u64, price: u64)
 // The order leaves its level and its row.
 fn strike(m: &mut [u8], i: usize, o: Resting)
     requires { ⌜ State (now m) × P.At i o (cell (now m)) ⌝ }
-    ensures { λ r. ⌜ Becomes (now (m .exit)) (P.with-depth (P.with-resting (without D.resting-number (P.resting-at i (cell (now (m .entry))) .number))) (gateway (cell (now (m .entry))))) ⌝ }
+    ensures { λ r. ⌜ InPlace (now (m .entry)) (now (m .exit)) (P.with-depth (P.with-resting (without D.resting-number (P.resting-at i (cell (now (m .entry))) .number))) (gateway (cell (now (m .entry))))) ⌝ }
 {
     let hint = orders::level_hint(m, i);
     levels::remove(
@@ -77,7 +79,7 @@ fn strike(m: &mut [u8], i: usize, o: Resting)
 // The order rests no more.
 pub fn remove(m: &mut [u8], i: usize, o: Resting)
     requires { ⌜ State (now m) × P.At i o (cell (now m)) × P.Roomy (D.take-off (P.resting-at i (cell (now m))) (depth (cell (now m)))) ⌝ }
-    ensures { λ r. ⌜ Becomes (now (m .exit)) (P.with-depth (D.take-off (P.resting-at i (cell (now (m .entry))))) (gateway (cell (now (m .entry))))) ⌝ }
+    ensures { λ r. ⌜ InPlace (now (m .entry)) (now (m .exit)) (P.with-depth (D.take-off (P.resting-at i (cell (now (m .entry))))) (gateway (cell (now (m .entry))))) ⌝ }
 {
     strike(m, i, o);
     remember(m, o.side, o.price);
@@ -86,7 +88,7 @@ pub fn remove(m: &mut [u8], i: usize, o: Resting)
 // The order and its level show something else.
 fn reshow(m: &mut [u8], i: usize, o: Resting, visible: u64, leaves: u64)
     requires { ⌜ State (now m) × P.At i o (cell (now m)) × P.Fits (o .visible) (D.showing visible leaves (P.resting-at i (cell (now m)))) (D.show (D.showing visible leaves (P.resting-at i (cell (now m)))) (depth (cell (now m)))) ⌝ }
-    ensures { λ r. ⌜ Becomes (now (m .exit)) (P.with-depth (P.with-resting (replace D.resting-number (D.showing visible leaves (P.resting-at i (cell (now (m .entry))))))) (gateway (cell (now (m .entry))))) ⌝ }
+    ensures { λ r. ⌜ InPlace (now (m .entry)) (now (m .exit)) (P.with-depth (P.with-resting (replace D.resting-number (D.showing visible leaves (P.resting-at i (cell (now (m .entry))))))) (gateway (cell (now (m .entry))))) ⌝ }
 {
     let hint = orders::level_hint(m, i);
     levels::show(
@@ -103,7 +105,7 @@ fn reshow(m: &mut [u8], i: usize, o: Resting, visible: u64, leaves: u64)
 // The order shows `visible`, and `leaves` are left of it.
 pub fn show(m: &mut [u8], i: usize, o: Resting, visible: u64, leaves: u64)
     requires { ⌜ State (now m) × P.At i o (cell (now m)) × P.CanShow (o .visible) (D.showing visible leaves (P.resting-at i (cell (now m)))) (depth (cell (now m))) ⌝ }
-    ensures { λ r. ⌜ Becomes (now (m .exit)) (P.with-depth (D.show (D.showing visible leaves (P.resting-at i (cell (now (m .entry)))))) (gateway (cell (now (m .entry))))) ⌝ }
+    ensures { λ r. ⌜ InPlace (now (m .entry)) (now (m .exit)) (P.with-depth (D.show (D.showing visible leaves (P.resting-at i (cell (now (m .entry)))))) (gateway (cell (now (m .entry))))) ⌝ }
 {
     reshow(m, i, o, visible, leaves);
     remember(m, o.side, o.price);
@@ -123,15 +125,15 @@ fn bears(m: &[u8], i: usize, number: u64) -> bool
     false
 }
 
-// A new row of that number, between the others.
-fn new_row(m: &mut [u8], number: u64) -> usize
-    requires { ⌜ State (now m) × P.CanOpen number (cell (now m)) × P.Missing number (cell (now m)) ⌝ }
+// A new row of that number, of which i rows are below: it has the place of the nearest tombstone, and those between move over that.
+fn new_row(m: &mut [u8], number: u64, i: usize) -> usize
+    requires { ⌜ State (now m) × P.CanOpen number (cell (now m)) × P.Missing number (cell (now m)) × P.Sought i number (cell (now m)) ⌝ }
     ensures { λ r. ⌜ P.Opens (now (m .entry)) (now (m .exit)) number r ⌝ }
 {
-    orders::make_room(m);
-    let i = orders::place_of(m, number);
-    orders::open_row(m, i, number);
-    i
+    let d = orders::tombstone(m, i);
+    let p = orders::new_place(d, i);
+    orders::open_row(m, d, p, number);
+    p
 }
 
 // The row of an order that is not live: a tombstone, or a new row.
@@ -143,15 +145,15 @@ fn dead_row(m: &mut [u8], number: u64) -> usize
     if bears(m, i, number) {
         return i;
     }
-    new_row(m, number)
+    new_row(m, number, i)
 }
 
-// A row in which that order can rest, which was at `at`.
+// A row in which that order can rest, which is at `at` where it is live.
 fn row_for(m: &mut [u8], number: u64, at: Found) -> usize
-    requires { ⌜ State (now m) × P.CanOpen number (cell (now m)) ⌝ }
+    requires { ⌜ State (now m) × Sees C.order-live order number-of (cell (now m)) number at × P.CanOpen number (cell (now m)) ⌝ }
     ensures { λ r. ⌜ P.Opens (now (m .entry)) (now (m .exit)) number r ⌝ }
 {
-    if let Found::At(i) = orders::live_again(m, number, at) {
+    if let Found::At(i) = at {
         return i;
     }
     dead_row(m, number)
@@ -183,7 +185,7 @@ pub fn rest(
     at: Found,
     place: usize,
 )
-    requires { ⌜ State (now m) × P.CanAdd (resting-of number (P.words side price visible leaves)) (cell (now m)) ⌝ }
+    requires { ⌜ State (now m) × Sees C.order-live order number-of (cell (now m)) number at × P.CanAdd (resting-of number (P.words side price visible leaves)) (cell (now m)) ⌝ }
     ensures { λ r. ⌜ Becomes (now (m .exit)) (P.with-depth (P.with-resting (insert D.resting-number (resting-of number (P.words side price visible leaves)))) (gateway (cell (now (m .entry))))) ⌝ }
 {
     let i = row_for(m, number, at);
@@ -202,7 +204,7 @@ pub fn rest(
 
 // The order of that number rests, and its level has changed.
 pub fn add(m: &mut [u8], number: u64, o: Resting, at: Found, place: usize)
-    requires { ⌜ State (now m) × P.CanAdd (resting-of number o) (cell (now m)) ⌝ }
+    requires { ⌜ State (now m) × Sees C.order-live order number-of (cell (now m)) number at × P.CanAdd (resting-of number o) (cell (now m)) ⌝ }
     ensures { λ r. ⌜ Becomes (now (m .exit)) (P.with-depth (D.add (resting-of number o)) (gateway (cell (now (m .entry))))) ⌝ }
 {
     rest(m, number, o.side, o.price, o.visible, o.leaves, at, place);
@@ -212,7 +214,7 @@ pub fn add(m: &mut [u8], number: u64, o: Resting, at: Found, place: usize)
 // A trade took `qty` of what the order shows, and `leaves` are left of it.
 pub fn filled(m: &mut [u8], i: usize, o: Resting, qty: u64, leaves: u64)
     requires { ⌜ State (now m) × P.At i o (cell (now m)) × (qty ≤ o .visible) × P.Roomy (D.filled qty leaves (P.resting-at i (cell (now m))) (depth (cell (now m)))) ⌝ }
-    ensures { λ r. ⌜ Becomes (now (m .exit)) (P.with-depth (D.filled qty leaves (P.resting-at i (cell (now (m .entry))))) (gateway (cell (now (m .entry))))) ⌝ }
+    ensures { λ r. ⌜ InPlace (now (m .entry)) (now (m .exit)) (P.with-depth (D.filled qty leaves (P.resting-at i (cell (now (m .entry))))) (gateway (cell (now (m .entry))))) ⌝ }
 {
     if leaves == 0 {
         remove(m, i, o);
@@ -224,7 +226,7 @@ pub fn filled(m: &mut [u8], i: usize, o: Resting, qty: u64, leaves: u64)
 // An iceberg shows its next part.
 pub fn replenished(m: &mut [u8], i: usize, o: Resting, visible: u64)
     requires { ⌜ State (now m) × P.At i o (cell (now m)) × P.Judged (P.replenished visible (P.resting-at i (cell (now m))) (depth (cell (now m)))) ⌝ }
-    ensures { λ r. ⌜ Becomes (now (m .exit)) (P.with-depth (P.replenished visible (P.resting-at i (cell (now (m .entry))))) (gateway (cell (now (m .entry))))) ⌝ }
+    ensures { λ r. ⌜ InPlace (now (m .entry)) (now (m .exit)) (P.with-depth (P.replenished visible (P.resting-at i (cell (now (m .entry))))) (gateway (cell (now (m .entry))))) ⌝ }
 {
     show(m, i, o, visible, o.leaves);
 }
@@ -251,7 +253,7 @@ fn stays(o: Resting, price: u64, leaves: u64) -> bool
 // A modify left the order this price and this much open: it shrinks in place, or is taken off.
 pub fn modified(m: &mut [u8], i: usize, o: Resting, price: u64, leaves: u64)
     requires { ⌜ State (now m) × P.At i o (cell (now m)) × P.Roomy (D.modified (int price) leaves (P.resting-at i (cell (now m))) (depth (cell (now m)))) ⌝ }
-    ensures { λ r. ⌜ Becomes (now (m .exit)) (P.with-depth (D.modified (int price) leaves (P.resting-at i (cell (now (m .entry))))) (gateway (cell (now (m .entry))))) ⌝ }
+    ensures { λ r. ⌜ InPlace (now (m .entry)) (now (m .exit)) (P.with-depth (D.modified (int price) leaves (P.resting-at i (cell (now (m .entry))))) (gateway (cell (now (m .entry))))) ⌝ }
 {
     if stays(o, price, leaves) {
         show(m, i, o, lesser(o.visible, leaves), leaves);
@@ -262,10 +264,10 @@ pub fn modified(m: &mut [u8], i: usize, o: Resting, price: u64, leaves: u64)
 
 // The order has left the book, where it rests.
 pub fn on_cancelled(m: &mut [u8], number: u64, at: Found)
-    requires { ⌜ State (now m) × P.Roomy (D.where-resting number D.take-off (depth (cell (now m)))) ⌝ }
-    ensures { λ r. ⌜ Becomes (now (m .exit)) (P.with-depth (D.where-resting number D.take-off) (gateway (cell (now (m .entry))))) ⌝ }
+    requires { ⌜ State (now m) × Sees C.order-resting resting D.resting-number (cell (now m)) number at × P.Roomy (D.where-resting number D.take-off (depth (cell (now m)))) ⌝ }
+    ensures { λ r. ⌜ InPlace (now (m .entry)) (now (m .exit)) (P.with-depth (D.where-resting number D.take-off) (gateway (cell (now (m .entry))))) ⌝ }
 {
-    if let Found::At(i) = orders::resting_again(m, number, at) {
+    if let Found::At(i) = at {
         let o = orders::resting_at(m, i);
         remove(m, i, o);
     }
@@ -273,10 +275,10 @@ pub fn on_cancelled(m: &mut [u8], number: u64, at: Found)
 
 // The order shows its next part, where it rests.
 pub fn on_replenished(m: &mut [u8], number: u64, at: Found, visible: u64)
-    requires { ⌜ State (now m) × P.Judged (D.where-resting number (P.replenished visible) (depth (cell (now m)))) ⌝ }
-    ensures { λ r. ⌜ Becomes (now (m .exit)) (P.with-depth (D.where-resting number (P.replenished visible)) (gateway (cell (now (m .entry))))) ⌝ }
+    requires { ⌜ State (now m) × Sees C.order-resting resting D.resting-number (cell (now m)) number at × P.Judged (D.where-resting number (P.replenished visible) (depth (cell (now m)))) ⌝ }
+    ensures { λ r. ⌜ InPlace (now (m .entry)) (now (m .exit)) (P.with-depth (D.where-resting number (P.replenished visible)) (gateway (cell (now (m .entry))))) ⌝ }
 {
-    if let Found::At(i) = orders::resting_again(m, number, at) {
+    if let Found::At(i) = at {
         let o = orders::resting_at(m, i);
         replenished(m, i, o, visible);
     }
@@ -284,10 +286,10 @@ pub fn on_replenished(m: &mut [u8], number: u64, at: Found, visible: u64)
 
 // A modify left the order that price and that much open, where it rests.
 pub fn on_modified(m: &mut [u8], number: u64, at: Found, price: u64, leaves: u64)
-    requires { ⌜ State (now m) × P.Roomy (D.where-resting number (D.modified (int price) leaves) (depth (cell (now m)))) ⌝ }
-    ensures { λ r. ⌜ Becomes (now (m .exit)) (P.with-depth (D.where-resting number (D.modified (int price) leaves)) (gateway (cell (now (m .entry))))) ⌝ }
+    requires { ⌜ State (now m) × Sees C.order-resting resting D.resting-number (cell (now m)) number at × P.Roomy (D.where-resting number (D.modified (int price) leaves) (depth (cell (now m)))) ⌝ }
+    ensures { λ r. ⌜ InPlace (now (m .entry)) (now (m .exit)) (P.with-depth (D.where-resting number (D.modified (int price) leaves)) (gateway (cell (now (m .entry))))) ⌝ }
 {
-    if let Found::At(i) = orders::resting_again(m, number, at) {
+    if let Found::At(i) = at {
         let o = orders::resting_at(m, i);
         modified(m, i, o, price, leaves);
     }
@@ -295,10 +297,10 @@ pub fn on_modified(m: &mut [u8], number: u64, at: Found, price: u64, leaves: u64
 
 // A trade took `qty` of what the order shows, where it rests.
 fn on_filled(m: &mut [u8], number: u64, at: Found, qty: u64, leaves: u64)
-    requires { ⌜ State (now m) × P.CanFill number qty leaves (depth (cell (now m))) ⌝ }
-    ensures { λ r. ⌜ Becomes (now (m .exit)) (P.with-depth (D.where-resting number (D.filled qty leaves)) (gateway (cell (now (m .entry))))) ⌝ }
+    requires { ⌜ State (now m) × Sees C.order-resting resting D.resting-number (cell (now m)) number at × P.CanFill number qty leaves (depth (cell (now m))) ⌝ }
+    ensures { λ r. ⌜ InPlace (now (m .entry)) (now (m .exit)) (P.with-depth (D.where-resting number (D.filled qty leaves)) (gateway (cell (now (m .entry))))) ⌝ }
 {
-    if let Found::At(i) = orders::resting_again(m, number, at) {
+    if let Found::At(i) = at {
         let o = orders::resting_at(m, i);
         filled(m, i, o, qty, leaves);
     }
@@ -315,8 +317,8 @@ pub fn on_trade(
     taker_leaves: u64,
     maker_leaves: u64,
 )
-    requires { ⌜ State (now m) × P.CanTrade taker maker qty «taker_leaves» «maker_leaves» (depth (cell (now m))) ⌝ }
-    ensures { λ r. ⌜ Becomes (now (m .exit)) (P.with-depth (P.traded taker maker qty «taker_leaves» «maker_leaves») (gateway (cell (now (m .entry))))) ⌝ }
+    requires { ⌜ State (now m) × Sees C.order-resting resting D.resting-number (cell (now m)) taker «taker_at» × Sees C.order-resting resting D.resting-number (cell (now m)) maker «maker_at» × P.CanTrade taker maker qty «taker_leaves» «maker_leaves» (depth (cell (now m))) ⌝ }
+    ensures { λ r. ⌜ InPlace (now (m .entry)) (now (m .exit)) (P.with-depth (P.traded taker maker qty «taker_leaves» «maker_leaves») (gateway (cell (now (m .entry))))) ⌝ }
 {
     on_filled(m, maker, maker_at, qty, maker_leaves);
     on_filled(m, taker, taker_at, qty, taker_leaves);

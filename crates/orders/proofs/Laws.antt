@@ -1,17 +1,22 @@
 -- What the operations write, and what a lookup finds in the bytes. Assumes nothing.
 use mathlib.Core.Path.{_≡_, refl, sym, ap, ap₂, _∙_}
+use mathlib.Core.Bool.{cond, _&&_}
 use mathlib.Core.Logic.{_⊎_, inl, inr, ⊎-elim}
 use mathlib.Core.Option.{Option·map}
 use mathlib.Core.List.{List, [], _∷_, _++_}
 use Prim.Native.Nat.{ℕ, zero, suc, _+_, _*_, _-_, _/_, _%_, _^_, _≤_, _<_}
 use native.Mathlib.Numerals.{add-one}
+use native.Mathlib.Nat.{one-mul}
 use native.Mathlib.Omega.{arith}
 use Rattle.le.specs.Le.{le, Outside}
+use Rattle.le.specs.Le as Le
 use lib.ListN.{length, getD}
-use borrow.Author.Tests.{ne-eqb, lt-ltb, le-ltb}
+use lib.Dec.{eqb, ltb}
+use lib.Pow.{shl-exact, pow-pos}
+use borrow.Author.Tests.{eq-eqb, ne-eqb, lt-ltb, le-ltb}
 use Rattle.le.proofs.Laws.{lt-or-le, le-split, le-local, le-outside, outside-wider, same-part}
 use Rattle.table.specs.Live.{pick, live, kept}
-use Rattle.table.specs.Table.{keyAt, markAt, Room, Finds, found, Between, Opened, Compacted}
+use Rattle.table.specs.Table.{keyAt, markAt, Room, Finds, found, Between, Opened, Closed, Compacted}
 use Rattle.table.specs.Table as T
 use Rattle.table.specs.declared.Found.{Found}
 use Rattle.table.specs.declared.Found.the-variants.{At, Nothing}
@@ -19,15 +24,19 @@ use Rattle.table.proofs.Live.{same?}
 use Rattle.table.proofs.Search.{finds-look}
 use Rattle.gateway.specs.Depth.{resting-number}
 use Rattle.gateway.specs.Ledger.{number-of}
+use Rattle.words.specs.Words.{modulus}
 use Rattle.store.specs.Cells as C
-use Rattle.store.specs.Layout.{cell, start, spot, Cell, Holds, Set, starts, first-byte}
-use Rattle.store.specs.View.{Row, Store, Same, word, fill, order, resting, order-room, Is, Ready}
-use Rattle.store.proofs.Places.{header-cell, order-cell, hint-cell, cell-block}
-use Rattle.store.proofs.Rows.{then-set, then-fill, is-itself, same-write, same-fill, same-trans}
+use Rattle.store.specs.Layout.{cell, start, spot, width, Cell, Holds, Set, starts, first-byte}
+use Rattle.store.specs.View.{Row, Store, Same, word, write, fill, order, resting, order-room, Is, Ready}
+use Rattle.store.proofs.Places.{header-cell, order-cell, hint-cell, order-map-cell, cell-block}
+use Rattle.bitmap.specs.Bitmap.{put-bit}
+use Rattle.bitmap.proofs.Laws.{same-put, then-put}
+use Rattle.store.proofs.Rows.{then-set, then-fill, is-itself, same-write, same-fill, same-trans, row-here}
 use Rattle.orders.specs.declared.Live.{Live}
 use Rattle.orders.specs.declared.Resting.{Resting}
+use Rattle.orders.proofs.Bits.{map-rows-other}
 use Rattle.orders.proofs.Shown.{look-map}
-use Rattle.orders.specs.Orders.{hint-at, hint-bit, hint-of, with-hint, set-hint, first-try, either, Sorted, Marks, FindsRow, Sees, strike, rest, append, places, packed, compact, hint, hint-rows, squeeze, make-room, opened, open-row, number-at}
+use Rattle.orders.specs.Orders.{hint-at, hint-bit, hint-of, with-hint, set-hint, either, Sorted, Marks, FindsRow, Sees, kept-at, set-bit, strike, rest, append, places, packed, compact, hint, hint-rows, map-row, map-rows, remap, ones, map-words, squeeze, make-room, new-place, moved, opened, MadeWay, rows-with, tombstone, open-row, number-at}
 
 -- where the rows start
 abbrev base : ℕ
@@ -47,25 +56,36 @@ pub set-four-is : (xs : List ℕ) {ys zs : List ℕ} (i k u v w x : ℕ) → Is 
 unfolding fill
 set-four-is xs i k u v w x p q = then-fill C.orders i (k + 1 + 1) (w ∷ x ∷ []) p q
 
-pub strike-is : {xs ys zs us : List ℕ} (k other c i kept n : ℕ) → Holds xs → i < order-room → k < 16 → c < 32 →
-    kept ≡ cell xs C.orders i other → n ≡ cell xs C.header 0 c →
-    Set xs ys C.orders i k 0 → Set ys zs C.orders i C.order-kept kept → Set zs us C.header 0 c (n - 1) → Is us (strike k other c i (cell xs))
-unfolding strike
-strike-is k other c i kept n h l kl cl ke ne p q r =
-    rw (← ke, ← ne)
-    (then-set (then-set (then-set (is-itself h) (order-cell i k l kl) p) (order-cell i C.order-kept l (omega arith)) q)
-    (header-cell c cl) r)
+map-here : (i : ℕ) → i < order-room → Cell C.order-map (i / 64) C.map-bits
+map-here i l = order-map-cell (i / 64) C.map-bits (omega arith) (omega arith)
 
-pub rest-is : (xs : List ℕ) {ys zs us vs : List ℕ} (i l n : ℕ) (o : Resting) → i < order-room → n ≡ cell xs C.header 0 C.resting-orders →
+same-set-bit : (i v : ℕ) (s t : Store) → i < order-room → Same s t → Same (set-bit i v s) (set-bit i v t)
+same-set-bit i v s t l = same-put C.order-map i v s t (map-here i l)
+
+pub then-bit : {ys zs : List ℕ} {s : Store} (i v : ℕ) → i < order-room → Is ys s → Is zs (set-bit i v (cell ys)) → Is zs (set-bit i v s)
+then-bit i v l = then-put C.order-map i v (map-here i l)
+
+pub strike-is : {xs ys zs us vs : List ℕ} (k other c i kept n : ℕ) → Holds xs → i < order-room → k < 16 → c < 32 →
+    kept ≡ cell xs C.orders i other → n ≡ cell xs C.header 0 c →
+    Set xs ys C.orders i k 0 → Set ys zs C.orders i C.order-kept kept → Set zs us C.header 0 c (n - 1) → Is vs (put-bit C.order-map i kept (cell us)) → Is vs (strike k other c i (cell xs))
+unfolding strike
+strike-is k other c i kept n h l kl cl ke ne p q r b =
+    rw (← ke, ← ne)
+    (then-bit i kept l
+    (then-set (then-set (then-set (is-itself h) (order-cell i k l kl) p) (order-cell i C.order-kept l (omega arith)) q)
+    (header-cell c cl) r) b)
+
+pub rest-is : (xs : List ℕ) {ys zs us vs ws : List ℕ} (i l n : ℕ) (o : Resting) → i < order-room → n ≡ cell xs C.header 0 C.resting-orders →
     Is ys (fill C.orders i C.order-rest-side (o .side ∷ o .price ∷ o .visible ∷ o .leaves ∷ []) (cell xs)) →
     Set ys zs C.orders i C.order-level l →
     Is us (fill C.orders i C.order-resting (1 ∷ 1 ∷ []) (cell zs)) →
-    Set us vs C.header 0 C.resting-orders (n + 1) → Is vs (rest i o l (cell xs))
+    Set us vs C.header 0 C.resting-orders (n + 1) → Is ws (put-bit C.order-map i 1 (cell vs)) → Is ws (rest i o l (cell xs))
 unfolding rest fill
-rest-is xs i l n o h e p t q r =
+rest-is xs i l n o h e p t q r b =
     rw (← e)
+    (then-bit i 1 h
     (then-set (then-fill C.orders i C.order-resting (1 ∷ 1 ∷ []) (then-set p (order-cell i C.order-level h (omega arith)) t) q)
-    (header-cell C.resting-orders (omega arith)) r)
+    (header-cell C.resting-orders (omega arith)) r) b)
 
 pub put-row-is : (xs : List ℕ) {ys zs us vs : List ℕ} (i n : ℕ) (o : Live) → i < order-room →
     Is ys (fill C.orders i C.order-number (n ∷ 1 ∷ 0 ∷ 1 ∷ []) (cell xs)) →
@@ -95,24 +115,26 @@ then-hint : {ys zs : List ℕ} {s : Store} (n i : ℕ) → Is ys s → Is zs (se
 then-hint {ys} {zs} {s} n i p q =
     record { holds = q .holds; same = same-trans (cell zs) (set-hint n i (cell ys)) _ (q .same) (same-set-hint n i (cell ys) s (p .same)) }
 
-pub append-is : (xs : List ℕ) {ys zs us : List ℕ} (n i c : ℕ) (o : Live) → i ≡ cell xs C.header 0 C.order-rows → c ≡ cell xs C.header 0 C.live-orders →
+pub append-is : (xs : List ℕ) {ys zs us vs : List ℕ} (n i c : ℕ) (o : Live) → i < order-room → i ≡ cell xs C.header 0 C.order-rows → c ≡ cell xs C.header 0 C.live-orders →
     Is ys (fill C.orders i C.order-number (n ∷ 1 ∷ 0 ∷ 1 ∷ o .account ∷ o .«client_ref» ∷ o .side ∷ o .priced ∷ o .price ∷ o .leaves ∷ o .hold ∷ []) (cell xs)) →
     Is zs (fill C.header 0 C.order-rows ((i + 1) ∷ (c + 1) ∷ []) (cell ys)) →
-    Is us (set-hint n i (cell zs)) → Is us (append n o (cell xs))
+    Is us (set-hint n i (cell zs)) → Is vs (put-bit C.order-map i 1 (cell us)) → Is vs (append n o (cell xs))
 unfolding append
-append-is xs n i c o ie ce p q r =
-    rw (← ie, ← ce) (then-hint n i (then-fill C.header 0 C.order-rows ((i + 1) ∷ (c + 1) ∷ []) p q) r)
+append-is xs n i c o l ie ce p q r b =
+    rw (← ie, ← ce) (then-bit i 1 l (then-hint n i (then-fill C.header 0 C.order-rows ((i + 1) ∷ (c + 1) ∷ []) p q) r) b)
 
 -- what is appended after writes that left s
-same-append : (n : ℕ) (o : Live) (s t : Store) → Same s t → Same (append n o s) (append n o t)
+same-append : (n : ℕ) (o : Live) (s t : Store) → word t C.order-rows < order-room → Same s t → Same (append n o s) (append n o t)
 unfolding append
-same-append n o s t p =
+same-append n o s t l p =
     rw (p C.header 0 C.order-rows (header-cell C.order-rows (omega arith)), p C.header 0 C.live-orders (header-cell C.live-orders (omega arith)))
-    (same-set-hint n _ _ _ (same-fill _ _ C.header 0 C.order-rows _ (same-fill s t C.orders (word t C.order-rows) C.order-number _ p)))
+    (same-set-bit (word t C.order-rows) 1 _ _ l
+    (same-set-hint n _ _ _ (same-fill _ _ C.header 0 C.order-rows _ (same-fill s t C.orders (word t C.order-rows) C.order-number _ p))))
 
-pub then-append : {ys zs : List ℕ} {s : Store} (n : ℕ) (o : Live) → Is ys s → Is zs (append n o (cell ys)) → Is zs (append n o s)
-then-append {ys} {zs} {s} n o p q =
-    record { holds = q .holds; same = same-trans (cell zs) (append n o (cell ys)) _ (q .same) (same-append n o (cell ys) s (p .same)) }
+pub then-append : {ys zs : List ℕ} {s : Store} (n : ℕ) (o : Live) → word (cell ys) C.order-rows < order-room → Is ys s → Is zs (append n o (cell ys)) → Is zs (append n o s)
+then-append {ys} {zs} {s} n o l p q =
+    let e : word s C.order-rows < order-room = rw (← p .same C.header 0 C.order-rows (header-cell C.order-rows (omega arith))) l in
+    record { holds = q .holds; same = same-trans (cell zs) (append n o (cell ys)) _ (q .same) (same-append n o (cell ys) s e (p .same)) }
 
 -- ---- what is found
 
@@ -152,9 +174,6 @@ pub hint-read : (xs : List ℕ) (n w : ℕ) → w ≡ cell xs C.hints (hint-at n
 unfolding hint-of
 hint-read xs n w e = ap (λ v. v / 2 ^ hint-bit n % 65536) e
 
-pub first-hint : (xs : List ℕ) (n v : ℕ) (at : Found) → at ≡ Nothing → v ≡ hint-of n (cell xs) → v ≡ first-try n at (cell xs)
-first-hint xs n v at e h = rw e h
-
 same-hint : (i : ℕ) (s t : Store) → i < order-room → Same s t → Same (hint i s) (hint i t)
 unfolding hint
 same-hint i s t l e =
@@ -179,6 +198,111 @@ unfolding hint-rows
 hints-more s ys zs i l p q =
     rw (add-one i)
     (record { holds = q .holds; same = same-trans (cell zs) (hint i (cell ys)) (hint i (hint-rows i s)) (q .same) (same-hint i (cell ys) (hint-rows i s) l (p .same)) })
+
+-- ---- the map made anew
+
+pub kept-in : (xs : List ℕ) (i n v : ℕ) → n ≡ cell xs C.header 0 C.order-rows → i < n → v ≡ cell xs C.orders i C.order-kept → v ≡ kept-at (cell xs) i
+kept-in xs i n v e l h = rw (← e, lt-ltb i n l) h
+
+pub kept-out : (xs : List ℕ) (i n : ℕ) → n ≡ cell xs C.header 0 C.order-rows → n ≤ i → 0 ≡ kept-at (cell xs) i
+kept-out xs i n e l = rw (← e, le-ltb i n l) refl
+
+pub map-row-is : (xs : List ℕ) {ys : List ℕ} (i v : ℕ) → Holds xs → i < order-room → v ≡ kept-at (cell xs) i → Is ys (put-bit C.order-map i (v % 2) (cell xs)) → Is ys (map-row i (cell xs))
+unfolding map-row
+map-row-is xs i v h l e p = rw (← e) (then-bit i (v % 2) l (is-itself h) p)
+
+same-map-row : (i : ℕ) (s t : Store) → i < order-room → Same s t → Same (map-row i s) (map-row i t)
+unfolding map-row
+same-map-row i s t l e =
+    rw (e C.header 0 C.order-rows (header-cell C.order-rows (omega arith)), e C.orders i C.order-kept (order-cell i C.order-kept l (omega arith)))
+    (same-set-bit i (kept-at t i % 2) s t l e)
+
+same-map-rows : (n : ℕ) (s t : Store) → n ≤ order-room → Same s t → Same (map-rows n s) (map-rows n t)
+unfolding map-rows
+same-map-rows zero s t l e = e
+same-map-rows (suc n) s t l e = same-map-row n (map-rows n s) (map-rows n t) (omega arith) (same-map-rows n s t (omega arith) e)
+
+pub same-remap : (s t : Store) → Same s t → Same (remap s) (remap t)
+unfolding remap
+same-remap s t e b i k c =
+    ⊎-elim
+    (λ (q : b ≡ C.order-map). rw q (same-map-rows order-room s t (omega arith) e C.order-map i k (rw q at c)))
+    (λ q. rw (ne-eqb b C.order-map q) (e b i k c))
+    (same? b C.order-map)
+
+pub map-none : (xs : List ℕ) → Holds xs → Is xs (map-rows 0 (cell xs))
+unfolding map-rows
+map-none xs h = is-itself h
+
+pub map-more : (s : Store) (ys zs : List ℕ) (i : ℕ) → i < order-room → Is ys (map-rows i s) → Is zs (map-row i (cell ys)) → Is zs (map-rows (i + 1) s)
+unfolding map-rows
+map-more s ys zs i l p q =
+    rw (add-one i)
+    (record { holds = q .holds; same = same-trans (cell zs) (map-row i (cell ys)) (map-row i (map-rows i s)) (q .same) (same-map-row i (cell ys) (map-rows i s) l (p .same)) })
+
+pub map-all : (s : Store) (ys : List ℕ) → Is ys (map-rows order-room s) → Is ys (remap s)
+unfolding remap
+map-all s ys p =
+    record {
+      holds = p .holds;
+      same = λ b i k c.
+          p .same b i k c
+          ∙ ⊎-elim (λ (q : b ≡ C.order-map). rw q refl) (λ q. rw (ne-eqb b C.order-map q) (map-rows-other order-room s b i k q)) (same? b C.order-map);
+    }
+
+pub then-remap : {ys zs : List ℕ} {s : Store} → Is ys s → Is zs (remap (cell ys)) → Is zs (remap s)
+then-remap {ys} {zs} {s} p q =
+    record { holds = q .holds; same = same-trans (cell zs) (remap (cell ys)) (remap s) (q .same) (same-remap (cell ys) s (p .same)) }
+
+pub ones-none : (n g : ℕ) → n ≤ 64 * g → 0 ≡ ones n g
+ones-none n g l = let e : n - 64 * g ≡ 0 = omega arith in rw e refl
+
+pub shl-some : (k : ℕ) → k < 64 → 1 ≤ 1 * 2 ^ k % 2 ^ 64
+shl-some k l = rw (shl-exact {a = 1} 1 k 64 (omega arith) (omega arith), one-mul (2 ^ k)) (pow-pos k)
+
+pub ones-some : (n g k v : ℕ) → k ≡ n - 64 * g → k < 64 → v ≡ 1 * 2 ^ k % 2 ^ 64 - 1 → v ≡ ones n g
+ones-some n g k v e l h = rw (← e, lt-ltb k 64 l) (h ∙ ap (λ x. x - 1) (shl-exact {a = 1} 1 k 64 (omega arith) (omega arith) ∙ one-mul (2 ^ k)))
+
+pub ones-all : (n g k : ℕ) → k ≡ n - 64 * g → 64 ≤ k → modulus - 1 ≡ ones n g
+ones-all n g k e l = rw (← e, le-ltb k 64 l) refl
+
+pub words-none : (xs : List ℕ) (n : ℕ) → Holds xs → Is xs (map-words 0 n (cell xs))
+unfolding map-words
+words-none xs n h =
+    record {
+      holds = h;
+      same = λ b i k c.
+          sym (⊎-elim (λ (p : b ≡ C.order-map). rw (p, le-ltb i 0 (omega arith)) refl) (λ p. rw (ne-eqb b C.order-map p) refl) (same? b C.order-map));
+    }
+
+-- one word more
+word-more : (s : Store) (n g b i k : ℕ) → Cell b i k → write C.order-map g C.map-bits (ones n g) (map-words g n s) b i k ≡ map-words (g + 1) n s b i k
+unfolding map-words
+word-more s n g b i k c =
+    ⊎-elim
+    (λ (p : b ≡ C.order-map).
+    let l : k < 1 = rw p at (c .cell-is) in
+    let z : k ≡ 0 = omega arith in
+    ⊎-elim
+    (λ (q : i ≡ g). rw (p, q, z, eq-eqb g g refl, lt-ltb g (g + 1) (omega arith)) refl)
+    (λ q. rw (p, ne-eqb i g q) (ap (λ x. cond x (ones n i) (s C.order-map i k)) (below q)))
+    (same? i g))
+    (λ p. rw (ne-eqb b C.order-map p) refl)
+    (same? b C.order-map)
+  where
+    below : (i ≡ g → ⊥) → ltb i g ≡ ltb i (g + 1)
+    below q =
+        ⊎-elim (λ (l : i < g). lt-ltb i g l ∙ sym (lt-ltb i (g + 1) (omega arith))) (λ l. le-ltb i g l ∙ sym (le-ltb i (g + 1) (omega (arith, q)))) (lt-or-le i g)
+
+pub words-more : (s : Store) (ys zs : List ℕ) (n g v : ℕ) → g < 32 → v ≡ ones n g → Is ys (map-words g n s) → Set ys zs C.order-map g C.map-bits v → Is zs (map-words (g + 1) n s)
+words-more s ys zs n g v l e p q =
+    let h = then-set p (order-map-cell g C.map-bits l (omega arith)) (rw e at q) in
+    record { holds = h .holds; same = λ b i k c. h .same b i k c ∙ word-more s n g b i k c }
+
+then-words : {ys zs : List ℕ} {s : Store} (n : ℕ) → Is ys s → Is zs (map-words 32 n (cell ys)) → Is zs (map-words 32 n s)
+unfolding map-words
+then-words {ys} {zs} {s} n p q =
+    record { holds = q .holds; same = λ b i k c. q .same b i k c ∙ ap (cond (eqb b C.order-map && ltb i 32) (ones n i)) (p .same b i k c) }
 
 -- ---- the tombstones squeezed out
 
@@ -246,16 +370,18 @@ module _ (xs ys : List ℕ) (n w : ℕ) (r : Ready xs) (o : Sorted (cell xs)) (e
       rw (← size-is)
       (then-set (record { holds = omega (arith, c .frame .len, r .holds); same = packed-same }) (header-cell C.order-rows (omega arith)) p)
 
-  pub squeeze-is : (zs us : List ℕ) → Set ys zs C.header 0 C.order-rows w → Is us (hint-rows w (cell zs)) → Is us (squeeze (cell xs))
-  unfolding squeeze
-  squeeze-is zs us p q =
-      rw (← size-is)
-      (record {
+  hinted : (zs us : List ℕ) → Set ys zs C.header 0 C.order-rows w → Is us (hint-rows w (cell zs)) → Is us (hint-rows w (compact (cell xs)))
+  hinted zs us p q =
+      record {
         holds = q .holds;
         same =
             same-trans (cell us) (hint-rows w (cell zs)) (hint-rows w (compact (cell xs))) (q .same)
             (same-hints w (cell zs) (compact (cell xs)) (omega (arith, c .fewer, r .bounds .orders-fit)) (compact-is zs p .same));
-      })
+      }
+
+  pub squeeze-is : (zs us vs : List ℕ) → Set ys zs C.header 0 C.order-rows w → Is us (hint-rows w (cell zs)) → Is vs (map-words 32 w (cell us)) → Is vs (squeeze (cell xs))
+  unfolding squeeze
+  squeeze-is zs us vs p q t = rw (← size-is) (then-words w (hinted zs us p q) t)
 
 pub room-there : (xs : List ℕ) (n : ℕ) → Holds xs → n ≡ cell xs C.header 0 C.order-rows → n < order-room → Is xs (make-room (cell xs))
 unfolding make-room
@@ -278,53 +404,156 @@ place-is xs n number i e b =
       above = λ j h l. rw (← key-cell xs j) (b .above j h l);
     })
 
-module _ (xs ys : List ℕ) (n i : ℕ) (r : Ready xs) (e : n ≡ cell xs C.header 0 C.order-rows) (f : n < order-room) (o : Opened base 128 n i xs ys) where
-  cell-up : (j k : ℕ) → i < j → j ≤ n → k < 16 → cell ys C.orders j k ≡ cell xs C.orders (j - 1) k
-  cell-up j k h m l =
-      let u : j - 1 + 1 ≡ j = omega arith in
-      order-cell-at ys j k
-      ∙ le-local 8 .same (same-part (8 * k) 8 (omega arith) (rw u at (o .behind (j - 1) (omega arith) (omega arith))))
-      ∙ sym (order-cell-at xs (j - 1) k)
+pub place-down : (d i : ℕ) → d < i → i - 1 ≡ new-place d i
+place-down d i l = rw (lt-ltb d i l) refl
 
-  cell-stays : (j k : ℕ) → k < 16 → (j ≤ i) ⊎ (n < j) → cell ys C.orders j k ≡ cell xs C.orders j k
-  cell-stays j k l w =
+pub place-still : (d i : ℕ) → i ≤ d → i ≡ new-place d i
+place-still d i l = rw (le-ltb d i l) refl
+
+pub rows-stay : (d n : ℕ) → d < n → n ≡ rows-with d n
+rows-stay d n l = rw (lt-ltb d n l) refl
+
+pub rows-grow : (d n : ℕ) → n ≤ d → d + 1 ≡ rows-with d n
+rows-grow d n l = rw (le-ltb d n l) refl
+
+-- the rows of xs in ys: those at i stood at j, or stayed
+module _ {lo hi : ℕ} (xs ys : List ℕ) (frame : Outside lo hi xs ys) where
+  row-stays : (j k : ℕ) → k < 16 → (base + 128 * (j + 1) ≤ lo) ⊎ (hi ≤ base + 128 * j) → cell ys C.orders j k ≡ cell xs C.orders j k
+  row-stays j k l w =
       order-cell-at ys j k
-      ∙ le-outside 8 (base + 128 * j + 8 * k) (o .frame) (⊎-elim (λ h. inl (omega arith)) (λ h. inr (omega arith)) w)
+      ∙ le-outside 8 (base + 128 * j + 8 * k) frame (⊎-elim (λ h. inl (omega arith)) (λ h. inr (omega arith)) w)
       ∙ sym (order-cell-at xs j k)
 
-  opened-is : Is ys (opened i (cell xs))
+row-moves : (xs ys : List ℕ) (i j k : ℕ) → k < 16 → Le.Same 128 xs (base + 128 * i) ys (base + 128 * j) → cell ys C.orders j k ≡ cell xs C.orders i k
+row-moves xs ys i j k l p = order-cell-at ys j k ∙ le-local 8 .same (same-part (8 * k) 8 (omega arith) p) ∙ sym (order-cell-at xs i k)
+
+module _ (xs ys : List ℕ) (d p : ℕ) (dl : d < order-room) (pl : p < order-room) where
+  -- what is in the table, and what is not
+  way : {lo hi : ℕ} → base ≤ lo → hi ≤ first-byte C.bids → Outside lo hi xs ys → ((j k : ℕ) → k < 16 → (j ≡ p → ⊥) → cell ys C.orders j k ≡ cell xs C.orders (moved d p j) k) → MadeWay d p (cell xs) (cell ys)
   unfolding opened
-  opened-is =
+  way l h frame rows =
       record {
-        holds = omega (arith, o .frame .len, r .holds);
-        same = λ b j k q.
+        same = λ b j k q ne.
             ⊎-elim
-            (λ (g : b ≡ C.orders).
-            let l : k < 16 = rw g at (q .cell-is) in
-            rw (g, ← e)
-            (⊎-elim
-            (λ (h : i < j).
-            rw (lt-ltb i j h)
-            (⊎-elim (λ (m : n < j). rw (lt-ltb n j m) (cell-stays j k l (inr m))) (λ (m : j ≤ n). rw (le-ltb n j m) (cell-up j k h m l)) (lt-or-le n j)))
-            (λ (h : j ≤ i). rw (le-ltb i j h) (cell-stays j k l (inl h)))
-            (lt-or-le i j)))
-            (λ ne. rw (ne-eqb b C.orders ne) (elsewhere b j k (omega arith) (omega arith) (o .frame) q ne))
+            (λ (g : b ≡ C.orders). let m : k < 16 = rw g at (q .cell-is) in rw g (rows j k m (ne g)))
+            (λ g. rw (ne-eqb b C.orders g) (elsewhere b j k l h frame q g))
             (same? b C.orders);
       }
 
-  pub open-row-is : (zs us vs : List ℕ) (number : ℕ) → Is zs (fill C.orders i C.order-number (number ∷ 0 ∷ 0 ∷ 0 ∷ []) (cell ys)) →
-      Set zs us C.header 0 C.order-rows (n + 1) → Is vs (set-hint number i (cell us)) → Is vs (open-row i number (cell xs))
-  unfolding open-row
-  open-row-is zs us vs number p q t =
-      rw (← e)
-      (then-hint number i
-      (then-set (then-fill C.orders i C.order-number (number ∷ 0 ∷ 0 ∷ 0 ∷ []) opened-is p) (header-cell C.order-rows (omega arith)) q) t)
+  pub way-up : p ≤ d → Opened base 128 d p xs ys → MadeWay d p (cell xs) (cell ys)
+  way-up l o =
+      way (omega arith) (omega arith) (o .frame)
+      (λ j k m ne.
+      ⊎-elim
+      (λ (h : p < j).
+      rw (lt-ltb p j h)
+      (⊎-elim (λ (g : d < j). rw (lt-ltb d j g) (row-stays xs ys (o .frame) j k m (inr (omega arith))))
+      (λ (g : j ≤ d).
+      let u : j - 1 + 1 ≡ j = omega arith in
+      rw (le-ltb d j g) (row-moves xs ys (j - 1) j k m (rw u at (o .behind (j - 1) (omega arith) (omega arith)))))
+      (lt-or-le d j)))
+      (λ (h : j ≤ p). rw (le-ltb p j h, lt-ltb j d (omega (arith, ne))) (row-stays xs ys (o .frame) j k m (inl (omega arith))))
+      (lt-or-le p j))
+
+  pub way-down : d < p → Closed base 128 (p + 1) d xs ys → MadeWay d p (cell xs) (cell ys)
+  way-down l o =
+      way (omega arith) (omega arith) (o .frame)
+      (λ j k m ne.
+      ⊎-elim
+      (λ (h : p < j). rw (lt-ltb p j h, lt-ltb d j (omega arith)) (row-stays xs ys (o .frame) j k m (inr (omega arith))))
+      (λ (h : j ≤ p).
+      rw (le-ltb p j h)
+      (⊎-elim (λ (g : j < d). rw (lt-ltb j d g) (row-stays xs ys (o .frame) j k m (inl (omega arith))))
+      (λ (g : d ≤ j). rw (le-ltb j d g) (row-moves xs ys (j + 1) j k m (o .behind j g (omega (arith, ne)))))
+      (lt-or-le j d)))
+      (lt-or-le p j))
+
+-- a row is written whole: what stood there is not seen
+module _ (b i : ℕ) where
+  fill-before : (k : ℕ) (vs : List ℕ) (s : Store) (l : ℕ) → l < k → fill b i k vs s b i l ≡ s b i l
+  unfolding fill
+  fill-before k [] s l h = refl
+  fill-before k (v ∷ vs) s l h =
+      fill-before (k + 1) vs (write b i k v s) l (omega arith) ∙ ap (λ (r : Row). r l) (row-here b i k v s) ∙ rw (ne-eqb l k (λ e. omega arith)) refl
+
+  fill-covers : (k : ℕ) (vs : List ℕ) (s t : Store) (l : ℕ) → k ≤ l → l < k + length vs → fill b i k vs s b i l ≡ fill b i k vs t b i l
+  unfolding fill
+  fill-covers k [] s t l h m = absurd (omega arith)
+  fill-covers k (v ∷ vs) s t l h m =
+      ⊎-elim
+      (λ (e : l ≡ k). at s e ∙ sym (at t e))
+      (λ ne. fill-covers (k + 1) vs (write b i k v s) (write b i k v t) l (omega (arith, ne)) (omega arith))
+      (same? l k)
+    where
+      at : (u : Store) → l ≡ k → fill b i (k + 1) vs (write b i k v u) b i l ≡ v
+      at u e =
+          fill-before (k + 1) vs (write b i k v u) l (omega arith) ∙ ap (λ (r : Row). r l) (row-here b i k v u) ∙ rw (eq-eqb l k e) refl
+
+  fill-apart : (k : ℕ) (vs : List ℕ) (s : Store) (d j l : ℕ) → (d ≡ b → j ≡ i → ⊥) → fill b i k vs s d j l ≡ s d j l
+  unfolding fill
+  fill-apart k [] s d j l n = refl
+  fill-apart k (v ∷ vs) s d j l n =
+      fill-apart (k + 1) vs (write b i k v s) d j l n
+      ∙ ⊎-elim (λ (e : d ≡ b). rw (e, eq-eqb b b refl, ne-eqb j i (n e)) refl) (λ e. rw (ne-eqb d b e) refl) (same? d b)
+
+  same-whole : (vs : List ℕ) (s t : Store) → width b ≤ length vs → ((d j l : ℕ) → Cell d j l → (d ≡ b → j ≡ i → ⊥) → s d j l ≡ t d j l) → Same (fill b i 0 vs s) (fill b i 0 vs t)
+  same-whole vs s t h e d j l c =
+      ⊎-elim
+      (λ (p : d ≡ b).
+      ⊎-elim
+      (λ (q : j ≡ i). let m : l < width b = rw p at (c .cell-is) in rw (p, q) (fill-covers 0 vs s t l (omega arith) (omega arith)))
+      (λ q. apart (λ _. q))
+      (same? j i))
+      (λ p. apart (λ x y. p x))
+      (same? d b)
+    where
+      apart : (d ≡ b → j ≡ i → ⊥) → fill b i 0 vs s d j l ≡ fill b i 0 vs t d j l
+      apart n = fill-apart 0 vs s d j l n ∙ e d j l c n ∙ sym (fill-apart 0 vs t d j l n)
+
+pub put-tombstone-is : (xs : List ℕ) {ys zs us vs : List ℕ} (p n : ℕ) →
+    Is ys (fill C.orders p C.order-number (n ∷ 0 ∷ 0 ∷ 0 ∷ []) (cell xs)) → Is zs (fill C.orders p C.order-account (0 ∷ 0 ∷ 0 ∷ 0 ∷ []) (cell ys)) →
+    Is us (fill C.orders p C.order-price (0 ∷ 0 ∷ 0 ∷ 0 ∷ []) (cell zs)) → Is vs (fill C.orders p C.order-rest-price (0 ∷ 0 ∷ 0 ∷ 0 ∷ []) (cell us)) →
+    Is vs (fill C.orders p C.order-number (tombstone n) (cell xs))
+unfolding fill
+put-tombstone-is xs p n a b c d =
+    then-fill C.orders p C.order-rest-price (0 ∷ 0 ∷ 0 ∷ 0 ∷ [])
+    (then-fill C.orders p C.order-price (0 ∷ 0 ∷ 0 ∷ 0 ∷ []) (then-fill C.orders p C.order-account (0 ∷ 0 ∷ 0 ∷ 0 ∷ []) a b) c) d
+
+pub swap-bits-is : (xs : List ℕ) {ys zs : List ℕ} (d p : ℕ) → Holds xs → d < order-room → p < order-room → Is ys (put-bit C.order-map d 1 (cell xs)) → Is zs (put-bit C.order-map p 0 (cell ys)) →
+    Is zs (set-bit p 0 (set-bit d 1 (cell xs)))
+swap-bits-is xs d p h dl pl a b = then-bit p 0 pl (then-bit d 1 dl (is-itself h) a) b
+
+-- the row is written, and the rows counted
+counted-is : (xs ys zs us : List ℕ) (n d p number : ℕ) → MadeWay d p (cell xs) (cell ys) → Is zs (fill C.orders p C.order-number (tombstone number) (cell ys)) → Set zs us C.header 0 C.order-rows (rows-with d n) →
+    Is us (write C.header 0 C.order-rows (rows-with d n) (fill C.orders p C.order-number (tombstone number) (opened d p (cell xs))))
+counted-is xs ys zs us n d p number w q r =
+    then-set
+    (record {
+      holds = q .holds;
+      same =
+          same-trans (cell zs) (fill C.orders p C.order-number (tombstone number) (cell ys)) (fill C.orders p C.order-number (tombstone number) (opened d p (cell xs))) (q .same)
+          (same-whole C.orders p (tombstone number) (cell ys) (opened d p (cell xs)) (omega arith) (w .same));
+    })
+    (header-cell C.order-rows (omega arith)) r
+
+then-swap : {ys zs : List ℕ} {s : Store} (d p : ℕ) → d < order-room → p < order-room → Is ys s → Is zs (set-bit p 0 (set-bit d 1 (cell ys))) → Is zs (set-bit p 0 (set-bit d 1 s))
+then-swap {ys} {zs} {s} d p dl pl h b =
+    record {
+      holds = b .holds;
+      same =
+          same-trans (cell zs) (set-bit p 0 (set-bit d 1 (cell ys))) (set-bit p 0 (set-bit d 1 s)) (b .same)
+          (same-set-bit p 0 (set-bit d 1 (cell ys)) (set-bit d 1 s) pl (same-set-bit d 1 (cell ys) s dl (h .same)));
+    }
+
+pub open-row-is : (xs ys : List ℕ) {zs us vs ws : List ℕ} (n d p number : ℕ) → d < order-room → p < order-room → n ≡ cell xs C.header 0 C.order-rows → MadeWay d p (cell xs) (cell ys) →
+    Is zs (fill C.orders p C.order-number (tombstone number) (cell ys)) → (v : ℕ) → v ≡ rows-with d n → Set zs us C.header 0 C.order-rows v →
+    Is vs (set-bit p 0 (set-bit d 1 (cell us))) → Is ws (set-hint number p (cell vs)) → Is ws (open-row d p number (cell xs))
+unfolding open-row
+open-row-is xs ys {zs} {us} n d p number dl pl e w q v ve r b t =
+    rw (← e) (then-hint number p (then-swap d p dl pl (counted-is xs ys zs us n d p number w q (rw ve at r)) b) t)
 
 pub live-marks : {s : Store} → Sorted s → Marks C.order-live s
 live-marks s = record { inside = omega arith; small = λ j l. s .flags j l .live-is }
-
-pub resting-marks : {s : Store} → Sorted s → Marks C.order-resting s
-resting-marks s = record { inside = omega arith; small = λ j l. s .flags j l .resting-is }
 
 -- ---- what is found is what the view's list has
 
@@ -332,7 +561,7 @@ found-map : {A B : Type 0} (h : A → B) (f : ℕ → A) (r : Found) → Option�
 found-map h f (At i) = refl
 found-map h f Nothing = refl
 
-sees : {A : Type 0} (k : ℕ) (f : Row → A) (number : A → ℕ) (s : Store) (n : ℕ) (r : Found) → ((q : Row) → number (f q) ≡ q C.order-number) → Sorted s → FindsRow k s n r →
+pub sees : {A : Type 0} (k : ℕ) (f : Row → A) (number : A → ℕ) (s : Store) (n : ℕ) (r : Found) → ((q : Row) → number (f q) ≡ q C.order-number) → Sorted s → FindsRow k s n r →
     Sees k f number s n r
 sees {A} k f number s n r e t h =
     record {
@@ -360,7 +589,7 @@ kept-marks {s} t =
       small = λ j l. let f = t .flags j l in rw (f .kept-is) (either-small (s C.orders j C.order-live) (s C.orders j C.order-resting) (f .live-is) (f .resting-is));
     }
 
-neither : (a b : ℕ) → either a b ≡ 0 → (a ≡ 0) × (b ≡ 0)
+pub neither : (a b : ℕ) → either a b ≡ 0 → (a ≡ 0) × (b ≡ 0)
 neither zero b e = (refl, e)
 neither (suc a) b e = absurd (omega (arith, e))
 
@@ -398,4 +627,4 @@ module _ (s : Store) (t : Sorted s) (n : ℕ) (q : Found) (h : FindsRow C.order-
     pub no-resting : (r : Found) → r ≡ Nothing → Sees C.order-resting resting resting-number s n r
     no-resting r z = rw z (sees-resting s n Nothing t (λ j l w. none-kept j l w .1))
 
-pub ruleset laws = (sees-live, sees-resting, half-there, half-gone, row-inside, its-live, its-resting, no-live, no-resting, kept-marks, hint-read, first-hint, set-hint-is, set-two-is, set-four-is, strike-is, rest-is, put-row-is, append-is, sorted-bytes, room-bytes, hint-is, squeeze-is, room-there, room-made, place-is, open-row-is, find-is, live-marks, resting-marks, header-cell, order-cell, hint-cell, arith)
+pub ruleset laws = (sees-live, sees-resting, half-there, half-gone, row-inside, its-live, its-resting, no-live, no-resting, kept-marks, hint-read, set-hint-is, set-two-is, set-four-is, strike-is, rest-is, put-row-is, append-is, sorted-bytes, room-bytes, hint-is, kept-in, kept-out, map-row-is, ones-none, ones-some, ones-all, squeeze-is, room-there, room-made, place-is, place-down, place-still, rows-stay, rows-grow, way-up, way-down, swap-bits-is, find-is, live-marks, header-cell, order-cell, hint-cell, order-map-cell, arith)

@@ -15,8 +15,9 @@ use Rattle.gateway.specs.Depth as D
 use Rattle.gateway.specs.Ledger.{Order}
 use Rattle.gateway.proofs.Base.{split}
 use Rattle.store.specs.Cells as C
-use Rattle.store.specs.View.{Row, Store, word, order, resting, marked, ledger, depth, gateway, order-room}
-use Rattle.orders.specs.Orders.{either, Flags, Ordered, places, packed, compact, hint, hint-rows, squeeze, make-room}
+use Rattle.store.specs.View.{Row, Store, Bounds, word, order, resting, marked, ledger, depth, gateway, order-room}
+use Rattle.orders.specs.Orders.{either, Flags, Sorted, Counted, Ordered, places, packed, compact, hint, hint-rows, map-words, squeeze, make-room}
+use Rattle.orders.proofs.Bits.{words-mapped}
 use Rattle.orders.proofs.Shown.{map-append, map-pick, pick-length}
 use Rattle.orders.proofs.Views.{with-lists, Did, bounds-from}
 
@@ -88,25 +89,43 @@ either-covered (suc a) b p q = record { one = omega arith; left = p; right = q; 
 kept-one : (r : Row) → Flags r → Covered (r C.order-kept) (r C.order-live) (r C.order-resting)
 kept-one r f = rw (f .kept-is) (either-covered (r C.order-live) (r C.order-resting) (f .live-is) (f .resting-is))
 
+-- t holds the gateway of s, but for the lists of orders; its table is in order, but the map may be anything
+record Unmapped (s t : Store) (os : List Order) (rs : List D.Resting) : Type 0 where
+  view : gateway t ≡ with-lists os rs (gateway s)
+  bounds : Bounds t
+  sorted : Sorted t
+  counted : Counted t
+
 -- hints are seen by none
-hint-did : (s t : Store) (os : List Order) (rs : List D.Resting) (i : ℕ) → Did s t os rs → Did s (hint i t) os rs
+hint-did : (s t : Store) (os : List Order) (rs : List D.Resting) (i : ℕ) → Unmapped s t os rs → Unmapped s (hint i t) os rs
 unfolding hint
 hint-did s t os rs i d =
-    let o = d .ordered in
+    record {
+      view = d .view;
+      bounds = bounds-from t (hint i t) (λ k l x y z. refl) (d .bounds .orders-fit) (d .bounds);
+      sorted = record { ascends = d .sorted .ascends; flags = d .sorted .flags };
+      counted = record { live-count = d .counted .live-count; resting-count = d .counted .resting-count };
+    }
+
+hints-did : (s t : Store) (os : List Order) (rs : List D.Resting) → Unmapped s t os rs → (n : ℕ) → Unmapped s (hint-rows n t) os rs
+unfolding hint-rows
+hints-did s t os rs d zero = d
+hints-did s t os rs d (suc n) = hint-did s (hint-rows n t) os rs n (hints-did s t os rs d n)
+
+-- the map of rows that are all kept
+words-did : (s t : Store) (os : List Order) (rs : List D.Resting) (n : ℕ) → word t C.order-rows ≡ n → ((j : ℕ) → j < n → 0 < t C.orders j C.order-kept) → Unmapped s t os rs → Did s (map-words 32 n t) os rs
+unfolding map-words
+words-did s t os rs n e h d =
     record {
       view = d .view;
       ordered =
           record {
-            bounds = bounds-from t (hint i t) (λ k l x y z. refl) (o .bounds .orders-fit) (o .bounds);
-            sorted = record { ascends = o .sorted .ascends; flags = o .sorted .flags };
-            counted = record { live-count = o .counted .live-count; resting-count = o .counted .resting-count };
+            bounds = bounds-from t (map-words 32 n t) (λ k l x y z. refl) (d .bounds .orders-fit) (d .bounds);
+            sorted = record { ascends = d .sorted .ascends; flags = d .sorted .flags };
+            counted = record { live-count = d .counted .live-count; resting-count = d .counted .resting-count };
+            mapped = words-mapped t n e (λ j l. let c = kept-one (t C.orders j) (d .sorted .flags j (rw e l)) in omega (arith, h j l, c .one));
           };
     }
-
-hints-did : (s t : Store) (os : List Order) (rs : List D.Resting) → Did s t os rs → (n : ℕ) → Did s (hint-rows n t) os rs
-unfolding hint-rows
-hints-did s t os rs d zero = d
-hints-did s t os rs d (suc n) = hint-did s (hint-rows n t) os rs n (hints-did s t os rs d n)
 
 hints-other : (s : Store) (n b i k : ℕ) → (b ≡ C.hints → ⊥) → hint-rows n s b i k ≡ s b i k
 unfolding hint-rows hint
@@ -153,29 +172,25 @@ module _ (s : Store) (d : Ordered s) where
   resting-packed : marked (compact s) C.order-resting resting ≡ depth s .resting
   resting-packed = marked-packed C.order-resting resting (λ r f. ap (λ x. gated x (r C.order-resting)) (f .kept-is) ∙ gated-resting (r C.order-live) (r C.order-resting))
 
-  pub compact-view : Did s (compact s) (ledger s .orders) (depth s .resting)
+  compact-view : Unmapped s (compact s) (ledger s .orders) (depth s .resting)
   unfolding compact packed
   compact-view =
       record {
         view = gateway-packed _ _ live-packed resting-packed;
-        ordered =
+        bounds =
+            bounds-from s (compact s) (λ k l x y z. rw (ne-eqb k C.order-rows x) refl)
+            (omega (arith, live-few (λ j. was j C.order-kept) (λ j. j) (word s C.order-rows), d .bounds .orders-fit)) (d .bounds);
+        sorted = record { ascends = packed-ascends rows-packed (λ (r : Row). r C.order-number) (d .sorted .ascends); flags = flags-packed };
+        counted =
             record {
-              bounds =
-                  bounds-from s (compact s) (λ k l x y z. rw (ne-eqb k C.order-rows x) refl)
-                  (omega (arith, live-few (λ j. was j C.order-kept) (λ j. j) (word s C.order-rows), d .bounds .orders-fit)) (d .bounds);
-              sorted = record { ascends = packed-ascends rows-packed (λ (r : Row). r C.order-number) (d .sorted .ascends); flags = flags-packed };
-              counted =
-                  record {
-                    live-count = d .counted .live-count ∙ sym (ap length live-packed);
-                    resting-count = d .counted .resting-count ∙ sym (ap length resting-packed);
-                  };
+              live-count = d .counted .live-count ∙ sym (ap length live-packed);
+              resting-count = d .counted .resting-count ∙ sym (ap length resting-packed);
             };
       }
 
-  -- as many rows are left as are kept
-  pub compact-room : word s C.live-orders + word s C.resting-orders < order-room → word (compact s) C.order-rows < order-room
-  unfolding compact
-  compact-room h =
+  -- each is live or rests
+  pub kept-few : word s C.live-orders + word s C.resting-orders < order-room → length (places s) < order-room
+  kept-few h =
       let m = word s C.order-rows in
       omega (
         arith,
@@ -187,34 +202,48 @@ module _ (s : Store) (d : Ordered s) where
             (λ j l. kept-one (was j) (d .sorted .flags j l)),
       )
 
+  -- as many rows are left as are kept
+  compact-room : word s C.live-orders + word s C.resting-orders < order-room → word (compact s) C.order-rows < order-room
+  unfolding compact
+  compact-room = kept-few
+
+  -- with the hints: as many rows, and all are kept
+  hinted-rows : word (hint-rows (length (places s)) (compact s)) C.order-rows ≡ length (places s)
+  unfolding compact
+  hinted-rows = hints-other (compact s) (length (places s)) C.header 0 C.order-rows (λ e. omega arith)
+
+  hinted-kept : (j : ℕ) → j < length (places s) → 0 < hint-rows (length (places s)) (compact s) C.orders j C.order-kept
+  hinted-kept j l = rw (hints-row (compact s) (length (places s)) j) (packed-each rows-packed (λ (r : Row). 0 < r C.order-kept) (λ i m k. k) j l)
+
   pub make-room-view : Did s (make-room s) (ledger s .orders) (depth s .resting)
   unfolding make-room squeeze
   make-room-view =
       split (λ b. Did s (cond b s (squeeze s)) (ledger s .orders) (depth s .resting)) (ltb (word s C.order-rows) order-room)
-      (λ e. record { view = refl; ordered = d }) (λ e. hints-did s (compact s) _ _ compact-view (length (places s)))
+      (λ e. record { view = refl; ordered = d }) (λ e. words-did s _ _ _ (length (places s)) hinted-rows hinted-kept (hints-did s (compact s) _ _ compact-view (length (places s))))
 
   pub make-room-room : word s C.live-orders + word s C.resting-orders < order-room → word (make-room s) C.order-rows < order-room
-  unfolding make-room squeeze
+  unfolding make-room squeeze map-words
   make-room-room h =
       split (λ b. (ltb (word s C.order-rows) order-room ≡ b) → word (cond b s (squeeze s)) C.order-rows < order-room) (ltb (word s C.order-rows) order-room)
       (λ _ e. ltb-true (word s C.order-rows) order-room e) (λ _ e. rw (hints-other (compact s) (length (places s)) C.header 0 C.order-rows (λ e. omega arith)) (compact-room h)) refl
 
   -- what is true of every row stays so
   pub make-room-each : (P : Row → Type 0) → ((j : ℕ) → j < word s C.order-rows → P (was j)) → (j : ℕ) → j < word (make-room s) C.order-rows → P (make-room s C.orders j)
-  unfolding make-room squeeze compact
+  unfolding make-room squeeze compact map-words
   make-room-each P h =
       split (λ b. (j : ℕ) → j < word (cond b s (squeeze s)) C.order-rows → P (cond b s (squeeze s) C.orders j)) (ltb (word s C.order-rows) order-room) (λ e. h)
       (λ e j l.
       rw (hints-row (compact s) (length (places s)) j)
       (packed-each rows-packed P (λ i m n. h i m) j (rw (hints-other (compact s) (length (places s)) C.header 0 C.order-rows (λ e. omega arith)) at l)))
 
-  -- the rows of orders, their number and the hints are all that changes
-  pub make-room-other : (b i k : ℕ) → (b ≡ C.orders → ⊥) → (b ≡ C.hints → ⊥) → (b ≡ C.header → k ≡ C.order-rows → ⊥) → make-room s b i k ≡ s b i k
-  unfolding make-room squeeze compact packed
-  make-room-other b i k o h w =
+  -- the rows of orders, their number, their map and the hints are all that changes
+  pub make-room-other : (b i k : ℕ) → (b ≡ C.orders → ⊥) → (b ≡ C.hints → ⊥) → (b ≡ C.order-map → ⊥) → (b ≡ C.header → k ≡ C.order-rows → ⊥) → make-room s b i k ≡ s b i k
+  unfolding make-room squeeze compact packed map-words
+  make-room-other b i k o h m w =
       split (λ c. cond c s (squeeze s) b i k ≡ s b i k) (ltb (word s C.order-rows) order-room) (λ e. refl)
       (λ e.
-      hints-other (compact s) (length (places s)) b i k h
+      rw (ne-eqb b C.order-map m) refl
+      ∙ hints-other (compact s) (length (places s)) b i k h
       ∙ ⊎-elim
       (λ (q : b ≡ C.header). rw (q, ne-eqb k C.order-rows (w q)) (split (λ x. cond (x && false) (length (places s)) (s C.header i k) ≡ s C.header i k) (eqb i 0) (λ e. refl) (λ e. refl)))
       (λ q. rw (ne-eqb b C.header q, ne-eqb b C.orders o) refl)

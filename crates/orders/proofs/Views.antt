@@ -1,12 +1,15 @@
 -- What the operations do to the gateway that the cells hold, and that they keep the table in order. Assumes nothing.
 use mathlib.Core.Path.{_≡_, refl, sym, ap, ap₂, _∙_}
 use mathlib.Core.Logic.{⊎-elim}
+use mathlib.Core.Bool.{cond}
 use mathlib.Core.Option.{some, Option·map}
 use mathlib.Core.List.{List, [], _∷_, _++_}
 use Prim.Native.Nat.{ℕ, zero, suc, _+_, _-_, _%_, _≤_, _<_}
 use native.Mathlib.Omega.{arith}
-use borrow.Author.Tests.{eq-eqb, ne-eqb}
+use borrow.Author.Tests.{eq-eqb, ne-eqb, lt-ltb, le-ltb}
+use lib.Dec.{ltb}
 use lib.ListN.{length, length-append}
+use Rattle.le.proofs.Laws.{lt-or-le}
 use Rattle.table.specs.Live.{Changed, pick, live, look, without, insert, replace, Ascends}
 use Rattle.table.proofs.Live.{same?, look-some, ascends-ext, ascends-open, gap-end}
 use Rattle.gateway.specs.Calls.{Gateway}
@@ -17,12 +20,13 @@ use Rattle.gateway.specs.Table.{update, Rises}
 use Rattle.store.specs.Cells as C
 use Rattle.store.specs.Layout.{cell}
 use Rattle.store.specs.View.{Row, Store, Same, Is, Ready, word, write, fill, side, maybe-price, order, resting, marked, ledger, depth, gateway, order-room, Bounds}
-use Rattle.store.proofs.Places.{header-cell, order-cell}
+use Rattle.store.proofs.Places.{header-cell, order-cell, order-map-cell}
 use Rattle.store.proofs.Rows.{put-cell, row-here, row-there}
 use Rattle.store.proofs.Frames.{Agree, order-same, resting-same, gateway-same}
 use Rattle.orders.specs.declared.Live.{Live}
 use Rattle.orders.specs.declared.Resting.{Resting}
-use Rattle.orders.specs.Orders.{set-hint, either, Flags, Sorted, Ordered, order-of, resting-of, set-leaves, revise, show, strike, retire, take-off, rest, append}
+use Rattle.orders.specs.Orders.{set-hint, set-bit, either, Flags, Sorted, kept-at, KeptMap, Ordered, order-of, resting-of, set-leaves, revise, show, strike, retire, take-off, rest, append}
+use Rattle.orders.proofs.Bits.{OneBit, one-bit, mapped-same, mapped-row}
 use Rattle.orders.proofs.Shown.{shown, shown-ext, shown-more, shown-dead, shown-strike, shown-replace, shown-revive, shown-update, shown-length, shown-parts, shown-rises, look-map}
 
 -- the gateway with other lists of orders
@@ -52,7 +56,7 @@ abbrev pub put-cells : ℕ → List ℕ → Row → Row
 put-cells k [] r = r
 put-cells k (v ∷ vs) r = put-cells (k + 1) vs (put-cell k v r)
 
--- t is s but for the row i, which is r, the hints and three words
+-- t is s but for the row i, which is r, the hints, the map and three words
 pub record Touched (i : ℕ) (r : Row) (s t : Store) : Type 0 where
   pub here : t C.orders i ≡ r
   pub others : (j : ℕ) → (j ≡ i → ⊥) → t C.orders j ≡ s C.orders j
@@ -79,6 +83,9 @@ count-touched i k v r s t h c =
 
 pub hint-touched : (i n v : ℕ) (r : Row) (s t : Store) → Touched i r s t → Touched i r s (set-hint n v t)
 hint-touched i n v r s t c = record { here = c .here; others = c .others; words = c .words }
+
+pub bit-touched : (i j v : ℕ) (r : Row) (s t : Store) → Touched i r s t → Touched i r s (set-bit j v t)
+bit-touched i j v r s t c = record { here = c .here; others = c .others; words = c .words }
 
 pub untouched : (i : ℕ) (s : Store) → Touched i (s C.orders i) s s
 untouched i s = record { here = refl; others = λ j ne. refl; words = λ k x y z. refl }
@@ -147,6 +154,15 @@ module _ (i : ℕ) (r : Row) (s t : Store) (c : Touched i r s t) where
         flags = λ j l. ⊎-elim (λ (q : j ≡ i). rw (q, c .here) f) (λ q. rw (c .others j q) (d .flags j (rw w at l))) (same? j i);
       }
 
+  -- the other rows are kept as they were
+  kept-others : word t C.order-rows ≡ word s C.order-rows → (j : ℕ) → (j ≡ i → ⊥) → kept-at t j ≡ kept-at s j
+  kept-others w j ne = ap₂ (λ (n : ℕ) (q : Row). cond (ltb j n) (q C.order-kept) 0) w (c .others j ne)
+
+  -- where the row is in use, and has its bit
+  mapped-touched : word t C.order-rows ≡ word s C.order-rows → i < word s C.order-rows → OneBit i (r C.order-kept) s t → KeptMap s → KeptMap t
+  mapped-touched w l f =
+      mapped-row i s t (record { here = f .here ∙ ap (λ (q : Row). q C.order-kept) (sym (c .here)); others = f .others }) (rw w l) (kept-others w)
+
 -- the order with the price of these words, and v open
 abbrev pub revised : ℕ → ℕ → ℕ → Order → Order
 revised c p v o =
@@ -159,12 +175,13 @@ pub record Did (s t : Store) (os : List Order) (rs : List D.Resting) : Type 0 wh
 
 -- ---- what leaves the table alone
 
--- t has the rows of s, and its three words
+-- t has the rows of s, its map and its three words
 pub record Keeps (s t : Store) : Type 0 where
   pub rows-are : word t C.order-rows ≡ word s C.order-rows
   pub live-are : word t C.live-orders ≡ word s C.live-orders
   pub resting-are : word t C.resting-orders ≡ word s C.resting-orders
   pub cells : (j k : ℕ) → j < word s C.order-rows → k < 16 → t C.orders j k ≡ s C.orders j k
+  pub map-is : (j : ℕ) → j < 32 → t C.order-map j C.map-bits ≡ s C.order-map j C.map-bits
 
 module _ {s t : Store} (e : Keeps s t) where
   marked-kept : {A : Type 0} (k : ℕ) (f : Row → A) → k < 16 → ((q r : Row) → Agree 16 q r → f q ≡ f r) → marked t k f ≡ marked s k f
@@ -178,6 +195,14 @@ module _ {s t : Store} (e : Keeps s t) where
 
   pub resting-kept : depth t .resting ≡ depth s .resting
   resting-kept = marked-kept C.order-resting resting (omega arith) resting-same
+
+  kept-same : (j : ℕ) → kept-at t j ≡ kept-at s j
+  kept-same j =
+      rw (e .rows-are)
+      (⊎-elim
+      (λ (l : j < word s C.order-rows). rw (lt-ltb j (word s C.order-rows) l) (e .cells j C.order-kept l (omega arith)))
+      (λ l. rw (le-ltb j (word s C.order-rows) l) refl)
+      (lt-or-le j (word s C.order-rows)))
 
   pub ordered-kept : Bounds t → Ordered s → Ordered t
   ordered-kept b d =
@@ -199,6 +224,7 @@ module _ {s t : Store} (e : Keeps s t) where
               live-count = e .live-are ∙ d .counted .live-count ∙ sym (ap length live-kept);
               resting-count = e .resting-are ∙ d .counted .resting-count ∙ sym (ap length resting-kept);
             };
+        mapped = mapped-same s t (e .map-is) (λ j l. kept-same j) (d .mapped);
       }
 
 -- ---- from the program to the bytes
@@ -214,6 +240,7 @@ module _ (s t : Store) (e : Same s t) (b : Bounds s) where
         live-are = word-same C.live-orders (omega arith);
         resting-are = word-same C.resting-orders (omega arith);
         cells = λ j k h l. sym (e C.orders j k (order-cell j k (omega (arith, b .orders-fit)) l));
+        map-is = λ j l. sym (e C.order-map j C.map-bits (order-map-cell j C.map-bits l (omega arith)));
       }
 
   pub bounds-same : Bounds t
@@ -275,11 +302,11 @@ module _ (s : Store) (i : ℕ) (d : Ordered s) (l : i < word s C.order-rows) whe
         omega arith
 
   module _ (r : Row) (t : Store) (c : Touched i r s t) (g : gateway t ≡ with-lists (marked t C.order-live order) (marked t C.order-resting resting) (gateway s)) where
-    row-did : (os : List Order) (rs : List D.Resting) → word t C.order-rows ≡ word s C.order-rows → r C.order-number ≡ was C.order-number → Flags r →
+    row-did : (os : List Order) (rs : List D.Resting) → word t C.order-rows ≡ word s C.order-rows → r C.order-number ≡ was C.order-number → Flags r → KeptMap t →
         word t C.live-orders + was C.order-live ≡ word s C.live-orders + r C.order-live →
         word t C.resting-orders + was C.order-resting ≡ word s C.resting-orders + r C.order-resting →
         marked t C.order-live order ≡ os → marked t C.order-resting resting ≡ rs → Did s t os rs
-    row-did os rs w e f p q a b =
+    row-did os rs w e f m p q a b =
         let h = d .sorted .flags i l in
         record {
           view = g ∙ ap₂ (λ x y. with-lists x y (gateway s)) a b;
@@ -292,31 +319,33 @@ module _ (s : Store) (i : ℕ) (d : Ordered s) (l : i < word s C.order-rows) whe
                       live-count = count-kept C.order-live order number-of (λ r. refl) r t c (word t C.live-orders) (word s C.live-orders) w (h .live-is) (f .live-is) (d .counted .live-count) p;
                       resting-count = count-kept C.order-resting resting D.resting-number (λ r. refl) r t c (word t C.resting-orders) (word s C.resting-orders) w (h .resting-is) (f .resting-is) (d .counted .resting-count) q;
                     };
+                mapped = m;
               };
         }
 
     still : {A : Type 0} (k : ℕ) (f : Row → A) → word t C.order-rows ≡ word s C.order-rows → read k f r ≡ read k f was → marked t k f ≡ marked s k f
     still k f w e = rw w (shown-ext _ _ (word s C.order-rows) (λ j m. same-rows i r s t c (read k f) e j))
 
-    -- a half is changed, and the flags stay
-    half-did : (os : List Order) (rs : List D.Resting) → counts t ≡ counts s → head r ≡ head was → marked t C.order-live order ≡ os → marked t C.order-resting resting ≡ rs → Did s t os rs
-    half-did os rs w h a b =
+    -- a half is changed, and the flags stay, and the map
+    half-did : (os : List Order) (rs : List D.Resting) → ((j : ℕ) → t C.order-map j C.map-bits ≡ s C.order-map j C.map-bits) → counts t ≡ counts s → head r ≡ head was → marked t C.order-live order ≡ os → marked t C.order-resting resting ≡ rs → Did s t os rs
+    half-did os rs m w h a b =
         row-did os rs (ap (λ x. x .0) w) (ap (λ x. x .0) h) (same-flags was r h (d .sorted .flags i l))
+        (mapped-same s t (λ j _. m j) (λ j _. ap₂ (λ (n v : ℕ). cond (ltb j n) v 0) (ap (λ x. x .0) w) (same-rows i r s t c (λ q. q C.order-kept) (ap (λ x. x .3) h) j)) (d .mapped))
         (ap₂ (λ x y. x .1 + y .1) w (sym h)) (ap₂ (λ x y. x .2 + y .2) w (sym h)) a b
 
-    live-did : (f : Order → Order) → counts t ≡ counts s → head r ≡ head was → f (order was) ≡ order r → resting r ≡ resting was → 0 < was C.order-live →
+    live-did : (f : Order → Order) → ((j : ℕ) → t C.order-map j C.map-bits ≡ s C.order-map j C.map-bits) → counts t ≡ counts s → head r ≡ head was → f (order was) ≡ order r → resting r ≡ resting was → 0 < was C.order-live →
         Did s t (update number-of (was C.order-number) f (ledger s .orders)) (depth s .resting)
-    live-did f w h e u m =
-        half-did _ _ w h
+    live-did f k w h e u m =
+        half-did _ _ k w h
         (rw (ap (λ x. x .0) w)
         (shown-update number-of (changed i r s t c C.order-live order (word s C.order-rows) l) (rising C.order-live order number-of (λ r. refl)) f
         (e ∙ ap order (sym (c .here))) (ap (λ (q : Row). q C.order-number) (c .here) ∙ ap (λ x. x .0) h) m (rw (c .here, ap (λ x. x .1) h) m)))
         (still C.order-resting resting (ap (λ x. x .0) w) (ap₂ (λ x y. (x, y)) (ap (λ x. x .2) h) u))
 
-    resting-did : counts t ≡ counts s → head r ≡ head was → order r ≡ order was → 0 < was C.order-resting →
+    resting-did : ((j : ℕ) → t C.order-map j C.map-bits ≡ s C.order-map j C.map-bits) → counts t ≡ counts s → head r ≡ head was → order r ≡ order was → 0 < was C.order-resting →
         Did s t (ledger s .orders) (replace D.resting-number (resting r) (depth s .resting))
-    resting-did w h u m =
-        half-did _ _ w h
+    resting-did k w h u m =
+        half-did _ _ k w h
         (still C.order-live order (ap (λ x. x .0) w) (ap₂ (λ x y. (x, y)) (ap (λ x. x .1) h) u))
         (rw (ap (λ x. x .0) w, ← c .here)
         (shown-replace D.resting-number (changed i r s t c C.order-resting resting (word s C.order-rows) l) (rising C.order-resting resting D.resting-number (λ r. refl))
@@ -325,13 +354,13 @@ module _ (s : Store) (i : ℕ) (d : Ordered s) (l : i < word s C.order-rows) whe
   pub set-leaves-view : (v h : ℕ) → 0 < was C.order-live → Did s (set-leaves i v h s) (update number-of (was C.order-number) (with-leaves v) (ledger s .orders)) (depth s .resting)
   unfolding fill
   set-leaves-view v h m =
-      live-did _ (set-leaves i v h s) (fill-touched i C.order-leaves (v ∷ h ∷ []) was s s (untouched i s)) refl (with-leaves v) refl refl refl refl m
+      live-did _ (set-leaves i v h s) (fill-touched i C.order-leaves (v ∷ h ∷ []) was s s (untouched i s)) refl (with-leaves v) (λ j. refl) refl refl refl refl m
 
   pub revise-view : (c p v h : ℕ) (f : Order → Order) → f (order was) ≡ revised c p v (order was) → 0 < was C.order-live →
       Did s (revise i c p v h s) (update number-of (was C.order-number) f (ledger s .orders)) (depth s .resting)
   unfolding fill
   revise-view c p v h f e m =
-      live-did _ (revise i c p v h s) (fill-touched i C.order-priced (c ∷ p ∷ v ∷ h ∷ []) was s s (untouched i s)) refl f refl refl e refl m
+      live-did _ (revise i c p v h s) (fill-touched i C.order-priced (c ∷ p ∷ v ∷ h ∷ []) was s s (untouched i s)) refl f (λ j. refl) refl refl e refl m
 
   pub show-touched : (v w : ℕ) → Touched i (put-cells C.order-visible (v ∷ w ∷ []) was) s (show i v w s)
   show-touched v w = fill-touched i C.order-visible (v ∷ w ∷ []) was s s (untouched i s)
@@ -339,7 +368,7 @@ module _ (s : Store) (i : ℕ) (d : Ordered s) (l : i < word s C.order-rows) whe
   pub show-view : (v w : ℕ) → 0 < was C.order-resting → Did s (show i v w s) (ledger s .orders) (replace D.resting-number (D.showing v w (resting was)) (depth s .resting))
   unfolding fill
   show-view v w m =
-      resting-did _ (show i v w s) (show-touched v w) refl refl refl refl m
+      resting-did _ (show i v w s) (show-touched v w) refl (λ j. refl) refl refl refl m
 
   -- its order
   pub find-at : 0 < was C.order-live → L.find (was C.order-number) (ledger s .orders) ≡ some (order was)
@@ -365,8 +394,9 @@ module _ (s : Store) (i : ℕ) (d : Ordered s) (l : i < word s C.order-rows) whe
   pub retire-touched : Touched i (put-cell C.order-kept (was C.order-resting) (put-cell C.order-live 0 was)) s (retire i s)
   unfolding strike
   retire-touched =
-      count-touched i C.live-orders (word s C.live-orders - 1) _ s _ (λ j x y z. y)
-      (write-touched i C.order-kept (was C.order-resting) _ s _ (write-touched i C.order-live 0 was s s (untouched i s)))
+      bit-touched i i (was C.order-resting) _ s _
+      (count-touched i C.live-orders (word s C.live-orders - 1) _ s _ (λ j x y z. y)
+      (write-touched i C.order-kept (was C.order-resting) _ s _ (write-touched i C.order-live 0 was s s (untouched i s))))
 
   pub retire-view : 0 < was C.order-live → Did s (retire i s) (remove (was C.order-number) (ledger s .orders)) (depth s .resting)
   unfolding strike
@@ -376,6 +406,7 @@ module _ (s : Store) (i : ℕ) (d : Ordered s) (l : i < word s C.order-rows) whe
       let c = retire-touched in
       row-did _ t c refl _ _ refl refl
       (record { live-is = omega arith; resting-is = f .resting-is; kept-is = refl })
+      (mapped-touched i _ s t c refl l (one-bit i (was C.order-resting) s _ (f .resting-is) (λ j. refl)) (d .mapped))
       (omega (arith, live-some m, f .live-is)) refl
       (shown-strike number-of (changed i _ s t c C.order-live order (word s C.order-rows) l) (rising C.order-live order number-of (λ r. refl)) (ap (λ (q : Row). q C.order-live) (c .here)))
       (still _ t c refl C.order-resting resting refl refl)
@@ -383,8 +414,9 @@ module _ (s : Store) (i : ℕ) (d : Ordered s) (l : i < word s C.order-rows) whe
   pub take-off-touched : Touched i (put-cell C.order-kept (was C.order-live) (put-cell C.order-resting 0 was)) s (take-off i s)
   unfolding strike
   take-off-touched =
-      count-touched i C.resting-orders (word s C.resting-orders - 1) _ s _ (λ j x y z. z)
-      (write-touched i C.order-kept (was C.order-live) _ s _ (write-touched i C.order-resting 0 was s s (untouched i s)))
+      bit-touched i i (was C.order-live) _ s _
+      (count-touched i C.resting-orders (word s C.resting-orders - 1) _ s _ (λ j x y z. z)
+      (write-touched i C.order-kept (was C.order-live) _ s _ (write-touched i C.order-resting 0 was s s (untouched i s))))
 
   pub take-off-view : 0 < was C.order-resting → Did s (take-off i s) (ledger s .orders) (without D.resting-number (was C.order-number) (depth s .resting))
   unfolding strike
@@ -394,6 +426,7 @@ module _ (s : Store) (i : ℕ) (d : Ordered s) (l : i < word s C.order-rows) whe
       let c = take-off-touched in
       row-did _ t c refl _ _ refl refl
       (record { live-is = f .live-is; resting-is = omega arith; kept-is = either-zero (was C.order-live) (f .live-is) })
+      (mapped-touched i _ s t c refl l (one-bit i (was C.order-live) s _ (f .live-is) (λ j. refl)) (d .mapped))
       refl (omega (arith, resting-some m, f .resting-is))
       (still _ t c refl C.order-live order refl refl)
       (shown-strike D.resting-number (changed i _ s t c C.order-resting resting (word s C.order-rows) l) (rising C.order-resting resting D.resting-number (λ r. refl)) (ap (λ (q : Row). q C.order-resting) (c .here)))
@@ -401,8 +434,9 @@ module _ (s : Store) (i : ℕ) (d : Ordered s) (l : i < word s C.order-rows) whe
   pub rest-touched : (o : Resting) (h : ℕ) → Touched i (put-cells C.order-resting (1 ∷ 1 ∷ []) (put-cells C.order-rest-side (o .side ∷ o .price ∷ o .visible ∷ o .leaves ∷ h ∷ []) was)) s (rest i o h s)
   unfolding rest
   rest-touched o h =
-      count-touched i C.resting-orders (word s C.resting-orders + 1) _ s _ (λ j x y z. z)
-      (fill-touched i C.order-resting (1 ∷ 1 ∷ []) _ s _ (fill-touched i C.order-rest-side (o .side ∷ o .price ∷ o .visible ∷ o .leaves ∷ h ∷ []) was s s (untouched i s)))
+      bit-touched i i 1 _ s _
+      (count-touched i C.resting-orders (word s C.resting-orders + 1) _ s _ (λ j x y z. z)
+      (fill-touched i C.order-resting (1 ∷ 1 ∷ []) _ s _ (fill-touched i C.order-rest-side (o .side ∷ o .price ∷ o .visible ∷ o .leaves ∷ h ∷ []) was s s (untouched i s))))
 
   pub rest-view : (o : Resting) (h : ℕ) → was C.order-resting ≡ 0 → Did s (rest i o h s) (ledger s .orders) (insert D.resting-number (resting-of (was C.order-number) o) (depth s .resting))
   unfolding rest fill
@@ -412,6 +446,7 @@ module _ (s : Store) (i : ℕ) (d : Ordered s) (l : i < word s C.order-rows) whe
       let c = rest-touched o h in
       row-did _ t c refl _ _ refl refl
       (record { live-is = f .live-is; resting-is = omega arith; kept-is = either-one (was C.order-live) })
+      (mapped-touched i _ s t c refl l (one-bit i 1 s _ (omega arith) (λ j. refl)) (d .mapped))
       refl (omega (arith, m))
       (still _ t c refl C.order-live order refl refl)
       (shown-revive D.resting-number (changed i _ s t c C.order-resting resting (word s C.order-rows) l) (rising C.order-resting resting D.resting-number (λ r. refl))
@@ -430,10 +465,11 @@ module _ (s : Store) (n : ℕ) (o : Live) where
   pub append-touched : Touched next new-row s (append n o s)
   unfolding append fill
   append-touched =
-      hint-touched next n next _ s _
+      bit-touched next next 1 _ s _
+      (hint-touched next n next _ s _
       (count-touched next C.live-orders (word s C.live-orders + 1) _ s _ (λ j x y z. y)
       (count-touched next C.order-rows (next + 1) _ s _ (λ j x y z. x)
-      (fill-touched next C.order-number (n ∷ 1 ∷ 0 ∷ 1 ∷ o .account ∷ o .«client_ref» ∷ o .side ∷ o .priced ∷ o .price ∷ o .leaves ∷ o .hold ∷ []) (s C.orders next) s s (untouched next s))))
+      (fill-touched next C.order-number (n ∷ 1 ∷ 0 ∷ 1 ∷ o .account ∷ o .«client_ref» ∷ o .side ∷ o .priced ∷ o .price ∷ o .leaves ∷ o .hold ∷ []) (s C.orders next) s s (untouched next s)))))
 
   -- the rows before the new one
   before : (j : ℕ) → j < next → append n o s C.orders j ≡ s C.orders j
@@ -452,6 +488,21 @@ module _ (s : Store) (n : ℕ) (o : Live) where
             (λ q. rw (append-touched .others j q) (d .flags j (omega (arith, q))))
             (same? j next);
       }
+
+  -- the rows that are in use, but for the new one
+  kept-before : (j : ℕ) → (j ≡ next → ⊥) → kept-at (append n o s) j ≡ kept-at s j
+  unfolding append fill
+  kept-before j ne =
+      ⊎-elim
+      (λ (l : j < next). rw (lt-ltb j (next + 1) (omega arith), lt-ltb j next l) (ap (λ (q : Row). q C.order-kept) (append-touched .others j ne)))
+      (λ l. rw (le-ltb j (next + 1) (omega (arith, ne)), le-ltb j next l) refl)
+      (lt-or-le j next)
+
+  append-mapped : KeptMap s → KeptMap (append n o s)
+  unfolding append fill
+  append-mapped =
+      let f = one-bit next 1 s _ (omega arith) (λ j. refl) in
+      mapped-row next s (append n o s) (record { here = f .here ∙ ap (λ (q : Row). q C.order-kept) (sym (append-touched .here)); others = f .others }) (omega arith) kept-before
 
   pub append-view : Ordered s → next < order-room → ((j : ℕ) → j < next → s C.orders j C.order-number < n) →
       Did s (append n o s) (ledger s .orders ++ (order-of n o ∷ [])) (depth s .resting)
@@ -477,5 +528,6 @@ module _ (s : Store) (n : ℕ) (o : Live) where
                     live-count = rw (a, length-append (marked s C.order-live order) (order-of n o ∷ []), d .counted .live-count) refl;
                     resting-count = rw b (d .counted .resting-count);
                   };
+              mapped = append-mapped (d .mapped);
             };
       }

@@ -1,6 +1,7 @@
 // The table of orders: rows ascending by number, each with a live half and a resting half. docs/STATE.md has the cells.
 use store::cells::HINT_FOUR;
 use store::cells::LIVE_ORDERS;
+use store::cells::MAP_BITS;
 use store::cells::ORDER_ACCOUNT;
 use store::cells::ORDER_CLIENT_REF;
 use store::cells::ORDER_HOLD;
@@ -22,14 +23,15 @@ use store::cells::RESTING_ORDERS;
 use table::Found;
 ghost use mathlib.Core.List.{[], _∷_};
 ghost use mathlib.Core.Path.{_≡_};
-ghost use Prim.Native.Nat.{_+_, _≤_, _<_};
+ghost use Prim.Native.Nat.{_+_, _%_, _≤_, _<_};
 ghost use Rattle.table.specs.Table.{Between};
 ghost use Rattle.gateway.specs.Depth.{resting-number};
 ghost use Rattle.gateway.specs.Ledger.{number-of};
+ghost use Rattle.bitmap.specs.Bitmap.{Nearest};
 ghost use Rattle.store.specs.Cells as C;
 ghost use Rattle.store.specs.Layout.{cell, Cell, Holds};
 ghost use Rattle.store.specs.View.{word, fill, order, resting, order-room, Is, Ready};
-ghost use Rattle.orders.specs.Orders.{Sorted, Marks, FindsRow, Sees, hint-of, set-hint, first-try, live-row, resting-row, set-leaves, revise, show, strike, retire, take-off, rest, append, hint, hint-rows, squeeze, make-room, open-row, number-at};
+ghost use Rattle.orders.specs.Orders.{Sorted, Marks, FindsRow, Sees, hint-of, set-hint, live-row, resting-row, set-leaves, revise, show, strike, retire, take-off, rest, append, hint, hint-rows, kept-at, map-row, remap, ones, map-words, set-bit, squeeze, make-room, new-place, MadeWay, rows-with, tombstone, open-row, number-at};
 
 // The live half of a row.
 pub struct Live {
@@ -86,24 +88,13 @@ fn set_hint(m: &mut [u8], number: u64, i: u64)
     );
 }
 
-// The row that is tried first: the one where the order was, or the hint of its number.
-fn try_first(m: &[u8], number: u64, at: Found) -> usize
-    requires { ⌜ Ready (now m) ⌝ }
-    ensures { λ r. ⌜ r ≡ first-try number at (cell (now (m .entry))) ⌝ }
-{
-    match at {
-        Found::At(i) => i,
-        Found::Nothing => hint_of(m, number),
-    }
-}
-
-// The row of a number whose flag stands in the cell k. It need not be where the order was.
-fn find(m: &[u8], k: usize, number: u64, at: Found) -> Found
+// The row of a number whose flag stands in the cell k: the one that the hint says, where it bears the number.
+fn find(m: &[u8], k: usize, number: u64) -> Found
     requires { ⌜ Ready (now m) × Sorted (cell (now m)) × Marks k (cell (now m)) ⌝ }
     ensures { λ r. ⌜ FindsRow k (cell (now (m .entry))) number r ⌝ }
 {
     let n = store::get(m, store::HEADER, 0, ORDER_ROWS);
-    let first = try_first(m, number, at);
+    let first = hint_of(m, number);
     table::find_hinted(
         m,
         store::ORDERS_AT,
@@ -119,29 +110,7 @@ pub fn find_live(m: &[u8], number: u64) -> Found
     requires { ⌜ Ready (now m) × Sorted (cell (now m)) ⌝ }
     ensures { λ r. ⌜ Sees C.order-live order number-of (cell (now (m .entry))) number r ⌝ }
 {
-    find(m, ORDER_LIVE, number, Found::Nothing)
-}
-
-pub fn find_resting(m: &[u8], number: u64) -> Found
-    requires { ⌜ Ready (now m) × Sorted (cell (now m)) ⌝ }
-    ensures { λ r. ⌜ Sees C.order-resting resting resting-number (cell (now (m .entry))) number r ⌝ }
-{
-    find(m, ORDER_RESTING, number, Found::Nothing)
-}
-
-// As those two, of an order that was at `at`.
-pub fn live_again(m: &[u8], number: u64, at: Found) -> Found
-    requires { ⌜ Ready (now m) × Sorted (cell (now m)) ⌝ }
-    ensures { λ r. ⌜ Sees C.order-live order number-of (cell (now (m .entry))) number r ⌝ }
-{
-    find(m, ORDER_LIVE, number, at)
-}
-
-pub fn resting_again(m: &[u8], number: u64, at: Found) -> Found
-    requires { ⌜ Ready (now m) × Sorted (cell (now m)) ⌝ }
-    ensures { λ r. ⌜ Sees C.order-resting resting resting-number (cell (now (m .entry))) number r ⌝ }
-{
-    find(m, ORDER_RESTING, number, at)
+    find(m, ORDER_LIVE, number)
 }
 
 // Where the two halves of an order stand.
@@ -166,7 +135,7 @@ pub fn look(m: &[u8], number: u64) -> Places
     requires { ⌜ Ready (now m) × Sorted (cell (now m)) ⌝ }
     ensures { λ r. ⌜ Sees C.order-live order number-of (cell (now (m .entry))) number (r .live) × Sees C.order-resting resting resting-number (cell (now (m .entry))) number (r .resting) ⌝ }
 {
-    if let Found::At(i) = find(m, ORDER_KEPT, number, Found::Nothing) {
+    if let Found::At(i) = find(m, ORDER_KEPT, number) {
         let live = half(m, i, ORDER_LIVE);
         let resting = half(m, i, ORDER_RESTING);
         return Places { live, resting };
@@ -255,7 +224,7 @@ pub fn show(m: &mut [u8], i: usize, visible: u64, leaves: u64)
 
 // The flag in the cell k goes; `count` has how many rows bear it.
 fn strike(m: &mut [u8], k: usize, other: usize, count: usize, i: usize)
-    requires { ⌜ Holds (now m) × (i < order-room) × (k < 16) × (other < 16) × (count < 32) × (0 < word (cell (now m)) count) ⌝ }
+    requires { ⌜ Holds (now m) × (i < order-room) × (k < 16) × (other < 16) × (count < 32) × (0 < word (cell (now m)) count) × (cell (now m) C.orders i other ≤ 1) ⌝ }
     ensures { λ r. ⌜ Is (now (m .exit)) (strike k other count i (cell (now (m .entry)))) ⌝ }
 {
     let kept = store::get(m, store::ORDERS, i, other);
@@ -263,11 +232,12 @@ fn strike(m: &mut [u8], k: usize, other: usize, count: usize, i: usize)
     store::set(m, store::ORDERS, i, k, 0);
     store::set(m, store::ORDERS, i, ORDER_KEPT, kept);
     store::set(m, store::HEADER, 0, count, n - 1);
+    bitmap::put(m, store::ORDER_MAP, i, kept);
 }
 
 // The order is live no more.
 pub fn retire(m: &mut [u8], i: usize)
-    requires { ⌜ Holds (now m) × (i < order-room) × (0 < word (cell (now m)) C.live-orders) ⌝ }
+    requires { ⌜ Holds (now m) × (i < order-room) × (0 < word (cell (now m)) C.live-orders) × (cell (now m) C.orders i C.order-resting ≤ 1) ⌝ }
     ensures { λ r. ⌜ Is (now (m .exit)) (retire i (cell (now (m .entry)))) ⌝ }
 {
     strike(m, ORDER_LIVE, ORDER_RESTING, LIVE_ORDERS, i);
@@ -275,7 +245,7 @@ pub fn retire(m: &mut [u8], i: usize)
 
 // The order rests no more.
 pub fn take_off(m: &mut [u8], i: usize)
-    requires { ⌜ Holds (now m) × (i < order-room) × (0 < word (cell (now m)) C.resting-orders) ⌝ }
+    requires { ⌜ Holds (now m) × (i < order-room) × (0 < word (cell (now m)) C.resting-orders) × (cell (now m) C.orders i C.order-live ≤ 1) ⌝ }
     ensures { λ r. ⌜ Is (now (m .exit)) (take-off i (cell (now (m .entry)))) ⌝ }
 {
     strike(m, ORDER_RESTING, ORDER_LIVE, RESTING_ORDERS, i);
@@ -291,6 +261,7 @@ pub fn rest(m: &mut [u8], i: usize, o: Resting, level: usize)
     store::set(m, store::ORDERS, i, ORDER_LEVEL, level as u64);
     set_two(m, store::ORDERS, i, ORDER_RESTING, 1, 1);
     store::set(m, store::HEADER, 0, RESTING_ORDERS, n + 1);
+    bitmap::put(m, store::ORDER_MAP, i, 1);
 }
 
 // A row for a live order that does not rest.
@@ -322,6 +293,7 @@ pub fn append(m: &mut [u8], number: u64, o: Live)
     put_row(m, i as usize, number, o);
     set_two(m, store::HEADER, 0, ORDER_ROWS, i + 1, n + 1);
     set_hint(m, number, i);
+    bitmap::put(m, store::ORDER_MAP, i as usize, 1);
 }
 
 fn hint(m: &mut [u8], i: usize)
@@ -343,6 +315,65 @@ fn hint_rows(m: &mut [u8], n: usize)
     }
 }
 
+// Whether the row i is in use and kept.
+fn kept_at(m: &[u8], i: usize) -> u64
+    requires { ⌜ Holds (now m) × (i < order-room) ⌝ }
+    ensures { λ r. ⌜ r ≡ kept-at (cell (now (m .entry))) i ⌝ }
+{
+    if store::get(m, store::HEADER, 0, ORDER_ROWS) <= i as u64 {
+        return 0;
+    }
+    store::get(m, store::ORDERS, i, ORDER_KEPT)
+}
+
+// The map has the bit of the row i.
+fn map_row(m: &mut [u8], i: usize)
+    requires { ⌜ Holds (now m) × (i < order-room) ⌝ }
+    ensures { λ r. ⌜ Is (now (m .exit)) (map-row i (cell (now (m .entry)))) ⌝ }
+{
+    let kept = kept_at(m, i);
+    bitmap::put(m, store::ORDER_MAP, i, kept % 2);
+}
+
+// The map is made anew.
+pub fn remap(m: &mut [u8])
+    requires { ⌜ Holds (now m) ⌝ }
+    ensures { λ r. ⌜ Is (now (m .exit)) (remap (cell (now (m .entry)))) ⌝ }
+{
+    let mut i: usize = 0;
+    while i < ROOM as usize {
+        map_row(m, i);
+        i += 1;
+    }
+}
+
+// The word g of a map whose first n bits are 1.
+fn ones(n: usize, g: usize) -> u64
+    requires { ⌜ g < 32 ⌝ }
+    ensures { λ r. ⌜ r ≡ ones n g ⌝ }
+{
+    if n <= 64 * g {
+        return 0;
+    }
+    let k = n - 64 * g;
+    if k < 64 {
+        return (1 << k) - 1;
+    }
+    u64::MAX
+}
+
+// The map of a table whose first n rows are kept, and no others in use.
+fn map_words(m: &mut [u8], n: usize)
+    requires { ⌜ Holds (now m) ⌝ }
+    ensures { λ r. ⌜ Is (now (m .exit)) (map-words 32 n (cell (now (m .entry)))) ⌝ }
+{
+    let mut g: usize = 0;
+    while g < 32 {
+        store::set(m, store::ORDER_MAP, g, MAP_BITS, ones(n, g));
+        g += 1;
+    }
+}
+
 // The tombstones are squeezed out.
 fn squeeze(m: &mut [u8])
     requires { ⌜ Ready (now m) × Sorted (cell (now m)) ⌝ }
@@ -352,6 +383,7 @@ fn squeeze(m: &mut [u8])
     let w = table::compact(m, store::ORDERS_AT, STRIDE, 8 * ORDER_KEPT, n as usize);
     store::set(m, store::HEADER, 0, ORDER_ROWS, w as u64);
     hint_rows(m, w);
+    map_words(m, w);
 }
 
 // Room for one row more, where not all rows are kept.
@@ -374,14 +406,70 @@ pub fn place_of(m: &[u8], number: u64) -> usize
     table::lower_bound(m, store::ORDERS_AT, STRIDE, n as usize, number)
 }
 
-// A tombstone at i, so that an order that the table does not have can rest there: the rows from i on move one place up.
-pub fn open_row(m: &mut [u8], i: usize, number: u64)
-    requires { ⌜ Ready (now m) × (word (cell (now m)) C.order-rows < order-room) × (i ≤ word (cell (now m)) C.order-rows) ⌝ }
-    ensures { λ r. ⌜ Is (now (m .exit)) (open-row i number (cell (now (m .entry)))) ⌝ }
+// The nearest tombstone to the row i, or the row behind those in use; 2,048 where there is none.
+pub fn tombstone(m: &[u8], i: usize) -> usize
+    requires { ⌜ Holds (now m) × (i ≤ order-room) ⌝ }
+    ensures { λ r. ⌜ Nearest C.order-map (cell (now (m .entry))) order-room i r ⌝ }
+{
+    bitmap::nearest(m, store::ORDER_MAP, ROOM as usize, i)
+}
+
+// Where a new row is to stand that i rows are below: one place lower where the tombstone d, which it takes, is one of them.
+pub fn new_place(d: usize, i: usize) -> usize
+    ensures { λ r. ⌜ r ≡ new-place d i ⌝ }
+{
+    if d < i { i - 1 } else { i }
+}
+
+// The rows between the tombstone d and the place p move one place, over d. The row p is still to be written.
+fn make_way(m: &mut [u8], d: usize, p: usize)
+    requires { ⌜ Holds (now m) × (d < order-room) × (p < order-room) ⌝ }
+    ensures { λ r. ⌜ Holds (now (m .exit)) × MadeWay d p (cell (now (m .entry))) (cell (now (m .exit))) ⌝ }
+{
+    if d < p {
+        table::close_at(m, store::ORDERS_AT, STRIDE, p + 1, d);
+        return;
+    }
+    table::open_at(m, store::ORDERS_AT, STRIDE, d, p);
+}
+
+// How many rows are in use with the row d, which is one of n in use or the one behind them.
+fn rows_with(d: usize, n: u64) -> u64
+    requires { ⌜ d < order-room ⌝ }
+    ensures { λ r. ⌜ r ≡ rows-with d n ⌝ }
+{
+    if (d as u64) < n { n } else { d as u64 + 1 }
+}
+
+// A row of zeros, but for its number.
+fn put_tombstone(m: &mut [u8], p: usize, number: u64)
+    requires { ⌜ Holds (now m) × (p < order-room) ⌝ }
+    ensures { λ r. ⌜ Is (now (m .exit)) (fill C.orders p C.order-number (tombstone number) (cell (now (m .entry)))) ⌝ }
+{
+    set_four(m, p, ORDER_NUMBER, number, 0, 0, 0);
+    set_four(m, p, ORDER_ACCOUNT, 0, 0, 0, 0);
+    set_four(m, p, ORDER_PRICE, 0, 0, 0, 0);
+    set_four(m, p, ORDER_REST_PRICE, 0, 0, 0, 0);
+}
+
+// A kept row has moved to d, and p has the new tombstone. Where d is p, its bit stays 0.
+fn swap_bits(m: &mut [u8], d: usize, p: usize)
+    requires { ⌜ Holds (now m) × (d < order-room) × (p < order-room) ⌝ }
+    ensures { λ r. ⌜ Is (now (m .exit)) (set-bit p 0 (set-bit d 1 (cell (now (m .entry))))) ⌝ }
+{
+    bitmap::put(m, store::ORDER_MAP, d, 1);
+    bitmap::put(m, store::ORDER_MAP, p, 0);
+}
+
+// A tombstone of that number at p for the tombstone d, so that an order that the table does not have can rest there.
+pub fn open_row(m: &mut [u8], d: usize, p: usize, number: u64)
+    requires { ⌜ Ready (now m) × (d < order-room) × (p < order-room) ⌝ }
+    ensures { λ r. ⌜ Is (now (m .exit)) (open-row d p number (cell (now (m .entry)))) ⌝ }
 {
     let n = store::get(m, store::HEADER, 0, ORDER_ROWS);
-    table::open_at(m, store::ORDERS_AT, STRIDE, n as usize, i);
-    set_four(m, i, ORDER_NUMBER, number, 0, 0, 0);
-    store::set(m, store::HEADER, 0, ORDER_ROWS, n + 1);
-    set_hint(m, number, i as u64);
+    make_way(m, d, p);
+    put_tombstone(m, p, number);
+    store::set(m, store::HEADER, 0, ORDER_ROWS, rows_with(d, n));
+    swap_bits(m, d, p);
+    set_hint(m, number, p as u64);
 }

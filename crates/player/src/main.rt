@@ -68,7 +68,7 @@ fn play_all(fd: i32, m: &mut [u8], s: &mut [u8])
 }
 
 // An empty start comes first, so that there are states whatever the file has.
-fn run(fd: i32, m: &mut [u8; 467208], s: &mut [u8; 467208]) {
+fn run(fd: i32, m: &mut [u8; 467592], s: &mut [u8; 467592]) {
     replaying::begin(m);
     replaying::begin(s);
     play_all(fd, m, s);
@@ -81,8 +81,8 @@ fn main() {
         os::fail(path);
         return;
     }
-    let mut m = [0u8; 467208];
-    let mut s = [0u8; 467208];
+    let mut m = [0u8; 467592];
+    let mut s = [0u8; 467592];
     run(fd, &mut m, &mut s);
     libc::close(fd);
 }

@@ -2,19 +2,24 @@
 use Prim.Native.Nat.{ℕ}
 use mathlib.Core.Path.{_≡_}
 use mathlib.Core.Bool.{Bool, true}
-use mathlib.Core.List.{[], _∷_}
+use mathlib.Core.List.{List, [], _∷_}
 use lib.Dec.{leb}
 use lib.IntN.{ℤ}
 use Rattle.orderbook.specs.declared.Side.{Side}
 use Rattle.orderbook.specs.declared.Event.{Event}
 use Rattle.orderbook.specs.declared.Event.the-variants.{Rested}
 use Rattle.gateway.specs.Limits.{out-of-range, sequence, outside, inconsistent}
-use Rattle.gateway.specs.Ledger.{changes, change}
+use Rattle.table.specs.declared.Found.{Found}
+use Rattle.gateway.specs.Ledger.{number-of, changes, change}
 use Rattle.gateway.specs.Core as Core
 use Rattle.gateway.specs.Core.{owner-limit, in-flight, drop-below, first-places, names-below, numbers-agree}
 use Rattle.gateway.specs.Rest.{no-session}
 use Rattle.gateway.specs.Fits.{EventFits}
 use Rattle.gateway.specs.Calls.{Gateway}
+use Rattle.store.specs.Cells as C
+use Rattle.store.specs.Layout.{cell}
+use Rattle.store.specs.View.{order}
+use Rattle.orders.specs.Orders.{Sees}
 use Rattle.live.specs.Live.{with-ledger}
 use Rattle.delivery.specs.Delivery.{landed}
 use Rattle.holds.specs.declared.Move.{Move}
@@ -68,3 +73,11 @@ settled d g = with-ledger (change (change-of (d .maker) (Trades.maker-fill d))) 
 
 abbrev pub dealt : ℕ → Deal → Bool → Gateway → Gateway
 dealt n d both g = landed n (Trades.marked both (d .price) (settled d g))
+
+-- ---- what is asked
+
+-- a trade's orders are two, and where they are
+pub record Stand (d : Deal) (taker maker : Found) (xs : List ℕ) : Type 0 where
+  pub two : (d .taker ≡ d .maker → ⊥)
+  pub taker-lives : Sees C.order-live order number-of (cell xs) (d .taker) taker
+  pub maker-lives : Sees C.order-live order number-of (cell xs) (d .maker) maker

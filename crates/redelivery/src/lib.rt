@@ -136,9 +136,9 @@ fn judge_trade(m: &[u8], n: u64, d: Deal, taker: Shift, maker: Shift) -> u64
     judge(m, n, true, numbers, fits)
 }
 
-// The taker, which is at `at`, before the maker.
-fn settle(m: &mut [u8], d: Deal, at: Found)
-    requires { ⌜ State (now m) × Sees C.order-live order number-of (cell (now m)) (d .taker) at ⌝ }
+// The taker, which is at `at`, before the maker, which its fill leaves where it is.
+fn settle(m: &mut [u8], d: Deal, at: Found, maker_at: Found)
+    requires { ⌜ State (now m) × P.Stand d at «maker_at» (now m) ⌝ }
     ensures { λ r. ⌜ Becomes (now (m .exit)) (P.settled d (gateway (cell (now (m .entry))))) ⌝ }
 {
     holds::change(
@@ -151,7 +151,6 @@ fn settle(m: &mut [u8], d: Deal, at: Found)
             leaves: d.taker_leaves,
         },
     );
-    let maker_at = orders::find_live(m, d.maker);
     holds::change(
         m,
         d.maker,
@@ -164,11 +163,11 @@ fn settle(m: &mut [u8], d: Deal, at: Found)
     );
 }
 
-fn apply_trade(m: &mut [u8], n: u64, d: Deal, at: Found, both: bool)
-    requires { ⌜ State (now m) × Sees C.order-live order number-of (cell (now m)) (d .taker) at × (in-flight n (gateway (cell (now m)) .core) ≡ true) ⌝ }
+fn apply_trade(m: &mut [u8], n: u64, d: Deal, at: Found, maker_at: Found, both: bool)
+    requires { ⌜ State (now m) × P.Stand d at «maker_at» (now m) × (in-flight n (gateway (cell (now m)) .core) ≡ true) ⌝ }
     ensures { λ r. ⌜ Becomes (now (m .exit)) (P.dealt n d both (gateway (cell (now (m .entry))))) ⌝ }
 {
-    settle(m, d, at);
+    settle(m, d, at, maker_at);
     trades::mark(m, both, d.price);
     delivery::land(m, n);
 }
@@ -203,7 +202,7 @@ fn deal(m: &mut [u8], n: u64, d: Deal) -> u64
     if code != 0 {
         return code;
     }
-    apply_trade(m, n, d, at, taker.funded & maker.funded);
+    apply_trade(m, n, d, at, maker_at, taker.funded & maker.funded);
     0
 }
 

@@ -6,6 +6,7 @@ use mathlib.Core.Option.{none}
 use Prim.Native.Nat.{ℕ, _+_, _-_, _^_, _<_}
 use native.Mathlib.Omega.{arith}
 use borrow.Author.Tests.{ne-eqb}
+use Rattle.orderbook.specs.declared.Side.the-variants.{Buy, Sell}
 use Rattle.accounts.specs.declared.Account.{Account}
 use Rattle.accounts.specs.declared.MaybeFunds as F
 use Rattle.risk.specs.declared.Bucket.{Bucket}
@@ -26,7 +27,7 @@ use Rattle.clients.proofs.Rows.{write-cell, spares, cells-spare, cells-block}
 use Rattle.clients.proofs.Links.{linked-money, linked-bucket, linked-add-account, linked-connect, linked-cell, linked-log-in, linked-forget}
 use Rattle.clients.proofs.Limits.{limited-money, limited-bucket, limited-add-account, limited-connect, limited-session, limited-log-in, limited-forget}
 use Rattle.sound.specs.Sound.{Clients, Sound}
-use Rattle.sound.proofs.Kept.{sided, level-counts, caches, sound-beside}
+use Rattle.sound.proofs.Kept.{sided, outline, maps-same, caches, sound-beside}
 
 -- t is s but for accounts and sessions
 abbrev pub Elsewhere : Store → Store → Type 0
@@ -47,8 +48,10 @@ module _ {s t : Store} (e : Elsewhere s t) (d : Sound s) where
               live-are = words C.live-orders;
               resting-are = words C.resting-orders;
               cells = λ j k l m. e C.orders j k (λ q. omega arith) (λ q. omega arith);
+              map-is = λ j l. e C.order-map j C.map-bits (λ q. omega arith) (λ q. omega arith);
             };
-        sizes = sided (λ z. level-counts z t ≡ level-counts z s) (λ i. (words C.bid-rows i, words C.bid-levels i)) (λ i. (words C.ask-rows i, words C.ask-levels i));
+        sizes = sided (λ z. outline z t ≡ outline z s) (λ i. (words C.bid-rows i, words C.bid-levels i, maps-same s t Buy (λ j l. e C.bid-map j C.map-bits (λ q. omega arith) (λ q. omega arith)) i))
+            (λ i. (words C.ask-rows i, words C.ask-levels i, maps-same s t Sell (λ j l. e C.ask-map j C.map-bits (λ q. omega arith) (λ q. omega arith)) i));
         levels-are =
             sided (λ z. (j : ℕ) → j < used z s → row z t j ≡ row z s j)
             (λ j l i. record { key = bid j C.level-price i; qty = bid j C.level-qty i; orders = bid j C.level-orders i })

@@ -1,34 +1,41 @@
 -- What leaves a part of the state alone keeps the part of the invariant that speaks of it. Assumes nothing.
 use mathlib.Core.Path.{_≡_, refl, sym, ap, _∙_}
 use mathlib.Core.List.{List}
-use Prim.Native.Nat.{ℕ, _≤_, _<_}
+use mathlib.Core.Logic.{inl}
+use Prim.Native.Nat.{ℕ, _/_, _≤_, _<_}
 use native.Mathlib.Omega.{arith}
-use lib.ListN.{length}
+use lib.ListN.{length, getD}
 use Rattle.orderbook.specs.declared.Side.{Side}
 use Rattle.orderbook.specs.declared.Side.the-variants.{Buy, Sell}
 use Rattle.words.specs.Words.{wrap}
+use Rattle.table.specs.declared.Found.{Found}
 use Rattle.table.proofs.Live.{live-ext, ascends-ext}
 use Rattle.gateway.specs.Limits.{owner-slots, session-slots, most-levels}
-use Rattle.gateway.specs.Ledger.{order-hold, held, open-of}
+use Rattle.gateway.specs.Basics.{is-some}
+use Rattle.gateway.specs.Ledger.{number-of, find, order-hold, held, open-of}
 use Rattle.gateway.specs.Depth as Depth
 use Rattle.gateway.specs.Calls.{Gateway}
 use Rattle.store.specs.Cells as C
 use Rattle.store.specs.Layout.{cell}
 use Rattle.gateway.specs.Rest.{account-of}
-use Rattle.store.specs.View.{Row, Store, Same, Is, Bounds, word, write, session, depth, gateway}
+use Rattle.store.specs.View.{Row, Store, Same, Is, Bounds, word, write, listed, session, order, resting, ledger, depth, gateway}
 use Rattle.store.proofs.Places.{header-cell, account-cell, session-cell, command-cell, changed-cell, top-cell}
 use Rattle.store.proofs.Rows.{put-cell, row-unread}
+use Rattle.store.proofs.Listed.{listed-ext, listed-at}
 use Rattle.pending.specs.Pending.{Chained}
 use Rattle.pending.proofs.Chain.{chained-kept}
 use Rattle.clients.proofs.Links.{two-cells, linked-ext}
 use Rattle.clients.proofs.Limits.{limited-ext}
 use Rattle.store.proofs.Frames.{Agree, order-same, gateway-same}
 use Rattle.orders.proofs.Views.{Keeps, live-kept, resting-kept, ordered-kept, same-keeps, bounds-same}
-use Rattle.orders.specs.Orders.{Ordered, make-room}
+use Rattle.orders.specs.Orders.{Ordered, Sorted, Sees, Stays, make-room}
+use Rattle.orders.proofs.Kept.{stays-bytes, still-live, still-resting}
 use Rattle.orders.proofs.Room.{make-room-other}
-use Rattle.levels.specs.Levels.{block, used-cell, size-cell, key, orders, row, used, size, entries, best}
-use Rattle.levels.proofs.Laws.{used-place, size-place, block-cell}
-use Rattle.sound.specs.Sound.{Stored, held-cell, Held, Levels, Clients, Tables, Sound, Becomes}
+use Rattle.levels.specs.Levels.{block, map-block, used-cell, size-cell, key, orders, row, used, size, bits, entries, best}
+use Rattle.levels.proofs.Laws.{used-place, size-place, block-cell, map-row, levels-alike}
+use Rattle.bitmap.proofs.Laws.{same-bit}
+use Rattle.bitmap.proofs.Mapped.{mapped-ext}
+use Rattle.sound.specs.Sound.{Stored, held-cell, Held, Levels, Clients, Tables, Sound, State, Becomes, InPlace}
 
 -- for each side
 pub sided : (P : Side → Type 0) → P Buy → P Sell → (z : Side) → P z
@@ -68,11 +75,22 @@ numbered-kept e w h j l = let m = rw (e .rows-are) at l in rw (e .cells j C.orde
 
 -- ---- the levels
 
--- how many rows are in use, and how many levels there are
-abbrev pub level-counts : Side → Store → ℕ × ℕ
-level-counts z s = (used z s, size z s)
+-- how many rows are in use, how many levels there are, and the cells of the map
+abbrev pub map-cells : Side → Store → List ℕ
+map-cells z s = listed (λ j. s (map-block z) j C.map-bits) 8
 
-pub levels-kept : {s t : Store} (z : Side) → level-counts z t ≡ level-counts z s → ((j : ℕ) → j < used z s → row z t j ≡ row z s j) → depth t .resting ≡ depth s .resting → Levels z s → Levels z t
+abbrev pub outline : Side → Store → ℕ × ℕ × List ℕ
+outline z s = (used z s, size z s, map-cells z s)
+
+pub maps-same : (s t : Store) (z : Side) → ((j : ℕ) → j < 8 → t (map-block z) j C.map-bits ≡ s (map-block z) j C.map-bits) → map-cells z t ≡ map-cells z s
+maps-same s t z e = listed-ext (λ j. s (map-block z) j C.map-bits) (λ j. t (map-block z) j C.map-bits) 8 e
+
+pub bits-same : (s t : Store) (z : Side) → map-cells z t ≡ map-cells z s → (j : ℕ) → j < most-levels → bits z t j ≡ bits z s j
+bits-same s t z e j h =
+    same-bit (map-block z) t s j
+    (sym (listed-at (λ i. t (map-block z) i C.map-bits) 8 (j / 64) 0 (omega arith)) ∙ ap (λ l. getD l (j / 64) 0) e ∙ listed-at (λ i. s (map-block z) i C.map-bits) 8 (j / 64) 0 (omega arith))
+
+pub levels-kept : {s t : Store} (z : Side) → outline z t ≡ outline z s → ((j : ℕ) → j < used z s → row z t j ≡ row z s j) → depth t .resting ≡ depth s .resting → Levels z s → Levels z t
 unfolding entries
 levels-kept {s} {t} z n r e d =
     let rows : used z t ≡ used z s = ap (λ x. x .0) n in
@@ -81,6 +99,7 @@ levels-kept {s} {t} z n r e d =
       rising = rw rows (ascends-ext key (row z s) (row z t) (used z s) (λ j h. ap key (r j h)) (d .rising));
       are = ap (best z) list ∙ d .are ∙ sym (ap (Depth.levels z) e);
       counted = ap (λ x. x .1) n ∙ d .counted ∙ sym (ap length list);
+      mapped = rw rows (mapped-ext (map-block z) most-levels s t (bits-same s t z (ap (λ x. x .2) n)) (λ j h. levels-alike (row z s) (row z t) (used z s) j (λ l. inl (ap orders (r j l)))) (d .mapped));
     }
 
 -- ---- accounts, sessions and the batch
@@ -106,28 +125,28 @@ clients-write a k v s h = clients-kept (λ i l. refl) (λ b l. row-unread C.acco
 -- they are elsewhere where the table of orders is squeezed
 pub clients-room : (s : Store) → Ordered s → Clients s → Clients (make-room s)
 clients-room s o =
-    clients-kept (λ i l. ap (λ (r : Row). account-of (session r)) (λ z k. at C.sessions i k (λ e. omega arith) (λ e. omega arith) (λ e f. omega arith) z))
+    clients-kept (λ i l. ap (λ (r : Row). account-of (session r)) (λ z k. at C.sessions i k (λ e. omega arith) (λ e. omega arith) (λ e. omega arith) (λ e f. omega arith) z))
     (λ a l z. (account a C.account-session z, account a C.account-max-open z, account a C.account-rate z))
-    (at C.header 0 C.waiting (λ e. omega arith) (λ e. omega arith) (λ e f. omega arith))
-    (λ j l. at C.batch j C.command-owner (λ e. omega arith) (λ e. omega arith) (λ e f. omega arith))
+    (at C.header 0 C.waiting (λ e. omega arith) (λ e. omega arith) (λ e. omega arith) (λ e f. omega arith))
+    (λ j l. at C.batch j C.command-owner (λ e. omega arith) (λ e. omega arith) (λ e. omega arith) (λ e f. omega arith))
   where
-    at : (b i k : ℕ) → (b ≡ C.orders → ⊥) → (b ≡ C.hints → ⊥) → (b ≡ C.header → k ≡ C.order-rows → ⊥) → make-room s b i k ≡ s b i k
+    at : (b i k : ℕ) → (b ≡ C.orders → ⊥) → (b ≡ C.hints → ⊥) → (b ≡ C.order-map → ⊥) → (b ≡ C.header → k ≡ C.order-rows → ⊥) → make-room s b i k ≡ s b i k
     at = make-room-other s o
 
     account : (a k : ℕ) → make-room s C.accounts a k ≡ s C.accounts a k
-    account a k = at C.accounts a k (λ e. omega arith) (λ e. omega arith) (λ e f. omega arith)
+    account a k = at C.accounts a k (λ e. omega arith) (λ e. omega arith) (λ e. omega arith) (λ e f. omega arith)
 
 pub chained-room : (s : Store) → Ordered s → Chained s → Chained (make-room s)
 chained-room s o =
-    chained-kept s (make-room s) (make-room-other s o C.header 0 C.changed-rows (λ e. omega arith) (λ e. omega arith) (λ e f. omega arith))
-    (λ j k l m. make-room-other s o C.changed j k (λ e. omega arith) (λ e. omega arith) (λ e f. omega arith))
-    (λ k l. make-room-other s o C.tops k C.top-row (λ e. omega arith) (λ e. omega arith) (λ e f. omega arith))
+    chained-kept s (make-room s) (make-room-other s o C.header 0 C.changed-rows (λ e. omega arith) (λ e. omega arith) (λ e. omega arith) (λ e f. omega arith))
+    (λ j k l m. make-room-other s o C.changed j k (λ e. omega arith) (λ e. omega arith) (λ e. omega arith) (λ e f. omega arith))
+    (λ k l. make-room-other s o C.tops k C.top-row (λ e. omega arith) (λ e. omega arith) (λ e. omega arith) (λ e f. omega arith))
 
 -- ---- what changes neither orders nor levels
 
 pub record Beside (s t : Store) : Type 0 where
   pub keeps : Keeps s t
-  pub sizes : (z : Side) → level-counts z t ≡ level-counts z s
+  pub sizes : (z : Side) → outline z t ≡ outline z s
   pub levels-are : (z : Side) (j : ℕ) → j < used z s → row z t j ≡ row z s j
 
 -- the words that may grow: in bounds, and the last number; and the chains of changed levels
@@ -163,9 +182,14 @@ module _ (s t : Store) (e : Same s t) (d : Sound s) where
   word-same : (k : ℕ) → k < 32 → word t k ≡ word s k
   word-same k l = sym (e C.header 0 k (header-cell k l))
 
-  size-same : (z : Side) → level-counts z t ≡ level-counts z s
+  size-same : (z : Side) → outline z t ≡ outline z s
   unfolding used size
-  size-same z = λ i. (sym (e C.header 0 (used-cell z) (used-place z)) i, sym (e C.header 0 (size-cell z) (size-place z)) i)
+  size-same z =
+      λ i. (
+        sym (e C.header 0 (used-cell z) (used-place z)) i,
+        sym (e C.header 0 (size-cell z) (size-place z)) i,
+        maps-same s t z (λ j l. sym (e (map-block z) j C.map-bits (map-row z j l))) i,
+      )
 
   few : (z : Side) → used z s ≤ most-levels
   unfolding used
@@ -224,3 +248,19 @@ becomes {ys} {s} h d e =
       state = record { holds = h .holds; sound = sound-same s (cell ys) q d };
       gateway-is = sym (gateway-same s (cell ys) (d .tables .ordered .bounds) q) ∙ e;
     }
+
+-- and that moves no row of orders
+pub in-place : {xs ys : List ℕ} {t : Store} {g : Gateway} → State xs → Is ys t → Sound t → gateway t ≡ g → Stays (cell xs) t → InPlace xs ys g
+in-place st h d e q = record { becomes = becomes h d e; stays = stays-bytes (st .sound .tables .ordered .bounds) q h }
+
+-- ---- a place survives where no row moves: the order is there as before
+module _ {xs ys : List ℕ} {g : Gateway} (b : InPlace xs ys g) (n : ℕ) (at : Found) where
+  sorted : Sorted (cell ys)
+  sorted = b .becomes .state .sound .tables .ordered .sorted
+
+  pub seen-live : is-some (find n (g .core .ledger .orders)) ≡ is-some (find n (ledger (cell xs) .orders)) → Sees C.order-live order number-of (cell xs) n at → Sees C.order-live order number-of (cell ys) n at
+  seen-live e = still-live n at (b .stays) sorted (ap (λ (h : Gateway). is-some (find n (h .core .ledger .orders))) (b .becomes .gateway-is) ∙ e)
+
+  pub seen-resting : is-some (Depth.find-resting n (g .rest .depth .resting)) ≡ is-some (Depth.find-resting n (depth (cell xs) .resting)) →
+      Sees C.order-resting resting Depth.resting-number (cell xs) n at → Sees C.order-resting resting Depth.resting-number (cell ys) n at
+  seen-resting e = still-resting n at (b .stays) sorted (ap (λ (h : Gateway). is-some (Depth.find-resting n (h .rest .depth .resting))) (b .becomes .gateway-is) ∙ e)

@@ -27,6 +27,7 @@ side-table {xs} s z =
       few = sided (λ z. used z (cell xs) ≤ most-levels) (s .sound .tables .ordered .bounds .bids-fit) (s .sound .tables .ordered .bounds .asks-fit) z;
       asc = t .rising;
       counted = t .counted;
+      mapped = t .mapped;
     }
 
 module _ {s : Store} (d : Sound s) (z : Side) where

@@ -2,6 +2,7 @@
 use mathlib.Core.Path.{_≡_, refl, ap}
 use Prim.Native.Nat.{ℕ, _+_, _-_, _≤_, _<_}
 use native.Mathlib.Omega.{arith}
+use Rattle.orderbook.specs.declared.Side.the-variants.{Buy, Sell}
 use Rattle.orderbook.specs.declared.Command.{Command}
 use Rattle.gateway.specs.Limits.{most-notices, most-trades, most-in-flight, most-in-batch, most-changed}
 use Rattle.gateway.specs.Rest.{account-of}
@@ -15,15 +16,18 @@ use Rattle.pending.specs.Pending as P
 use Rattle.pending.proofs.Commands.{batch-fits}
 use Rattle.pending.proofs.Chain.{chains, chained-kept, chained-same, chained-none, chained-pushed, forgotten}
 use Rattle.sound.specs.Sound.{Clients, Sound}
-use Rattle.sound.proofs.Kept.{sided, level-counts, Grown, sound-beside}
+use Rattle.sound.proofs.Kept.{sided, outline, maps-same, Grown, sound-beside}
 
 -- accounts, sessions, orders and levels are those of s
 pub record Untouched (s t : Store) : Type 0 where
   pub accounts : (i k : ℕ) → t C.accounts i k ≡ s C.accounts i k
   pub sessions : (i k : ℕ) → t C.sessions i k ≡ s C.sessions i k
   pub orders : (i k : ℕ) → t C.orders i k ≡ s C.orders i k
+  pub order-map : (i k : ℕ) → t C.order-map i k ≡ s C.order-map i k
   pub bids : (i k : ℕ) → t C.bids i k ≡ s C.bids i k
   pub asks : (i k : ℕ) → t C.asks i k ≡ s C.asks i k
+  pub bid-map : (i k : ℕ) → t C.bid-map i k ≡ s C.bid-map i k
+  pub ask-map : (i k : ℕ) → t C.ask-map i k ≡ s C.ask-map i k
   pub rows-are : word t C.order-rows ≡ word s C.order-rows
   pub live-are : word t C.live-orders ≡ word s C.live-orders
   pub resting-are : word t C.resting-orders ≡ word s C.resting-orders
@@ -46,8 +50,9 @@ module _ {s t : Store} (e : Untouched s t) (g : Grown s t) (f : P.BatchFits t) w
   sound-untouched =
       sound-beside
       (record {
-        keeps = record { rows-are = e .rows-are; live-are = e .live-are; resting-are = e .resting-are; cells = λ j k l m. e .orders j k };
-        sizes = sided (λ z. level-counts z t ≡ level-counts z s) (λ i. (e .bid-rows-are i, e .bid-levels-are i)) (λ i. (e .ask-rows-are i, e .ask-levels-are i));
+        keeps = record { rows-are = e .rows-are; live-are = e .live-are; resting-are = e .resting-are; cells = λ j k l m. e .orders j k; map-is = λ j l. e .order-map j C.map-bits };
+        sizes = sided (λ z. outline z t ≡ outline z s) (λ i. (e .bid-rows-are i, e .bid-levels-are i, maps-same s t Buy (λ j l. e .bid-map j C.map-bits) i))
+            (λ i. (e .ask-rows-are i, e .ask-levels-are i, maps-same s t Sell (λ j l. e .ask-map j C.map-bits) i));
         levels-are =
             sided (λ z. (j : ℕ) → j < used z s → row z t j ≡ row z s j)
             (λ j l i. record { key = e .bids j C.level-price i; qty = e .bids j C.level-qty i; orders = e .bids j C.level-orders i })
@@ -104,8 +109,11 @@ module _ (s : Store) (d : Sound s) where
         accounts = λ i k. at C.accounts i k (λ e. omega arith);
         sessions = λ i k. at C.sessions i k (λ e. omega arith);
         orders = λ i k. at C.orders i k (λ e. omega arith);
+        order-map = λ i k. at C.order-map i k (λ e. omega arith);
         bids = λ i k. at C.bids i k (λ e. omega arith);
         asks = λ i k. at C.asks i k (λ e. omega arith);
+        bid-map = λ i k. at C.bid-map i k (λ e. omega arith);
+        ask-map = λ i k. at C.ask-map i k (λ e. omega arith);
         rows-are = words C.order-rows;
         live-are = words C.live-orders;
         resting-are = words C.resting-orders;

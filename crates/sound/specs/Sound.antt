@@ -7,7 +7,7 @@ use Rattle.orderbook.specs.declared.Side.{Side}
 use Rattle.orderbook.specs.declared.Side.the-variants.{Buy, Sell}
 use Rattle.words.specs.Words.{int, wrap}
 use Rattle.table.specs.Live.{Ascends}
-use Rattle.gateway.specs.Limits.{owner-slots, most-orders}
+use Rattle.gateway.specs.Limits.{owner-slots, most-orders, most-levels}
 use Rattle.gateway.specs.Ledger.{order-hold, held, open-of}
 use Rattle.gateway.specs.Depth as Depth
 use Rattle.gateway.specs.Calls.{Gateway}
@@ -16,8 +16,9 @@ use Rattle.store.specs.Layout.{cell, Holds}
 use Rattle.store.specs.View.{Row, Store, word, order, ledger, depth, gateway}
 use Rattle.pending.specs.Pending.{BatchFits, Chained}
 use Rattle.clients.specs.Clients.{Limited, Linked}
-use Rattle.orders.specs.Orders.{Ordered}
-use Rattle.levels.specs.Levels.{key, row, used, size, entries, best}
+use Rattle.orders.specs.Orders.{Ordered, Stays}
+use Rattle.bitmap.specs.Bitmap.{Mapped}
+use Rattle.levels.specs.Levels.{key, map-block, row, used, size, is-level, entries, best}
 
 -- ---- what is counted from the live orders
 
@@ -37,11 +38,12 @@ pub record Held (s : Store) : Type 0 where
   pub totals : (a : ℕ) → a < owner-slots → (z : Side) → s C.accounts a (held-cell z) ≡ wrap (held a z (ledger s .orders))
   pub counts : (a : ℕ) → a < owner-slots → s C.accounts a C.account-open-orders ≡ open-of a (ledger s .orders)
 
--- ---- what is counted from the resting orders: each level's quantity and number of orders, and the number of levels
+-- ---- what is counted from the resting orders: each level's quantity and number of orders, and the number of levels; and which rows are levels
 pub record Levels (z : Side) (s : Store) : Type 0 where
   pub rising : Ascends key (row z s) (used z s)
   pub are : best z (entries z s) ≡ Depth.levels z (depth s .resting)
   pub counted : size z s ≡ length (entries z s)
+  pub mapped : Mapped (map-block z) most-levels s (is-level (row z s) (used z s))
 
 -- ---- accounts, sessions and the batch
 
@@ -79,3 +81,8 @@ pub record State (xs : List ℕ) : Type 0 where
 pub record Becomes (ys : List ℕ) (g : Gateway) : Type 0 where
   pub state : State ys
   pub gateway-is : gateway (cell ys) ≡ g
+
+-- and every row of orders stands where it stood in xs: what was found there is found at the same place
+pub record InPlace (xs ys : List ℕ) (g : Gateway) : Type 0 where
+  pub becomes : Becomes ys g
+  pub stays : Stays (cell xs) (cell ys)

@@ -1,12 +1,12 @@
 -- The state that begins is sound and holds the definitions' start; an account more is one more of the start's accounts. Assumes nothing.
 use mathlib.Core.Path.{_≡_, refl, sym, ap, _∙_}
-use mathlib.Core.Bool.{true}
+use mathlib.Core.Bool.{true, cond}
 use mathlib.Core.List.{List, [], _∷_, _++_}
 use mathlib.Core.Option.{Option, none, some}
 use Prim.Native.Nat.{ℕ, zero, suc, _+_, _^_, _≤_, _<_}
 use native.Mathlib.Nat.{not-suc-le-zero}
 use native.Mathlib.Omega.{arith}
-use borrow.Author.Tests.{le-leb}
+use borrow.Author.Tests.{le-leb, le-ltb}
 use lib.ListN.{length, set, replicate}
 use Rattle.accounts.specs.declared.Account.{Account}
 use Rattle.accounts.specs.declared.Funds.{Funds}
@@ -30,7 +30,9 @@ use Rattle.store.specs.View.{Store, word, fill, listed, gateway, zeros, Is}
 use Rattle.store.proofs.Places.{header-cell}
 use Rattle.store.proofs.Rows.{then-fill}
 use Rattle.table.specs.Live.{live}
+use Rattle.bitmap.proofs.Laws.{zeros-bit}
 use Rattle.levels.specs.Levels.{used, size, entries}
+use Rattle.levels.proofs.Laws.{no-levels}
 use Rattle.clients.specs.Clients as Clients
 use Rattle.clients.proofs.Rows.{cells-block}
 use Rattle.clients.proofs.Links.{linked-ext, linked-zeros}
@@ -105,9 +107,10 @@ module _ (limit last : ℕ) (t : Timing) (few : limit ≤ owner-slots) where
                     bounds = search arith;
                     sorted = record { ascends = λ i j h l. absurd (not-suc-le-zero l); flags = λ j l. absurd (not-suc-le-zero l) };
                     counted = record { live-count = refl; resting-count = refl };
+                    mapped = record { bits = λ j l. zeros-bit C.order-map s j refl ∙ sym (ap (λ b. cond b 0 0) (le-ltb j 0 (omega arith))) };
                   };
-              bids = record { rising = λ i j h l. absurd (not-suc-le-zero l); are = refl; counted = refl };
-              asks = record { rising = λ i j h l. absurd (not-suc-le-zero l); are = refl; counted = refl };
+              bids = record { rising = λ i j h l. absurd (not-suc-le-zero l); are = refl; counted = refl; mapped = no-levels Buy s (λ j l. zeros-bit C.bid-map s j refl) };
+              asks = record { rising = λ i j h l. absurd (not-suc-le-zero l); are = refl; counted = refl; mapped = no-levels Sell s (λ j l. zeros-bit C.ask-map s j refl) };
               live-few = omega arith;
               resting-few = omega arith;
               numbered = λ j l. absurd (not-suc-le-zero l);

@@ -17,14 +17,14 @@ ghost use lib.ListN.{length};
 ghost use Rattle.orderbook.specs.declared.Event.the-variants as Event;
 ghost use Rattle.gateway.specs.Depth as D;
 ghost use Rattle.gateway.specs.Ledger.{number-of};
-ghost use Rattle.gateway.specs.Limits.{session-slots, most-trades, most-notices};
+ghost use Rattle.gateway.specs.Limits.{session-slots, most-trades};
 ghost use Rattle.gateway.specs.Calls.{call, deliver-event};
 ghost use Rattle.gateway.specs.Fits.{EventFits};
 ghost use Rattle.store.specs.Cells as C;
 ghost use Rattle.store.specs.Layout.{cell};
 ghost use Rattle.store.specs.View.{order, resting, depth, gateway};
 ghost use Rattle.orders.specs.Orders.{Sees};
-ghost use Rattle.sound.specs.Sound.{State, Becomes};
+ghost use Rattle.sound.specs.Sound.{State, Becomes, InPlace};
 ghost use Rattle.mailbox.specs.Mailbox.{places};
 ghost use Rattle.outcome.specs.Between.{Between};
 ghost use Rattle.outcome.specs.Answers.{verdict, Gives};
@@ -152,20 +152,27 @@ fn judge(m: &[u8], n: u64, d: Deal, taker: Party, maker: Party, room: usize) -> 
 
 // ---- applied
 
-// The taker before the maker, which was at `maker_at`.
+// The taker before the maker, which its fill leaves where it is.
 fn settle(m: &mut [u8], d: Deal, at: Found, new: u64, maker_at: Found, maker_new: u64)
-    requires { ⌜ State (now m) × Sees C.order-live order number-of (cell (now m)) (d .taker) at × P.CanSettle d new «maker_new» (gateway (cell (now m))) ⌝ }
-    ensures { λ r. ⌜ Becomes (now (m .exit)) (P.settled d (gateway (cell (now (m .entry))))) ⌝ }
+    requires { ⌜ State (now m) × Sees C.order-live order number-of (cell (now m)) (d .taker) at × Sees C.order-live order number-of (cell (now m)) (d .maker) «maker_at» × P.CanSettle d new «maker_new» (gateway (cell (now m))) ⌝ }
+    ensures { λ r. ⌜ InPlace (now (m .entry)) (now (m .exit)) (P.settled d (gateway (cell (now (m .entry))))) ⌝ }
 {
     holds::fill(m, d.taker, at, new, d.price, d.qty, d.taker_leaves);
-    let again = orders::live_again(m, d.maker, maker_at);
-    holds::fill(m, d.maker, again, maker_new, d.price, d.qty, d.maker_leaves);
+    holds::fill(
+        m,
+        d.maker,
+        maker_at,
+        maker_new,
+        d.price,
+        d.qty,
+        d.maker_leaves,
+    );
 }
 
 // Paper accounts that trade with each other do not move the reference price.
 pub fn mark(m: &mut [u8], both: bool, price: u64)
     requires { ⌜ State (now m) ⌝ }
-    ensures { λ r. ⌜ Becomes (now (m .exit)) (P.marked both price (gateway (cell (now (m .entry))))) ⌝ }
+    ensures { λ r. ⌜ InPlace (now (m .entry)) (now (m .exit)) (P.marked both price (gateway (cell (now (m .entry))))) ⌝ }
 {
     if both {
         return;
@@ -307,9 +314,9 @@ fn weigh(m: &mut [u8], n: u64, d: Deal, at: Places, maker_at: Places, out: &mut 
 {
     let live = at.live;
     let maker_live = maker_at.live;
-    let new = holds::left(m, d.taker, live, d.taker_leaves);
+    let new = holds::left(m, d.taker, live, false, 0, d.taker_leaves);
     let shift = holds::weigh(m, d.taker, live, 1, new);
-    let maker_new = holds::left(m, d.maker, maker_live, d.maker_leaves);
+    let maker_new = holds::left(m, d.maker, maker_live, false, 0, d.maker_leaves);
     let maker_shift = holds::weigh(m, d.maker, maker_live, 1, maker_new);
     find_owners(m, n, d, at, shift, maker_at, maker_shift, out)
 }

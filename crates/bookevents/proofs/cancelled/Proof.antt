@@ -71,7 +71,7 @@ apply-cancelled-requires c κs =
     let h = o .before .before in
     let l = h .before .before in
     let s = l .before .before .before .before in
-    (s .pre .state, l .look .ensures .0, can-cancel (s .args .m .now) (s .args .out .now) (s .args .n) (s .args .id) (s .pre) _ _ (o .owner .ensures) _ _ (p .room .ensures) (by-weight _ _ _ _ _ _ _ _ (h .weigh .result) (o .owner .result) (f .fits2 .ensures) (w .few .ensures) (r .rows .ensures .0) (j .judge-changed .ensures)) (h .weigh .ensures Retire refl (λ o q. int-zero)) (i .if1 .left))
+    (s .pre .state, l .look .ensures .0, l .look .ensures .1, can-cancel (s .args .m .now) (s .args .out .now) (s .args .n) (s .args .id) (s .pre) _ _ (o .owner .ensures) _ _ (p .room .ensures) (by-weight _ _ _ _ _ _ _ _ (h .weigh .result) (o .owner .result) (f .fits2 .ensures) (w .few .ensures) (r .rows .ensures .0) (j .judge-changed .ensures)) (h .weigh .ensures Retire refl (λ o q. int-zero)) (i .if1 .left))
 
 report-requires : tie.Need-report-requires
 report-requires c κs =

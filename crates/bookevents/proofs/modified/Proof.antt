@@ -13,8 +13,8 @@ price-of-requires c κs = search needs
 look-requires : tie.Need-look-requires
 look-requires c κs = search needs
 
-repriced-requires : tie.Need-repriced-requires
-repriced-requires c κs = search needs
+left-requires : tie.Need-left-requires
+left-requires c κs = search needs
 
 weigh-requires : tie.Need-weigh-requires
 weigh-requires c κs = search needs
@@ -30,14 +30,14 @@ fits-requires c κs =
     let h = c .before .before .before .before in
     let n = h .before .before in
     let s = n .before .before .before .before .before .before .before in
-    (s .pre, (h .weigh .ensures (Reprice _ _) refl (n .repriced .ensures)) .owned)
+    (s .pre, (h .weigh .ensures (Reprice _ _) refl (n .left .ensures)) .owned)
 
 few-requires : tie.Need-few-requires
 few-requires c κs =
     let h = c .before .before .before .before .before .before in
     let n = h .before .before in
     let s = n .before .before .before .before .before .before .before in
-    (s .pre .state, weighed _ _ _ _ (h .weigh .ensures (Reprice _ _) refl (n .repriced .ensures)) .few)
+    (s .pre .state, weighed _ _ _ _ (h .weigh .ensures (Reprice _ _) refl (n .left .ensures)) .few)
 
 room-requires : tie.Need-room-requires
 room-requires c κs = search needs
@@ -67,7 +67,7 @@ returns c =
     let n = h .before .before in
     let d = n .before .before .before .before in
     let s = d .before .before .before in
-    modified-refused (s .args .m .now) (s .args .out .now) (s .args .n) (s .args .id) (s .pre) _ _ (o .owner .ensures) _ _ (p .room .ensures) (by-weight _ _ _ _ _ _ _ _ (h .weigh .result) (o .owner .result) (f .fits2 .ensures) (w .few .ensures) (r .rows .ensures .0) (j .judge-changed .ensures)) (s .args .price) (s .args .qty) _ _ (repriced-as (read {x = s .args .price} (s .fits .price .sfits)) (d .price-of .ensures)) (h .weigh .ensures (Reprice _ _) refl (n .repriced .ensures)) (i .if1 .taken)
+    modified-refused (s .args .m .now) (s .args .out .now) (s .args .n) (s .args .id) (s .pre) _ _ (o .owner .ensures) _ _ (p .room .ensures) (by-weight _ _ _ _ _ _ _ _ (h .weigh .result) (o .owner .result) (f .fits2 .ensures) (w .few .ensures) (r .rows .ensures .0) (j .judge-changed .ensures)) (s .args .price) (s .args .qty) _ _ (repriced-as (read {x = s .args .price} (s .fits .price .sfits)) (d .price-of .ensures)) (h .weigh .ensures (Reprice _ _) refl (n .left .ensures)) (i .if1 .taken)
 
 apply-modified-requires : tie.Need-apply-modified-requires
 apply-modified-requires c κs =
@@ -83,7 +83,7 @@ apply-modified-requires c κs =
     let l = n .before .before in
     let d = l .before .before in
     let s = d .before .before .before in
-    (s .pre .state, l .look .ensures .0, (h .weigh .ensures (Reprice _ _) refl (n .repriced .ensures)) .holds, can-modify (s .args .m .now) (s .args .out .now) (s .args .n) (s .args .id) (s .pre) _ _ (o .owner .ensures) _ _ (p .room .ensures) (by-weight _ _ _ _ _ _ _ _ (h .weigh .result) (o .owner .result) (f .fits2 .ensures) (w .few .ensures) (r .rows .ensures .0) (j .judge-changed .ensures)) (s .args .price) (s .args .qty) _ _ (repriced-as (read {x = s .args .price} (s .fits .price .sfits)) (d .price-of .ensures)) (h .weigh .ensures (Reprice _ _) refl (n .repriced .ensures)) (i .if1 .left))
+    (s .pre .state, l .look .ensures .0, l .look .ensures .1, (h .weigh .ensures (Reprice _ _) refl (n .left .ensures)) .holds, can-modify (s .args .m .now) (s .args .out .now) (s .args .n) (s .args .id) (s .pre) _ _ (o .owner .ensures) _ _ (p .room .ensures) (by-weight _ _ _ _ _ _ _ _ (h .weigh .result) (o .owner .result) (f .fits2 .ensures) (w .few .ensures) (r .rows .ensures .0) (j .judge-changed .ensures)) (s .args .price) (s .args .qty) _ _ (repriced-as (read {x = s .args .price} (s .fits .price .sfits)) (d .price-of .ensures)) (h .weigh .ensures (Reprice _ _) refl (n .left .ensures)) (i .if1 .left))
 
 report-requires : tie.Need-report-requires
 report-requires c κs =
@@ -99,7 +99,7 @@ report-requires c κs =
     let n = h .before .before in
     let d = n .before .before .before .before in
     let s = d .before .before .before in
-    (a .apply-modified .ensures .state, o .owner .ensures .slot, modify-room (s .args .m .now) (s .args .out .now) (s .args .n) (s .args .id) (s .pre) _ _ (o .owner .ensures) _ _ (p .room .ensures) (by-weight _ _ _ _ _ _ _ _ (h .weigh .result) (o .owner .result) (f .fits2 .ensures) (w .few .ensures) (r .rows .ensures .0) (j .judge-changed .ensures)) (s .args .price) (s .args .qty) _ _ (repriced-as (read {x = s .args .price} (s .fits .price .sfits)) (d .price-of .ensures)) (h .weigh .ensures (Reprice _ _) refl (n .repriced .ensures)) (i .if1 .left))
+    (a .apply-modified .ensures .state, o .owner .ensures .slot, modify-room (s .args .m .now) (s .args .out .now) (s .args .n) (s .args .id) (s .pre) _ _ (o .owner .ensures) _ _ (p .room .ensures) (by-weight _ _ _ _ _ _ _ _ (h .weigh .result) (o .owner .result) (f .fits2 .ensures) (w .few .ensures) (r .rows .ensures .0) (j .judge-changed .ensures)) (s .args .price) (s .args .qty) _ _ (repriced-as (read {x = s .args .price} (s .fits .price .sfits)) (d .price-of .ensures)) (h .weigh .ensures (Reprice _ _) refl (n .left .ensures)) (i .if1 .left))
 
 same-length-3 : tie.Need-same-length-3
 same-length-3 c = search needs
@@ -122,7 +122,7 @@ returns-2 c =
     let n = h .before .before in
     let d = n .before .before .before .before in
     let s = d .before .before .before in
-    modified-done (s .args .m .now) (s .args .out .now) (s .args .n) (s .args .id) (s .pre) _ _ (o .owner .ensures) _ _ (p .room .ensures) (by-weight _ _ _ _ _ _ _ _ (h .weigh .result) (o .owner .result) (f .fits2 .ensures) (w .few .ensures) (r .rows .ensures .0) (j .judge-changed .ensures)) (s .args .price) (s .args .qty) _ _ (repriced-as (read {x = s .args .price} (s .fits .price .sfits)) (d .price-of .ensures)) (h .weigh .ensures (Reprice _ _) refl (n .repriced .ensures)) _ _ (read {x = s .args .price} (s .fits .price .sfits)) (i .if1 .left) (r .rows .ensures .0) (a .apply-modified .ensures) (e .report .ensures)
+    modified-done (s .args .m .now) (s .args .out .now) (s .args .n) (s .args .id) (s .pre) _ _ (o .owner .ensures) _ _ (p .room .ensures) (by-weight _ _ _ _ _ _ _ _ (h .weigh .result) (o .owner .result) (f .fits2 .ensures) (w .few .ensures) (r .rows .ensures .0) (j .judge-changed .ensures)) (s .args .price) (s .args .qty) _ _ (repriced-as (read {x = s .args .price} (s .fits .price .sfits)) (d .price-of .ensures)) (h .weigh .ensures (Reprice _ _) refl (n .left .ensures)) _ _ (read {x = s .args .price} (s .fits .price .sfits)) (i .if1 .left) (r .rows .ensures .0) (a .apply-modified .ensures) (e .report .ensures)
 
 pub modified-spec : {M : Type 1} → statement M
 modified-spec =
@@ -130,7 +130,7 @@ modified-spec =
     (tie.spec
     price-of-requires
     look-requires
-    repriced-requires
+    left-requires
     weigh-requires
     owner-requires
     rows-requires

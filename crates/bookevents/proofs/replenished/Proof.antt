@@ -35,7 +35,8 @@ apply-replenished-requires c κs =
     let d = b .before in
     let e = d .before .before .before in
     let f = e .before .before .before .before .before .before in
-    (f .pre .state, can-reshow (f .args .m .now) (f .args .out .now) (f .args .n) (f .args .id) (f .args .visible) (f .pre) _ (e .owner .ensures) _ _ (d .room .ensures) (b .judge-replenished .ensures) (a .if1 .left))
+    let l = e .before .before in
+    (f .pre .state, l .look .ensures .1, can-reshow (f .args .m .now) (f .args .out .now) (f .args .n) (f .args .id) (f .args .visible) (f .pre) _ (e .owner .ensures) _ _ (d .room .ensures) (b .judge-replenished .ensures) (a .if1 .left))
 
 report-requires : tie.Need-report-requires
 report-requires c κs =

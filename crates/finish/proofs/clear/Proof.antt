@@ -30,6 +30,9 @@ slice-aggregate-fill-2 c = search needs
 fill-requires-2 : tie.Need-fill-requires-2
 fill-requires-2 c κs = search needs
 
+remake-maps-requires : tie.Need-remake-maps-requires
+remake-maps-requires c κs = search needs
+
 same-length : tie.Need-same-length
 same-length c = search needs
 
@@ -49,5 +52,6 @@ clear-spec =
     fill-requires
     slice-aggregate-fill-2
     fill-requires-2
+    remake-maps-requires
     same-length
     returns)

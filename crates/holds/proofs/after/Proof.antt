@@ -18,8 +18,8 @@ left-requires-2 c κs = search needs
 enum-known-x-3 : tie.Need-enum-known-x-3
 enum-known-x-3 c = search needs
 
-repriced-requires : tie.Need-repriced-requires
-repriced-requires c κs = search needs
+left-requires-3 : tie.Need-left-requires-3
+left-requires-3 c κs = search needs
 
 enum-told : tie.Need-enum-told
 enum-told c = search needs
@@ -45,7 +45,7 @@ after-spec =
     enum-known-x-2
     left-requires-2
     enum-known-x-3
-    repriced-requires
+    left-requires-3
     enum-told
     returns
     returns-2

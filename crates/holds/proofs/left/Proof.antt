@@ -9,6 +9,12 @@ enum-known-at c = search needs
 live-at-requires : tie.Need-live-at-requires
 live-at-requires c κs = search weighing
 
+choose-requires : tie.Need-choose-requires
+choose-requires c κs = search needs
+
+choose-requires-2 : tie.Need-choose-requires-2
+choose-requires-2 c κs = search needs
+
 hold-of-requires : tie.Need-hold-of-requires
 hold-of-requires c κs = search needs
 
@@ -24,4 +30,4 @@ returns-2 c = search weighing
 pub left-spec : {M : Type 1} → statement M
 left-spec =
     tie.close
-    (tie.spec enum-known-at live-at-requires hold-of-requires returns enum-told returns-2)
+    (tie.spec enum-known-at live-at-requires choose-requires choose-requires-2 hold-of-requires returns enum-told returns-2)

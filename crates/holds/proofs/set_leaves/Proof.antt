@@ -24,7 +24,7 @@ notice-hold-requires c κs =
     let l = t .before .before in
     let a = l .before .before .before in
     let s = a .before .before .before in
-    hold-needs _ (s .pre .0) _ (Leaves (s .args .leaves)) _ (s .pre .1) _ (a .at .given .1) _ (s .pre .2) _ (l .live-at .ensures) (s .pre .3) (t .set-leaves .ensures) (quiet (t .set-leaves .ensures .state))
+    hold-needs _ (s .pre .0) _ (Leaves (s .args .leaves)) _ (s .pre .1) _ (a .at .given .1) _ (s .pre .2) _ (l .live-at .ensures) (s .pre .3) (t .set-leaves .ensures) (quiet (t .set-leaves .ensures .becomes .state))
 
 enum-told : tie.Need-enum-told
 enum-told c = search needs
@@ -39,7 +39,7 @@ returns c =
     let l = t .before .before in
     let a = l .before .before .before in
     let s = a .before .before .before in
-    row-moved _ (s .pre .0) _ (Leaves (s .args .leaves)) _ (s .pre .1) _ (a .at .given .1) _ (s .pre .2) _ (l .live-at .ensures) (s .pre .3) (t .set-leaves .ensures) (quiet (t .set-leaves .ensures .state)) (h .notice-hold .ensures)
+    row-moved _ (s .pre .0) _ (Leaves (s .args .leaves)) _ (s .pre .1) _ (a .at .given .1) _ (s .pre .2) _ (l .live-at .ensures) (s .pre .3) (t .set-leaves .ensures) (quiet (t .set-leaves .ensures .becomes .state)) (h .notice-hold .ensures)
 
 returns-2 : tie.Need-returns-2
 returns-2 c = let s = c .before .before .before in nothing-moved _ (s .pre .0) _ (Leaves (s .args .leaves)) _ (s .pre .1) (c .enum-told .given .1)

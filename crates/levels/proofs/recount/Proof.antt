@@ -15,6 +15,12 @@ size-cell-requires c κs = search needs
 set-requires-2 : tie.Need-set-requires-2
 set-requires-2 c κs = search needs
 
+map-of-requires : tie.Need-map-of-requires
+map-of-requires c κs = search needs
+
+put-requires : tie.Need-put-requires
+put-requires c κs = search laws
+
 same-length : tie.Need-same-length
 same-length c = search needs
 
@@ -29,5 +35,7 @@ recount-spec =
     set-requires
     size-cell-requires
     set-requires-2
+    map-of-requires
+    put-requires
     same-length
     returns)

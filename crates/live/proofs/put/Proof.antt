@@ -48,7 +48,7 @@ returns c =
     let g = y .before .before in
     let h = g .before .before in
     let p = h .before .before .pre in
-    place-is _ _ _ _ _ _ (p .1 .owner-is) (h .hold-of .ensures) (g .get .ensures) (v .before .side-of .ensures) (y .make-room .ensures) (z .append .ensures) (u .set .ensures) (v .shift .ensures)
+    place-is _ _ _ _ _ _ (p .1 .owner-is) (h .hold-of .ensures) (g .get .ensures) (v .before .side-of .ensures) (place-room (p .0) _ _ (p .1) (y .make-room .ensures) .1) (y .make-room .ensures) (z .append .ensures) (u .set .ensures) (v .shift .ensures)
 
 pub put-spec : {M : Type 1} → statement M
 put-spec =

@@ -1,4 +1,4 @@
-use Rattle.live.proofs.Changes.{reads, row-fits, repriced-as, needs-met, reprice-becomes}
+use Rattle.live.proofs.Changes.{reads, row-fits, hold-as, needs-met, reprice-becomes}
 use borrow.Author.Needs.{needs}
 use Rattle.live.proofs.reprice.Statement.{statement}
 use Rattle.live.proofs.reprice.Tie as tie
@@ -11,7 +11,7 @@ leave-requires c κs =
     let p = c .before .before .before .before .pre in
     let a = reads (p .1) (c .before .live-at .ensures) in
     let n = needs-met (p .0) a in
-    (n .0, n .1, n .2, n .3, n .4, repriced-as a _ _ _ (p .2))
+    (n .0, n .1, n .2, n .3, n .4, n .5, hold-as a (λ o. 1) (λ o. c .before .before .before .before .args .price) _ _ (p .2))
 
 same-length : tie.Need-same-length
 same-length c = search needs

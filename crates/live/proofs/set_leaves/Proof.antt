@@ -1,4 +1,4 @@
-use Rattle.live.proofs.Changes.{reads, row-fits, left-as, needs-met, set-leaves-becomes}
+use Rattle.live.proofs.Changes.{reads, row-fits, hold-as, needs-met, set-leaves-becomes}
 use borrow.Author.Needs.{needs}
 use Rattle.live.proofs.set_leaves.Statement.{statement}
 use Rattle.live.proofs.set_leaves.Tie as tie
@@ -11,7 +11,7 @@ revise-requires c κs =
     let p = c .before .before .before .before .pre in
     let a = reads (p .1) (c .before .live-at .ensures) in
     let n = needs-met (p .0) a in
-    (n .0, n .1, n .2, left-as a _ _ (p .2))
+    (n .0, n .1, n .2, hold-as a (λ o. o .priced) (λ o. o .price) _ _ (p .2))
 
 same-length : tie.Need-same-length
 same-length c = search needs

@@ -1,4 +1,4 @@
-use Rattle.live.proofs.Changes.{reads, row-fits, left-as, needs-met, paid, pay-becomes, pay-at, traded-becomes}
+use Rattle.live.proofs.Changes.{reads, row-fits, hold-as, needs-met, paid, pay-becomes, pay-at, traded-becomes}
 use borrow.Author.Needs.{needs}
 use Rattle.live.proofs.traded.Statement.{statement}
 use Rattle.live.proofs.traded.Tie as tie
@@ -23,8 +23,8 @@ leave-requires c κs =
     let p = l .before .before .before .pre in
     let a = reads (p .1) (l .live-at .ensures) in
     let h = paid (p .0) a _ _ _ (y .before .side-of .ensures) (y .pay .ensures) in
-    let n = needs-met (pay-becomes (p .0) a _ _ h .state) (pay-at (p .0) a _ _ h) in
-    (n .0, n .1, n .2, n .3, n .4, left-as a _ _ (p .2))
+    let n = needs-met (pay-becomes (p .0) a _ _ h .becomes .state) (pay-at (p .0) a _ _ h) in
+    (n .0, n .1, n .2, n .3, n .4, n .5, hold-as a (λ o. o .priced) (λ o. o .price) _ _ (p .2))
 
 same-length : tie.Need-same-length
 same-length c = search needs

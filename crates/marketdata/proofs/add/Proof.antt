@@ -10,7 +10,7 @@ remember-requires : tie.Need-remember-requires
 remember-requires c κs =
     let r = c .before .before .before in
     let a = r .before .before .before in
-    added-asks (a .pre .0) _ (a .args .o) (a .pre .1) (r .rest .ensures)
+    added-asks (a .pre .0) _ (a .args .o) (a .pre .2) (r .rest .ensures)
 
 same-length : tie.Need-same-length
 same-length c = search needs
@@ -20,7 +20,7 @@ returns c =
     let t = c .before .before in
     let r = t .before .before .before .before in
     let a = r .before .before .before in
-    add-done (a .pre .0) _ (a .args .o) (a .pre .1) (r .rest .ensures) (t .remember .ensures)
+    add-done (a .pre .0) _ (a .args .o) (a .pre .2) (r .rest .ensures) (t .remember .ensures .becomes)
 
 pub add-spec : {M : Type 1} → statement M
 add-spec =

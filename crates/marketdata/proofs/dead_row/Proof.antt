@@ -24,7 +24,7 @@ new-row-requires c κs =
     let b = c .before .before in
     let p = b .before .before in
     let a = p .before .before .before in
-    (a .pre .0, a .pre .1, missing-is (a .pre .0) _ _ (p .place-of .ensures) _ (b .bears .ensures) (c .before .if1 .left))
+    (a .pre .0, a .pre .1, missing-is (a .pre .0) _ _ (p .place-of .ensures) _ (b .bears .ensures) (c .before .if1 .left), p .place-of .ensures)
 
 same-length-2 : tie.Need-same-length-2
 same-length-2 c = search needs

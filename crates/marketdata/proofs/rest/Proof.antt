@@ -11,13 +11,13 @@ order a = words (a .args .side) (a .args .price) (a .args .visible) (a .args .le
 row-for-requires : tie.Need-row-for-requires
 row-for-requires c κs =
     let a = c .before .before in
-    (a .pre .0, row-asks (a .pre .0) _ (order a) (a .pre .1))
+    (a .pre .0, a .pre .1, row-asks (a .pre .0) _ (order a) (a .pre .2))
 
 join-requires : tie.Need-join-requires
 join-requires c κs =
     let r = c .before .before .before in
     let a = r .before .before .before in
-    join-asks (a .pre .0) _ (order a) (a .pre .1) _ (r .row-for .ensures)
+    join-asks (a .pre .0) _ (order a) (a .pre .2) _ (r .row-for .ensures)
 
 same-length : tie.Need-same-length
 same-length c = search needs
@@ -27,7 +27,7 @@ returns c =
     let j = c .before .before in
     let r = j .before .before .before .before in
     let a = r .before .before .before in
-    rested (a .pre .0) _ (order a) (a .pre .1) _ (r .row-for .ensures) (j .join .ensures)
+    rested (a .pre .0) _ (order a) (a .pre .2) _ (r .row-for .ensures) (j .join .ensures)
 
 pub rest-spec : {M : Type 1} → statement M
 rest-spec =

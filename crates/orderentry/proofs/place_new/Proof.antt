@@ -33,7 +33,7 @@ same-length c = search needs
 returns : tie.Need-returns
 returns c = let s = c .before .before .before .before .before .before .before .before .before .before .before .before .before in
     let p = s .pre in
-    new-becomes (s .args .m .now) (s .args .s) (s .args .a) (s .args .order) (s .args .o) (p .3) (p .4) (p .2) _ _ _ (c .before .before .before .before .before .before .before .before .before .before .word-at .ensures) (c .before .before .before .before .before .before .before .before .before .command-of .ensures) (c .before .before .before .before .before .before .before .before .hold-of .ensures) (c .before .before .before .before .before .before .place .ensures) (c .before .before .notice-hold .ensures)
+    new-becomes (s .args .m .now) (s .args .s) (s .args .a) (s .args .order) (s .args .o) (p .3) (p .4) (p .2) _ _ _ (c .before .before .before .before .before .before .before .before .before .before .word-at .ensures) (c .before .before .before .before .before .before .before .before .before .command-of .ensures) (c .before .before .before .before .before .before .before .before .hold-of .ensures) (c .before .before .before .before .before .before .place .ensures) (c .before .before .notice-hold .ensures .becomes)
 
 pub place-new-spec : {M : Type 1} → statement M
 place-new-spec =

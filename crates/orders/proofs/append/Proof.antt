@@ -1,4 +1,5 @@
-use Rattle.orders.proofs.Laws.{laws}
+use Rattle.orders.proofs.Laws.{append-is}
+use native.Mathlib.Omega.{arith}
 use borrow.Author.Needs.{needs}
 use Rattle.orders.proofs.append.Statement.{statement}
 use Rattle.orders.proofs.append.Tie as tie
@@ -24,11 +25,23 @@ set-two-requires c κs = search needs
 set-hint-requires : tie.Need-set-hint-requires
 set-hint-requires c κs = search needs
 
+put-requires : tie.Need-put-requires
+put-requires c κs = search needs
+
 same-length : tie.Need-same-length
 same-length c = search needs
 
 returns : tie.Need-returns
-returns c = search laws
+returns c =
+    let b = c .before .before in
+    let h = b .before .before .before .before in
+    let t = h .before .before .before .before in
+    let p = t .before .before .before .before in
+    let n = p .before .before in
+    let g = n .before .before in
+    let a = g .before .before .before in
+    append-is (a .args .m .now) (a .args .number) (g .get .result) (n .get2 .result) (a .args .o) (omega (arith, g .get .ensures, a .pre .1)) (g .get .ensures) (n .get2 .ensures)
+    (p .put-row .ensures) (t .set-two .ensures) (h .set-hint .ensures) (b .put .ensures)
 
 pub append-spec : {M : Type 1} → statement M
 append-spec =
@@ -41,5 +54,6 @@ append-spec =
     add-set-two-2
     set-two-requires
     set-hint-requires
+    put-requires
     same-length
     returns)

@@ -6,8 +6,8 @@ use Rattle.orders.proofs.find.Tie as tie
 get-requires : tie.Need-get-requires
 get-requires c κs = search needs
 
-try-first-requires : tie.Need-try-first-requires
-try-first-requires c κs = search needs
+hint-of-requires : tie.Need-hint-of-requires
+hint-of-requires c κs = search needs
 
 mul-find-hinted : tie.Need-mul-find-hinted
 mul-find-hinted c = search needs
@@ -20,4 +20,4 @@ returns c = search laws
 
 pub find-spec : {M : Type 1} → statement M
 find-spec =
-    tie.close (tie.spec get-requires try-first-requires mul-find-hinted find-hinted-requires returns)
+    tie.close (tie.spec get-requires hint-of-requires mul-find-hinted find-hinted-requires returns)

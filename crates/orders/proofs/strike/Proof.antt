@@ -21,19 +21,23 @@ sub-set c = search needs
 set-requires-3 : tie.Need-set-requires-3
 set-requires-3 c κs = search needs
 
+put-requires : tie.Need-put-requires
+put-requires c κs = search needs
+
 same-length : tie.Need-same-length
 same-length c = search needs
 
 returns : tie.Need-returns
 returns c =
-    let u = c .before .before in
+    let b = c .before .before in
+    let u = b .before .before .before .before in
     let t = u .before .before .before .before in
     let r = t .before .before .before .before in
     let n = r .before .before in
     let v = n .before .before in
     let a = v .before .before .before in
     strike-is (a .args .k) (a .args .other) (a .args .count) (a .args .i) (v .get .result) (n .get2 .result) (a .pre .0) (a .pre .1) (a .pre .2) (a .pre .4)
-    (v .get .ensures) (n .get2 .ensures) (r .set .ensures) (t .set2 .ensures) (u .set3 .ensures)
+    (v .get .ensures) (n .get2 .ensures) (r .set .ensures) (t .set2 .ensures) (u .set3 .ensures) (b .put .ensures)
 
 pub strike-spec : {M : Type 1} → statement M
 strike-spec =
@@ -45,5 +49,6 @@ strike-spec =
     set-requires-2
     sub-set
     set-requires-3
+    put-requires
     same-length
     returns)

@@ -6,11 +6,8 @@ use Rattle.redelivery.proofs.settle.Tie as tie
 change-requires : tie.Need-change-requires
 change-requires c κs = search needs
 
-find-live-requires : tie.Need-find-live-requires
-find-live-requires c κs = search needs
-
 change-requires-2 : tie.Need-change-requires-2
-change-requires-2 c κs = search needs
+change-requires-2 c κs = search orders
 
 same-length : tie.Need-same-length
 same-length c = search needs
@@ -20,4 +17,4 @@ returns c = search orders
 
 pub settle-spec : {M : Type 1} → statement M
 settle-spec =
-    tie.close (tie.spec change-requires find-live-requires change-requires-2 same-length returns)
+    tie.close (tie.spec change-requires change-requires-2 same-length returns)

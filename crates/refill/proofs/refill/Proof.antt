@@ -1,4 +1,4 @@
-use Rattle.refill.proofs.Laws.{laws}
+use Rattle.refill.proofs.Laws.{refill-becomes, laws}
 use borrow.Author.Needs.{needs}
 use Rattle.refill.proofs.refill.Statement.{statement}
 use Rattle.refill.proofs.refill.Tie as tie
@@ -22,7 +22,14 @@ same-length : tie.Need-same-length
 same-length c = search needs
 
 returns : tie.Need-returns
-returns c = search laws
+returns c =
+    let n = c .before .before in
+    let o = n .before .before .before .before in
+    let m = o .before .before .before .before in
+    let r = m .before .before in
+    let p = r .before .before .before in
+    let s = p .before .before .before .before in
+    refill-becomes _ _ (s .pre .0) (p .place-all .ensures) (r .mark .result) (r .mark .ensures) (m .mark2 .ensures) (o .own-all .ensures) (s .pre .2) (n .notice-all .ensures)
 
 pub refill-spec : {M : Type 1} → statement M
 refill-spec =

@@ -1,4 +1,4 @@
-use Rattle.trades.proofs.Applying.{applying, still-trades, dealt-becomes}
+use Rattle.trades.proofs.Applying.{applying, still-trades, still-rests, still-flying, dealt-becomes}
 use borrow.Author.Needs.{needs}
 use Rattle.trades.proofs.apply.Statement.{statement}
 use Rattle.trades.proofs.apply.Tie as tie
@@ -14,13 +14,20 @@ on-trade-requires c κs =
     let k = c .before .before .before in
     let s = k .before .before .before .before in
     let a = s .before .before .before in
-    (k .mark .ensures .state, still-trades (a .args .m .now) _ _ (a .args .n) (a .args .d) (a .args .both) (a .pre .3) (s .settle .ensures) (k .mark .ensures))
+    let rests = still-rests (a .args .m .now) _ _ (a .args .n) (a .args .d) (a .args .both) (a .pre .3) (s .settle .ensures) (k .mark .ensures) in
+    (k .mark .ensures .becomes .state, rests _ _ (a .pre .1 .rests), rests _ _ (a .pre .2 .rests), still-trades (a .args .m .now) _ _ (a .args .n) (a .args .d) (a .args .both) (a .pre .3) (s .settle .ensures) (k .mark .ensures))
 
 push-requires : tie.Need-push-requires
 push-requires c κs = search applying
 
 land-requires : tie.Need-land-requires
-land-requires c κs = search applying
+land-requires c κs =
+    let p = c .before .before .before in
+    let t = p .before .before .before .before in
+    let k = t .before .before .before .before in
+    let s = k .before .before .before .before in
+    let a = s .before .before .before in
+    (p .push .ensures .state, still-flying (a .args .m .now) _ _ (a .args .n) (a .args .d) (a .args .both) (a .pre .3) (s .settle .ensures) (k .mark .ensures) _ (t .on-trade .ensures) _ (p .push .ensures))
 
 same-length : tie.Need-same-length
 same-length c = search needs

@@ -1,4 +1,4 @@
-use Rattle.trades.proofs.Applying.{applying, taker-room, maker-room, maker-hold}
+use Rattle.trades.proofs.Applying.{applying, taker-room, maker-room, maker-hold, maker-lives}
 use borrow.Author.Needs.{needs}
 use Rattle.trades.proofs.settle.Statement.{statement}
 use Rattle.trades.proofs.settle.Tie as tie
@@ -6,17 +6,14 @@ use Rattle.trades.proofs.settle.Tie as tie
 fill-requires : tie.Need-fill-requires
 fill-requires c κs =
     let a = c .before .before in
-    (a .pre .0, a .pre .1, a .pre .2 .taker-holds, taker-room _ (a .args .d) _ _ (a .pre .2))
-
-live-again-requires : tie.Need-live-again-requires
-live-again-requires c κs = search needs
+    (a .pre .0, a .pre .1, a .pre .3 .taker-holds, taker-room _ (a .args .d) _ _ (a .pre .3))
 
 fill-requires-2 : tie.Need-fill-requires-2
 fill-requires-2 c κs =
-    let l = c .before in
-    let f = l .before .before .before .before in
+    let f = c .before .before .before in
     let a = f .before .before .before in
-    (f .fill .ensures .state, l .live-again .ensures, maker-hold _ (a .args .d) _ _ (a .pre .2) (f .fill .ensures), maker-room _ (a .args .d) _ _ (a .pre .2) (f .fill .ensures))
+    let b = f .fill .ensures in
+    (b .becomes .state, maker-lives _ (a .args .d) _ _ (a .pre .3) b _ (a .pre .2), maker-hold _ (a .args .d) _ _ (a .pre .3) b, maker-room _ (a .args .d) _ _ (a .pre .3) b)
 
 same-length : tie.Need-same-length
 same-length c = search needs
@@ -25,5 +22,4 @@ returns : tie.Need-returns
 returns c = search applying
 
 pub settle-spec : {M : Type 1} → statement M
-settle-spec =
-    tie.close (tie.spec fill-requires live-again-requires fill-requires-2 same-length returns)
+settle-spec = tie.close (tie.spec fill-requires fill-requires-2 same-length returns)
