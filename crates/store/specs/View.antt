@@ -1,4 +1,4 @@
--- The gateway of the definitions that the cells hold. It forgets the caches: holds, held totals, open counts, levels, links, tops, maps and hints.
+-- The gateway of the definitions that the cells hold. It forgets the caches: holds, held totals, open counts, levels, links, tops and hints.
 use Prim.Native.Nat.{ℕ, zero, suc, _+_, _-_, _%_, _≤_}
 use mathlib.Core.Path.{_≡_}
 use mathlib.Core.Bool.{Bool, cond, not, _&&_}
