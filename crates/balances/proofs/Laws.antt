@@ -54,8 +54,8 @@ module _ (xs : List ℕ) (a : ℕ) (x : Exact xs) (l : a < owner-slots) where
   abbrev os : List Order
   os = ledger (cell xs) .orders
 
-  one-fits : is-some (wallet row) ≡ true → (z : Side) → fits (held a z os) ≡ true
-  one-fits t = side-fits a (wallet-at a (gateway (cell xs) .core)) os (ap is-some (wallet-at-row a (cell xs) l) ∙ t) (holds-each (ledger (cell xs)) (x .fit) a)
+  one-fits : is-some (wallet row) ≡ true → (z : Side) → fits (held (ledger (cell xs) .fee) a z os) ≡ true
+  one-fits t = side-fits (ledger (cell xs) .fee) a (wallet-at a (gateway (cell xs) .core)) os (ap is-some (wallet-at-row a (cell xs) l) ∙ t) (holds-each (ledger (cell xs)) (x .fit) a)
 
   -- of a row with a wallet
   with-wallet : (b : Bool) (f : Funds) → is-some (cond b (some f) none) ≡ true → cond b (some f) none ≡ some f
@@ -68,9 +68,9 @@ module _ (xs : List ℕ) (a : ℕ) (x : Exact xs) (l : a < owner-slots) where
       let q = total-exact (cell xs) a Sell (x .state .sound .held) l (one-fits t Sell) in
       ap some (g ∙ ap W.balance-of e)
       ∙ (λ i. some (record { cash = int (row C.account-cash); position = int (row C.account-position); «cash_held» = p i; «position_held» = q i }))
-      ∙ sym (ap (Option·map (balance-with a os)) (wallet-at-row a (cell xs) l ∙ with-wallet (flag (row C.account-funded)) _ t))
+      ∙ sym (ap (Option·map (balance-with (ledger (cell xs) .fee) a os)) (wallet-at-row a (cell xs) l ∙ with-wallet (flag (row C.account-funded)) _ t))
 
-  without : (o : Option Funds) → is-some o ≡ false → none ≡ Option·map (balance-with a os) o
+  without : (o : Option Funds) → is-some o ≡ false → none ≡ Option·map (balance-with (ledger (cell xs) .fee) a os) o
   without none t = refl
   without (some w) t = absurd (false≢true (sym t))
 
@@ -89,6 +89,6 @@ module _ (xs : List ℕ) (a : ℕ) (b : Between xs) where
   pub wallet-past : owner-slots ≤ a → Says (wallet-is (maybe-balance B.the-variants.None)) (call (gateway (cell xs)) (Calls.wallet a)) 0 xs xs
   wallet-past l =
       wallet-found B.the-variants.None
-      (sym (ap (Option·map (balance-with a (gateway (cell xs) .core .ledger .orders))) (List·getD-eq-default (gateway (cell xs) .core .ledger .wallets) none {n = a} (rw (listed-length (λ i. wallet (cell xs C.accounts i)) owner-slots) l))))
+      (sym (ap (Option·map (balance-with (gateway (cell xs) .core .ledger .fee) a (gateway (cell xs) .core .ledger .orders))) (List·getD-eq-default (gateway (cell xs) .core .ledger .wallets) none {n = a} (rw (listed-length (λ i. wallet (cell xs C.accounts i)) owner-slots) l))))
 
 pub ruleset laws = (wallet-found, wallet-past, exact-between, balance-is, balance-none, arith)

@@ -2,6 +2,7 @@
 // takes the accounts by value.
 use accounts::Account;
 use accounts::Timing;
+ghost use Rattle.words.specs.Words.{int};
 ghost use Rattle.gateway.specs.Start.{set-up, restore};
 ghost use Rattle.store.specs.Layout.{Holds};
 ghost use Rattle.listing.specs.Rows.{listing};
@@ -9,6 +10,7 @@ ghost use Rattle.opening.specs.Starts.{Starts};
 
 pub fn set_up(
     m: &mut [u8],
+    fee: u64,
     limit: u64,
     last: u64,
     timing: Timing,
@@ -16,16 +18,23 @@ pub fn set_up(
     list: &[u8],
 ) -> u64
     requires { ⌜ Holds (now m) ⌝ }
-    ensures { λ r. ⌜ Starts (set-up limit last (now (accounts .entry)) (listing (now (list .entry))) timing) r (now (m .entry)) (now (m .exit)) ⌝ }
+    ensures { λ r. ⌜ Starts (set-up (int fee) limit last (now (accounts .entry)) (listing (now (list .entry))) timing) r (now (m .entry)) (now (m .exit)) ⌝ }
 {
     let r = roster::gather(limit, accounts);
-    setup::set_up(m, limit, last, timing, r, list)
+    setup::set_up(m, fee, limit, last, timing, r, list)
 }
 
-pub fn restore(m: &mut [u8], limit: u64, timing: Timing, accounts: &[Account], bytes: &[u8]) -> u64
+pub fn restore(
+    m: &mut [u8],
+    fee: u64,
+    limit: u64,
+    timing: Timing,
+    accounts: &[Account],
+    bytes: &[u8],
+) -> u64
     requires { ⌜ Holds (now m) ⌝ }
-    ensures { λ r. ⌜ Starts (restore limit (now (accounts .entry)) timing (now (bytes .entry))) r (now (m .entry)) (now (m .exit)) ⌝ }
+    ensures { λ r. ⌜ Starts (restore (int fee) limit (now (accounts .entry)) timing (now (bytes .entry))) r (now (m .entry)) (now (m .exit)) ⌝ }
 {
     let r = roster::gather(limit, accounts);
-    restore::restore(m, limit, timing, r, bytes)
+    restore::restore(m, fee, limit, timing, r, bytes)
 }

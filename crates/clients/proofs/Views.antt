@@ -100,7 +100,7 @@ with-lists xs ws bs g =
     record {
       core =
           record {
-            ledger = record { last = g .core .ledger .last; wallets = ws; orders = g .core .ledger .orders; mark = g .core .ledger .mark };
+            ledger = record { last = g .core .ledger .last; wallets = ws; orders = g .core .ledger .orders; mark = g .core .ledger .mark; fee = g .core .ledger .fee };
             flights = g .core .flights;
             accounts = xs;
           };

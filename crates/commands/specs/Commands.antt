@@ -36,7 +36,7 @@ flying sender owner places g =
     record {
       core =
           record {
-            ledger = record { last = next c; wallets = c .ledger .wallets; orders = c .ledger .orders; mark = c .ledger .mark };
+            ledger = record { last = next c; wallets = c .ledger .wallets; orders = c .ledger .orders; mark = c .ledger .mark; fee = c .ledger .fee };
             flights = c .flights ++ (record { number = next c; session = optional sender; owner = owner; places = flag places } ∷ []);
             accounts = c .accounts;
           };

@@ -4,6 +4,7 @@ use mathlib.Core.Bool.{Bool, true, false, and-true}
 use mathlib.Core.List.{List, [], _∷_}
 use Prim.Native.Nat.{ℕ, _+_, _^_, _≤_, _<_}
 use native.Mathlib.Omega.{arith}
+use lib.IntN.{ℤ}
 use lib.Dec.{leb, ltb}
 use lib.ListN.{length, List·getD-eq-default}
 use borrow.Author.Needs.{needs}
@@ -48,8 +49,8 @@ fits a w r out ys h t e = rw (t, of-int w h) e
 pub too-big : (a : Amount) (r : ℕ) (out ys : List ℕ) → a ≡ TooBig → answer r ys ≡ E.write E.two (0 ∷ 0 ∷ []) out → answer r ys ≡ E.write-amount (amount a) out
 too-big a r out ys t e = rw t e
 
-pub holds-of : (side : Side) (price leaves r : ℕ) (a : Amount) (out ys : List ℕ) → amount a ≡ W.hold-of side (int price) leaves
-    → answer r ys ≡ E.write-amount (amount a) out → answer r ys ≡ E.write-amount (W.hold-of side (int price) leaves) out
+pub holds-of : (side : Side) (price : ℤ) (leaves r : ℕ) (a : Amount) (out ys : List ℕ) → amount a ≡ W.hold-of side price leaves
+    → answer r ys ≡ E.write-amount (amount a) out → answer r ys ≡ E.write-amount (W.hold-of side price leaves) out
 holds-of side price leaves r a out ys e f = f ∙ ap (λ z. E.write-amount z out) e
 
 -- ---- sides
@@ -87,11 +88,11 @@ pub changed : (side : Side) (old new : ℕ) (xs ys : List ℕ) (w : Wallet) (c :
 changed side old new xs ys w c r h e f g =
     rw (eq-eqb (length xs) 32 h) (g ∙ ap (λ b. E.change b xs) (f ∙ ap (λ (x : Wallet). W.hold side (int old) (int new) (W.balance-of x)) e))
 
-pub settled : (side : Side) (price qty : ℕ) (xs ys : List ℕ) (w v : Wallet) (r : ℕ) → length xs ≡ 32 → w ≡ E.wallet-in xs
-    → W.balance-of v ≡ W.settled side (int price) qty (W.balance-of w) → answer r ys ≡ answer 0 (E.put-balance (W.balance-of v) xs) → answer r ys ≡ E.settle-on side price qty xs
-settled side price qty xs ys w v r h e f g =
+pub settled : (fee : ℕ) (side : Side) (price qty : ℕ) (xs ys : List ℕ) (w v : Wallet) (r : ℕ) → length xs ≡ 32 → w ≡ E.wallet-in xs
+    → W.balance-of v ≡ W.settled side (W.charged (int fee) side (int price)) qty (W.balance-of w) → answer r ys ≡ answer 0 (E.put-balance (W.balance-of v) xs) → answer r ys ≡ E.settle-on fee side price qty xs
+settled fee side price qty xs ys w v r h e f g =
     rw (eq-eqb (length xs) 32 h)
-    (g ∙ ap (λ b. answer 0 (E.put-balance b xs)) (f ∙ ap (λ (x : Wallet). W.settled side (int price) qty (W.balance-of x)) e))
+    (g ∙ ap (λ b. answer 0 (E.put-balance b xs)) (f ∙ ap (λ (x : Wallet). W.settled side (W.charged (int fee) side (int price)) qty (W.balance-of x)) e))
 
 pub wrote-changed : (c : C.Changed) (w : Wallet) (r : ℕ) (xs ys : List ℕ) → c ≡ C.the-variants.Fits w → answer r ys ≡ answer 0 (E.put-balance (W.balance-of w) xs) → answer r ys ≡ E.change (W.changed c) xs
 wrote-changed c w r xs ys t e = rw t e

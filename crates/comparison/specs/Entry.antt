@@ -88,8 +88,9 @@ abbrev pub write-amount : Option ℤ → List ℕ → Answer
 write-amount none out = write two (0 ∷ 0 ∷ []) out
 write-amount (some z) out = write two (1 ∷ word z ∷ []) out
 
-abbrev pub hold-of : ℕ → ℕ → ℕ → List ℕ → Answer
-hold-of side price leaves out = by-side (sideOf side) out (λ s. write-amount (W.hold-of s (int price) leaves) out)
+-- what an order holds where a buyer pays this fee for each lot
+abbrev pub hold-of : ℕ → ℕ → ℕ → ℕ → List ℕ → Answer
+hold-of fee side price leaves out = by-side (sideOf side) out (λ s. write-amount (W.hold-of s (W.charged (int fee) s (int price)) leaves) out)
 
 abbrev pub covers-on : Side → ℕ → List ℕ → List ℕ → Answer
 covers-on side amount xs out = sized (length xs) 32 out (write one (flag (W.covers side (int amount) (balance-in xs)) ∷ []) out)
@@ -108,11 +109,11 @@ hold-on side old new xs = sized (length xs) 32 xs (change (W.hold side (int old)
 abbrev pub hold : ℕ → ℕ → ℕ → List ℕ → Answer
 hold side old new xs = by-side (sideOf side) xs (λ s. hold-on s old new xs)
 
-abbrev pub settle-on : Side → ℕ → ℕ → List ℕ → Answer
-settle-on side price qty xs = sized (length xs) 32 xs (change (some (W.settled side (int price) qty (balance-in xs))) xs)
+abbrev pub settle-on : ℕ → Side → ℕ → ℕ → List ℕ → Answer
+settle-on fee side price qty xs = sized (length xs) 32 xs (change (some (W.settled side (W.charged (int fee) side (int price)) qty (balance-in xs))) xs)
 
-abbrev pub settle : ℕ → ℕ → ℕ → List ℕ → Answer
-settle side price qty xs = by-side (sideOf side) xs (λ s. settle-on s price qty xs)
+abbrev pub settle : ℕ → ℕ → ℕ → ℕ → List ℕ → Answer
+settle fee side price qty xs = by-side (sideOf side) xs (λ s. settle-on fee s price qty xs)
 
 -- whether a price is near
 abbrev pub near-mark : ℕ → ℕ → ℕ → List ℕ → Answer

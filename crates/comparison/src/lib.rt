@@ -108,11 +108,11 @@ fn write_changed(m: &mut [u8], c: Changed) -> u32
 
 // What an order holds: two words, whether it fits and the amount.
 #[no_mangle]
-pub extern "C" fn entry_hold_of(side: u32, price: u64, leaves: u64, out: &mut [u8]) -> u32
-    ensures { λ r. ⌜ answer r (now (out .exit)) ≡ E.hold-of side price leaves (now (out .entry)) ⌝ }
+pub extern "C" fn entry_hold_of(fee: u64, side: u32, price: u64, leaves: u64, out: &mut [u8]) -> u32
+    ensures { λ r. ⌜ answer r (now (out .exit)) ≡ E.hold-of fee side price leaves (now (out .entry)) ⌝ }
 {
     match side_of(side) {
-        MaybeSide::Some(s) => write_amount(out, Wallet::hold_of(s, price, leaves)),
+        MaybeSide::Some(s) => write_amount(out, Wallet::hold_of(fee, s, price, leaves)),
         MaybeSide::None => MALFORMED,
     }
 }
@@ -158,22 +158,22 @@ pub extern "C" fn entry_hold(side: u32, old: u64, new: u64, wallet: &mut [u8]) -
     }
 }
 
-fn settle_on(side: Side, price: u64, qty: u64, wallet: &mut [u8]) -> u32
-    ensures { λ r. ⌜ answer r (now (wallet .exit)) ≡ E.settle-on side price qty (now (wallet .entry)) ⌝ }
+fn settle_on(fee: u64, side: Side, price: u64, qty: u64, wallet: &mut [u8]) -> u32
+    ensures { λ r. ⌜ answer r (now (wallet .exit)) ≡ E.settle-on fee side price qty (now (wallet .entry)) ⌝ }
 {
     if wallet.len() == 32 {
-        let settled = read_wallet(wallet).settle(side, price, qty);
+        let settled = read_wallet(wallet).settle(fee, side, price, qty);
         return write_wallet(wallet, settled);
     }
     MALFORMED
 }
 
 #[no_mangle]
-pub extern "C" fn entry_settle(side: u32, price: u64, qty: u64, wallet: &mut [u8]) -> u32
-    ensures { λ r. ⌜ answer r (now (wallet .exit)) ≡ E.settle side price qty (now (wallet .entry)) ⌝ }
+pub extern "C" fn entry_settle(fee: u64, side: u32, price: u64, qty: u64, wallet: &mut [u8]) -> u32
+    ensures { λ r. ⌜ answer r (now (wallet .exit)) ≡ E.settle fee side price qty (now (wallet .entry)) ⌝ }
 {
     match side_of(side) {
-        MaybeSide::Some(s) => settle_on(s, price, qty, wallet),
+        MaybeSide::Some(s) => settle_on(fee, s, price, qty, wallet),
         MaybeSide::None => MALFORMED,
     }
 }

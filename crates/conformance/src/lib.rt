@@ -1,4 +1,4 @@
-// A row of a stored file on one gateway: its call is made by the entry points, and the answer held to the Rust's.
+// A row of a stored file on one gateway: its call is made by the entry points, and the answer held to the stored one.
 use stored::word;
 ghost use Rattle.edge.specs.Entering.{Lent};
 

@@ -13,6 +13,7 @@ ghost use mathlib.Core.Bool.{true};
 ghost use Prim.Native.Nat.{_/_};
 ghost use lib.Dec.{leb};
 ghost use lib.ListN.{length, drop};
+ghost use Rattle.words.specs.Words.{int};
 ghost use Rattle.protocol.specs.Codes.{logoutOf};
 ghost use Rattle.gateway.specs.Entry.{nothing, account-was, wallet-is, number-is};
 ghost use Rattle.gateway.specs.Calls as C;
@@ -45,6 +46,7 @@ fn is_whole(m: &[u8], ok: bool) -> bool
 #[no_mangle]
 pub extern "C" fn rowanchess_set_up(
     m: &mut [u8],
+    fee: u64,
     limit: u64,
     last: u64,
     heartbeat: u64,
@@ -52,7 +54,7 @@ pub extern "C" fn rowanchess_set_up(
     accounts: &[u8],
     list: &[u8],
 ) -> u64
-    ensures { λ r. ⌜ Starts (begins (are-rows (now (accounts .entry)) (now (list .entry))) (now (m .entry)) (set-up limit last (accounts-in (now (accounts .entry))) (listing (now (list .entry))) (P.timing heartbeat «idle_timeout»))) r (now (m .entry)) (now (m .exit)) ⌝ }
+    ensures { λ r. ⌜ Starts (begins (are-rows (now (accounts .entry)) (now (list .entry))) (now (m .entry)) (set-up (int fee) limit last (accounts-in (now (accounts .entry))) (listing (now (list .entry))) (P.timing heartbeat «idle_timeout»))) r (now (m .entry)) (now (m .exit)) ⌝ }
 {
     if is_whole(m, lists::are_rows(accounts, list)) {
         let timing = Timing {
@@ -60,7 +62,7 @@ pub extern "C" fn rowanchess_set_up(
             idle_timeout,
         };
         let r = lists::gather(limit, accounts);
-        return setup::set_up(m, limit, last, timing, r, list);
+        return setup::set_up(m, fee, limit, last, timing, r, list);
     }
     outcome::MALFORMED
 }
@@ -69,13 +71,14 @@ pub extern "C" fn rowanchess_set_up(
 #[no_mangle]
 pub extern "C" fn rowanchess_restore(
     m: &mut [u8],
+    fee: u64,
     limit: u64,
     heartbeat: u64,
     idle_timeout: u64,
     accounts: &[u8],
     bytes: &[u8],
 ) -> u64
-    ensures { λ r. ⌜ Starts (begins (are-accounts (now (accounts .entry))) (now (m .entry)) (restore limit (accounts-in (now (accounts .entry))) (P.timing heartbeat «idle_timeout») (now (bytes .entry)))) r (now (m .entry)) (now (m .exit)) ⌝ }
+    ensures { λ r. ⌜ Starts (begins (are-accounts (now (accounts .entry))) (now (m .entry)) (restore (int fee) limit (accounts-in (now (accounts .entry))) (P.timing heartbeat «idle_timeout») (now (bytes .entry)))) r (now (m .entry)) (now (m .exit)) ⌝ }
 {
     if is_whole(m, strict::are_accounts(accounts)) {
         let timing = Timing {
@@ -83,7 +86,7 @@ pub extern "C" fn rowanchess_restore(
             idle_timeout,
         };
         let r = lists::gather(limit, accounts);
-        return restore::restore(m, limit, timing, r, bytes);
+        return restore::restore(m, fee, limit, timing, r, bytes);
     }
     outcome::MALFORMED
 }

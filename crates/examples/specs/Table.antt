@@ -1,4 +1,4 @@
--- All examples of document 01 marked P: beside what the definitions give, what the paper says.
+-- All examples of document 01 marked P, with no fee, and one with a fee (02, order 7): beside what the definitions give, what the paper says.
 use Prim.Native.Nat.{ℕ}
 use mathlib.Core.Bool.{Bool, true, false, cond}
 use mathlib.Core.List.{List, [], _∷_, map}
@@ -6,7 +6,7 @@ use lib.ListN.{replicate}
 use mathlib.Core.Option.{Option, none, some}
 use lib.IntN.{ℤ, pos, negsuc, _-ℤ_}
 use Rattle.accounts.specs.declared.Funds.{Funds}
-use Rattle.orderbook.specs.declared.MaybePrice.the-variants.{None}
+use Rattle.orderbook.specs.declared.MaybePrice.the-variants.{None, Some}
 use Rattle.orderbook.specs.declared.MaybeQty as MaybeQty
 use Rattle.orderbook.specs.declared.TimeInForce.the-variants.{Gtc}
 use Rattle.orderbook.specs.declared.Side.the-variants.{Buy, Sell}
@@ -18,9 +18,10 @@ use Rattle.risk.specs.declared.Taken.{Taken}
 use Rattle.risk.specs.Collar.{near}
 use Rattle.risk.specs.Throttle.{take-token}
 use Rattle.words.specs.Words.{most}
-use Rattle.wallet.specs.Wallet.{held, settle, settled, hold}
+use Rattle.wallet.specs.Wallet as W
 use Rattle.gateway.specs.Bytes.{encode}
 use Rattle.gateway.specs.Core.{Tests, Core}
+use Rattle.gateway.specs.Ledger.{hold}
 use Rattle.gateway.specs.Entry.{paper-tests}
 use Rattle.gateway.specs.Rest.{Rest}
 use Rattle.gateway.specs.Start.{begin, empty-depth}
@@ -33,18 +34,25 @@ flag false = pos 0
 abbrev throttle : ℕ → ℕ → List ℤ
 throttle rate now = flag (take-token rate now (record { tokens = 0; refilled = 0 }) .passed) ∷ pos (take-token rate now (record { tokens = 0; refilled = 0 }) .bucket .tokens) ∷ []
 
--- by how much cash fell from 1,000, and the cash held
-abbrev fell : Option Balance → List ℤ
-fell none = []
-fell (some b) = (pos 1000 -ℤ b .cash) ∷ b .«cash_held» ∷ []
+-- what a buy at 250 holds with so many open
+abbrev buy : ℤ → ℕ → ℤ
+buy fee leaves = hold fee Buy (Some (pos 250)) leaves
 
--- the buy of 4 at 250 of an account with cash 1,000
-abbrev placed : Balance
-placed = record { cash = pos 1000; position = pos 0; «cash_held» = held Buy (some (pos 250)) 4; «position_held» = pos 0 }
+-- by how much the cash fell, and the cash held
+abbrev fell : ℤ → Option Balance → List ℤ
+fell cash none = []
+fell cash (some b) = (cash -ℤ b .cash) ∷ b .«cash_held» ∷ []
+
+-- an account with just the cash for its buy of 4 at 250, which fills 2 at 240 and has 2 left
+abbrev placed : ℤ → Balance
+placed fee = record { cash = buy fee 4; position = pos 0; «cash_held» = buy fee 4; «position_held» = pos 0 }
+
+abbrev bought : ℤ → List ℤ
+bought fee = fell (buy fee 4) (W.hold Buy (buy fee 4) (buy fee 2) (W.settled Buy (W.charged fee Buy (pos 240)) 2 (placed fee)))
 
 -- a gateway with no orders, accounts, mark or collar
 abbrev core : Core
-core = record { ledger = record { last = 0; wallets = []; orders = []; mark = None }; flights = []; accounts = [] }
+core = record { ledger = record { last = 0; wallets = []; orders = []; mark = None; fee = pos 0 }; flights = []; accounts = [] }
 
 abbrev rest : Rest
 rest = begin (record { heartbeat = 0; «idle_timeout» = 0 }) (core .ledger) [] empty-depth [] .rest
@@ -63,11 +71,12 @@ table =
     ∷ (flag (near (pos 1100) (pos 1000) 10) ∷ [], pos 1 ∷ [])
     ∷ (flag (near (pos 1101) (pos 1000) 10) ∷ [], pos 0 ∷ [])
     ∷ (flag (near (negsuc 999) (negsuc 999) 10) ∷ [], pos 0 ∷ [])
-    ∷ (held Buy (some (pos 250)) 4 ∷ [], pos 1000 ∷ [])
-    ∷ (held Sell (some (pos 250)) 4 ∷ [], pos 4 ∷ [])
-    ∷ (held Buy (some most) 2 ∷ [], pos 0 ∷ [])
+    ∷ (buy (pos 0) 4 ∷ [], pos 1000 ∷ [])
+    ∷ (hold (pos 0) Sell (Some (pos 250)) 4 ∷ [], pos 4 ∷ [])
+    ∷ (hold (pos 0) Buy (Some most) 2 ∷ [], pos 0 ∷ [])
     ∷ (first (paper-tests 0 Buy 2 core rest (Limit most Gtc MaybeQty.the-variants.None) (record { cash = most; position = most })), pos 4 ∷ [])
-    ∷ (fell (hold Buy (held Buy (some (pos 250)) 4) (held Buy (some (pos 250)) 2) (settled Buy (pos 240) 2 placed)), pos 480 ∷ pos 500 ∷ [])
-    ∷ (settle Buy (negsuc 4611686018427387903) 4 (record { cash = pos 0; position = pos 0 }) .cash ∷ [], negsuc 9223372036854775806 ∷ [])
+    ∷ (bought (pos 0), pos 480 ∷ pos 500 ∷ [])
+    ∷ (buy (pos 10) 4 ∷ bought (pos 10), pos 1040 ∷ pos 500 ∷ pos 520 ∷ [])
+    ∷ (W.settle Buy (negsuc 4611686018427387903) 4 (record { cash = pos 0; position = pos 0 }) .cash ∷ [], negsuc 9223372036854775806 ∷ [])
     ∷ (map pos (encode (record { last = 0; mark = None; wallets = []; orders = [] })), replicate 25 (pos 0))
     ∷ []

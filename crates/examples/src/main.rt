@@ -1,4 +1,4 @@
-// The worked examples of docs/01-scope.md on holds, the collar and the throttle, run through the code. specs/Table.antt has those that are proved.
+// The worked examples of document 01 on holds, the collar and the throttle, and 02's on the fee, run through the code. specs/Table.antt has those that are proved.
 use accounts::Funds;
 use libc::STDOUT_FILENO;
 use orderbook::Side;
@@ -52,7 +52,7 @@ fn collar(price: i64, mark: i64) {
 
 fn hold(side: Side, price: i64, leaves: u64) {
     text(b"holds");
-    number(wallet::held(side, true, words::of_i64(price), leaves));
+    number(wallet::held(0, side, true, words::of_i64(price), leaves));
     text(b"\n");
 }
 
@@ -72,20 +72,20 @@ fn change(w: Wallet, old: u64, new: u64) -> Wallet {
     }
 }
 
-// The buy of 4 at 250 fills 2 at 240, and has 2 left.
-fn fill() {
-    let four = wallet::held(Side::Buy, true, 250, 4);
-    let two = wallet::held(Side::Buy, true, 250, 2);
+// The buy of 4 at 250, of an account with just the cash for it, fills 2 at 240, and has 2 left.
+fn fill(fee: u64) {
+    let four = wallet::held(fee, Side::Buy, true, 250, 4);
+    let two = wallet::held(fee, Side::Buy, true, 250, 2);
     let placed = change(
         Wallet::new(Funds {
-            cash: 1000,
+            cash: words::to_i64(four),
             position: 0,
         }),
         0,
         four,
     );
     show(placed);
-    show(change(placed.settle(Side::Buy, 240, 2), four, two));
+    show(change(placed.settle(fee, Side::Buy, 240, 2), four, two));
 }
 
 // A buy at a price far below 0.
@@ -94,7 +94,7 @@ fn saturate() {
     show(Wallet::new(Funds {
         cash: 0,
         position: 0,
-    }).settle(Side::Buy, price, 4));
+    }).settle(0, Side::Buy, price, 4));
 }
 
 // Cash 1,000 with 1 held.
@@ -124,7 +124,8 @@ fn main() {
     hold(Side::Buy, 250, 4);
     hold(Side::Sell, 250, 4);
     hold(Side::Buy, 9223372036854775807, 2);
-    fill();
+    fill(0);
+    fill(10);
     saturate();
     cover();
 }

@@ -63,7 +63,7 @@ module _ (xs : List ℕ) (a : ℕ) where
         funded = λ n. absurd (n refl);
       }
 
-  balance-there : (o : Option Funds) → is-some (Option·map (balance-with a (g .core .ledger .orders)) o) ≡ is-some o
+  balance-there : (o : Option Funds) → is-some (Option·map (balance-with (g .core .ledger .fee) a (g .core .ledger .orders)) o) ≡ is-some o
   balance-there none = refl
   balance-there (some w) = refl
 
@@ -102,7 +102,7 @@ module _ (xs : List ℕ) (a : ℕ) where
             funded = λ n. balance-funded l ∙ u .0;
           }
 
-      silent : (w : Option Funds) (o : Bool) → (is-some w && o) ≡ false → cond o (balance-to (s - 1) (Option·map (balance-with a (g .core .ledger .orders)) w)) [] ≡ []
+      silent : (w : Option Funds) (o : Bool) → (is-some w && o) ≡ false → cond o (balance-to (s - 1) (Option·map (balance-with (g .core .ledger .fee) a (g .core .ledger .orders)) w)) [] ≡ []
       silent none true e = refl
       silent none false e = refl
       silent (some w) false e = refl

@@ -183,10 +183,10 @@ module _ (s : Store) where
     number-same : (j : ℕ) → j < n → t C.orders j C.order-number ≡ s C.orders j C.order-number
     number-same j h = ap (λ (r : Row). r C.order-number) (row-is j h)
 
-    stored : (j : ℕ) → j < n → 0 < t C.orders j C.order-live → Stored (t C.orders j)
+    stored : (j : ℕ) → j < n → 0 < t C.orders j C.order-live → Stored (ledger s .fee) (t C.orders j)
     stored j h l =
         let f = d .held .rows j h (rw (ap (λ (r : Row). r C.order-live) (row-is j h)) at l) in
-        subst Stored (sym (row-is j h)) (record { hold-is = f .hold-is; owner-is = f .owner-is })
+        subst (Stored (ledger s .fee)) (sym (row-is j h)) (record { hold-is = f .hold-is; owner-is = f .owner-is })
 
     bounds : Bounds t
     unfolding cleared remade-maps unrested fill emptied remap
@@ -242,7 +242,7 @@ module _ (s : Store) where
           held =
               record {
                 rows = stored;
-                totals = λ a l z. d .held .totals a l z ∙ sym (ap (λ os. wrap (held a z os)) orders-same);
+                totals = λ a l z. d .held .totals a l z ∙ sym (ap (λ os. wrap (held (ledger s .fee) a z os)) orders-same);
                 counts = λ a l. d .held .counts a l ∙ sym (ap (open-of a) orders-same);
               };
           clients = clients-kept (λ i l. refl) (λ a l. refl) refl (λ j l. refl) (d .clients);

@@ -6,6 +6,8 @@ use mathlib.Core.Option.{Option, none, some}
 use mathlib.Core.List.{List, [], _∷_}
 use native.Mathlib.Omega.{arith}
 use borrow.Author.Tests.{ltb-true, leb-true, eqb-true, eq-eqb}
+use lib.IntN.{ℤ, pos}
+use lib.Signed.{leZ}
 use lib.ListN.{length, getD, set, replicate, length-set, length-append, length-replicate}
 use lib.Dec.{eqb, ltb}
 use Rattle.orderbook.specs.declared.MaybePrice.the-variants.{None}
@@ -17,7 +19,7 @@ use Rattle.accounts.specs.declared.MaybeFunds as F
 use Rattle.accounts.specs.declared.Timing.{Timing}
 use Rattle.table.specs.Live.{Each}
 use Rattle.gateway.specs.Basics.{option, each, is-some}
-use Rattle.gateway.specs.Limits.{owner-slots, session-slots, most-orders, outside, malformed}
+use Rattle.gateway.specs.Limits.{owner-slots, session-slots, most-orders, outside, malformed, bad-fee}
 use Rattle.gateway.specs.Ledger.{Order, Ledger, number-of, funds-of, wallet-of, order-hold, holds-fit}
 use Rattle.gateway.specs.Entry.{is-zero}
 use Rattle.gateway.specs.Saved.{Saved, saved-from, slots, contents}
@@ -27,7 +29,7 @@ use Rattle.gateway.specs.Depth.{Depth, depth-few, levels-few, levels-fit
 use Rattle.gateway.specs.Rest.{Session}
 use Rattle.gateway.specs.Calls.{Gateway}
 use Rattle.gateway.specs.Listing.{listed-number, listed-owner, live, listed-orders, listed-depth, listed-times}
-use Rattle.gateway.specs.Start.{Started, not-started, started, start-unless, entered, accounts-of, bucket-of, by-slot, funds-in, begin, owners-of, listed-tests, listed-ledger, entry-tests, total-tests, set-up-tests, set-up}
+use Rattle.gateway.specs.Start.{Started, not-started, started, start-unless, charging, entered, accounts-of, bucket-of, by-slot, funds-in, begin, owners-of, listed-tests, listed-ledger, entry-tests, total-tests, set-up-tests, set-up}
 use Rattle.gateway.specs.Start.{restored-wallet, restored-wallets, restored-ledger, order-tests, saved-tests, restore-tests, hold-notice-of, empty-depth, restore-saved, restore}
 use Rattle.gateway.specs.Fits.{Unsigned, MaybeFundsFit, AccountsFit, ListedFits, ListingFits, Bytes}
 use Rattle.gateway.proofs.Base.{split}
@@ -40,15 +42,19 @@ use Rattle.gateway.proofs.Restore.{Accounts, nothing-saved, by-slot-len
 use Rattle.gateway.specs.Table.{Rises}
 use Rattle.gateway.specs.Invariant.{CoreOk, FeedOk, Known, Ok, OrderFits, Owned, RestOk, SessionsOk, WalletFits, WalletsFit, at}
 
-abbrev pub Begins : ℕ → List Account → Started → Type 0
-Begins limit l (not-started k) = Unit {0}
-Begins limit l (started g) = Ok g × Accounts limit l (g .core)
+abbrev pub Begins : ℤ → ℕ → List Account → Started → Type 0
+Begins fee limit l (not-started k) = Unit {0}
+Begins fee limit l (started g) = Ok g × Accounts fee limit l (g .core)
 
-start-begins : (limit : ℕ) (l : List Account) (g : Gateway) (ts : Tests ℕ) → (Pass ts → Begins limit l (started g)) → Begins limit l (start-unless ts g)
+start-begins : (fee : ℤ) (limit : ℕ) (l : List Account) (g : Gateway) (ts : Tests ℕ) → (Pass ts → Begins fee limit l (started g)) → Begins fee limit l (start-unless ts g)
 unfolding start-unless
-start-begins limit l g [] h = h tt
-start-begins limit l g (t ∷ ts) h =
-    split (λ b. Begins limit l (cond b (start-unless ts g) (not-started (t .0)))) (t .1) (λ e. start-begins limit l g ts (λ u. h (e, u))) (λ e. tt)
+start-begins fee limit l g [] h = h tt
+start-begins fee limit l g (t ∷ ts) h =
+    split (λ b. Begins fee limit l (cond b (start-unless ts g) (not-started (t .0)))) (t .1) (λ e. start-begins fee limit l g ts (λ u. h (e, u))) (λ e. tt)
+
+charging-begins : (fee : ℤ) (limit : ℕ) (l : List Account) (s : Started) → (leZ (pos 0) fee ≡ true → Begins fee limit l s) → Begins fee limit l (charging fee s)
+unfolding charging
+charging-begins fee limit l s h = split (λ b. Begins fee limit l (cond b s (not-started bad-fee))) (leZ (pos 0) fee) h (λ e. tt)
 
 -- ---- accounts
 
@@ -159,12 +165,12 @@ listed-fit : (xs : List Listed) → ListingFits xs → Each OrderFits (listed-or
 listed-fit [] h = tt
 listed-fit (x ∷ xs) h = each-insert number-of OrderFits (live x) (listed-orders xs) (live-fits x (h .0)) (listed-fit xs (h .1))
 
-pub set-up-begins : (limit last : ℕ) (l : List Account) (xs : List Listed) (timing : Timing) → Unsigned last → AccountsFit l → ListingFits xs →
-    Begins limit l (set-up limit last l xs timing)
+pub set-up-begins : (fee : ℤ) (limit last : ℕ) (l : List Account) (xs : List Listed) (timing : Timing) → Unsigned last → AccountsFit l → ListingFits xs →
+    Begins fee limit l (set-up fee limit last l xs timing)
 unfolding set-up
-set-up-begins limit last l xs timing f a x =
-    start-begins limit l _ (set-up-tests limit last l xs) λ p.
-    let u = pass-append (entry-tests limit last l xs) (total-tests limit last l xs) p in
+set-up-begins fee limit last l xs timing f a x =
+    charging-begins fee limit l _ λ charge. start-begins fee limit l _ (set-up-tests fee limit last l xs) λ p.
+    let u = pass-append (entry-tests limit last l xs) (total-tests fee limit last l xs) p in
     let t = u .0 in
     let v = u .1 in
     let size = accounts-length limit l in
@@ -186,10 +192,10 @@ set-up-begins limit last l xs timing f a x =
               limit = omega arith;
               fit = record { last-fits = f; money-fits = funds-by-slot limit l a; orders-fit = listed-fit xs x; mark-fits = tt };
             };
-        rest-is = begin-ok timing (listed-ledger limit last l xs) (accounts-of limit l) (listed-depth xs) []
+        rest-is = begin-ok timing (listed-ledger fee limit last l xs) (accounts-of limit l) (listed-depth xs) []
             (record { ascending = resting-rises xs ds; fit = v .1 .1 .0; few = listed-few xs (length xs) refl few (v .0); few-trades = omega arith; few-notices = omega arith });
       },
-      record { table = refl; below = t .1 .1 .0; size = size },
+      record { table = refl; below = t .1 .1 .0; size = size; fee-is = refl; fee-good = charge },
     )
 
 -- ---- restore
@@ -233,25 +239,25 @@ values : (os : List Order) → Each SavedOrder os → All OrderFits os
 values [] h = tt
 values (o ∷ os) h = (h .0 .values-fit, values os (h .1))
 
-notices-few : (ws : List (Option Funds)) (os : List Order) → length (each (hold-notice-of ws) os) ≤ length os
-notices-few ws [] = omega arith
-notices-few ws (o ∷ os) =
-    let h = notices-few ws os in
-    let one : length (hold-notice-of ws o) ≤ 1 =
-    split (λ b. length (cond b (o .account ∷ []) []) ≤ 1) (is-some (wallet-of ws o) && not (is-zero (order-hold o))) (λ e. omega arith) (λ e. omega arith) in
-    omega (arith, length-append (hold-notice-of ws o) (each (hold-notice-of ws) os))
+notices-few : (fee : ℤ) (ws : List (Option Funds)) (os : List Order) → length (each (hold-notice-of fee ws) os) ≤ length os
+notices-few fee ws [] = omega arith
+notices-few fee ws (o ∷ os) =
+    let h = notices-few fee ws os in
+    let one : length (hold-notice-of fee ws o) ≤ 1 =
+    split (λ b. length (cond b (o .account ∷ []) []) ≤ 1) (is-some (wallet-of ws o) && not (is-zero (order-hold fee o))) (λ e. omega arith) (λ e. omega arith) in
+    omega (arith, length-append (hold-notice-of fee ws o) (each (hold-notice-of fee ws) os))
 
-empty-feed : (ws : List (Option Funds)) (os : List Order) → length os ≤ most-orders → FeedOk empty-depth [] (each (hold-notice-of ws) os)
+empty-feed : (fee : ℤ) (ws : List (Option Funds)) (os : List Order) → length os ≤ most-orders → FeedOk empty-depth [] (each (hold-notice-of fee ws) os)
 unfolding levels-fit depth-few levels-few
-empty-feed ws os h = record { ascending = tt; fit = refl; few = refl; few-trades = omega arith; few-notices = omega (arith, notices-few ws os) }
+empty-feed fee ws os h = record { ascending = tt; fit = refl; few = refl; few-trades = omega arith; few-notices = omega (arith, notices-few fee ws os) }
 
-restore-saved-begins : (limit : ℕ) (l : List Account) (timing : Timing) (s : Saved) → AccountsFit l → SavedFits s → Begins limit l (restore-saved limit l timing s)
+restore-saved-begins : (fee : ℤ) (limit : ℕ) (l : List Account) (timing : Timing) (s : Saved) → AccountsFit l → SavedFits s → leZ (pos 0) fee ≡ true → Begins fee limit l (restore-saved fee limit l timing s)
 unfolding restore-saved
-restore-saved-begins limit l timing s a f =
-    start-begins limit l _ (restore-tests limit l s) λ p.
-    let t = pass-append (saved-tests limit l s) ((outside, holds-fit (restored-ledger (accounts-of limit l) s)) ∷ []) p in
+restore-saved-begins fee limit l timing s a f charge =
+    start-begins fee limit l _ (restore-tests fee limit l s) λ p.
+    let t = pass-append (saved-tests limit l s) ((outside, holds-fit (restored-ledger fee (accounts-of limit l) s)) ∷ []) p in
     let size = accounts-length limit l in
-    let k = restored-ledger (accounts-of limit l) s in
+    let k = restored-ledger fee (accounts-of limit l) s in
     let fs = by-slot funds-in owner-slots (accounts-of limit l) in
     let ss = slots owner-slots 0 (s .wallets) in
     let m : limit ≤ owner-slots = leb-true limit owner-slots (t .0 .0) in (
@@ -274,18 +280,18 @@ restore-saved-begins limit l timing s a f =
                 mark-fits = f .mark-fits;
               };
             };
-        rest-is = begin-ok timing k (accounts-of limit l) empty-depth (each (hold-notice-of (k .wallets)) (k .orders)) (empty-feed (k .wallets) (k .orders) (f .orders-fit .few));
+        rest-is = begin-ok timing k (accounts-of limit l) empty-depth (each (hold-notice-of fee (k .wallets)) (k .orders)) (empty-feed fee (k .wallets) (k .orders) (f .orders-fit .few));
       },
-      record { table = refl; below = t .0 .1 .0; size = size },
+      record { table = refl; below = t .0 .1 .0; size = size; fee-is = refl; fee-good = charge },
     )
 
-pub restore-begins : (limit : ℕ) (l : List Account) (timing : Timing) (xs : List ℕ) → AccountsFit l → Bytes xs → Begins limit l (restore limit l timing xs)
+pub restore-begins : (fee : ℤ) (limit : ℕ) (l : List Account) (timing : Timing) (xs : List ℕ) → AccountsFit l → Bytes xs → Begins fee limit l (restore fee limit l timing xs)
 unfolding restore
-restore-begins limit l timing xs a b = go (decode xs) (λ s e. decode-fits xs s b e)
+restore-begins fee limit l timing xs a b = charging-begins fee limit l _ (go (decode xs) (λ s e. decode-fits xs s b e))
   where
-    go : (o : Option Saved) → ((s : Saved) → o ≡ some s → SavedFits s) → Begins limit l (option (not-started malformed) (restore-saved limit l timing) o)
-    go none h = tt
-    go (some s) h = restore-saved-begins limit l timing s a (h s refl)
+    go : (o : Option Saved) → ((s : Saved) → o ≡ some s → SavedFits s) → leZ (pos 0) fee ≡ true → Begins fee limit l (option (not-started malformed) (restore-saved fee limit l timing) o)
+    go none h charge = tt
+    go (some s) h charge = restore-saved-begins fee limit l timing s a (h s refl) charge
 
 -- ---- the contents of a core that keeps the invariant fit
 

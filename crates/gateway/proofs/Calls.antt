@@ -127,8 +127,8 @@ stamped-rest t last ms r ok = subst (RestOk t last) (sym (stamped-is ms r)) (ali
 no-more : (c : Core) (n : ℕ) (k : Command) → order-of k ≡ none → CoreOk c → fits-after (command n k) c ≡ true
 unfolding step holds-fit
 no-more c n k e ok =
-    ap (λ x. wallets-fit 0 (c .ledger .wallets) (c .ledger .orders ++ placed 0 n (owner-of k) x)) e
-    ∙ ap (wallets-fit 0 (c .ledger .wallets)) (append-nil (c .ledger .orders)) ∙ ok .holds
+    ap (λ x. wallets-fit (c .ledger .fee) 0 (c .ledger .wallets) (c .ledger .orders ++ placed 0 n (owner-of k) x)) e
+    ∙ ap (wallets-fit (c .ledger .fee) 0 (c .ledger .wallets)) (append-nil (c .ledger .orders)) ∙ ok .holds
 
 -- the next command passes replay's checks
 next-passes : (c : Core) (k : Command) → own-number (next c) k ≡ true → owner-below (length (c .accounts)) k ≡ true → ltb (length (c .flights)) most-in-flight ≡ true →
@@ -211,7 +211,7 @@ enter-new-good s a o c r f l ok rok =
           (or-true (not (places k)) _ (v .0)) (v .1 .1 .0),
       (
         (f .0, (ltb-true (next c) modulus (u .1 .1 .0), kind-fits (next c) a (o .side) (o .qty) (o .kind) (f .1 .0) (f .1 .1))),
-        queued-ok _ _ k _ (u .1 .0) (noticed-ok _ _ (new-notice a o (wallet-at a c)) r (v .1 .0) rok),
+        queued-ok _ _ k _ (u .1 .0) (noticed-ok _ _ (new-notice (c .ledger .fee) a o (wallet-at a c)) r (v .1 .0) rok),
       ),
     ))
 

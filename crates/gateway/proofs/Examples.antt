@@ -43,7 +43,7 @@ use Rattle.risk.specs.Meter.{green}
 use Rattle.gateway.specs.Rest.{Mail, send, close}
 use Rattle.gateway.specs.Entry.{Answer, nothing, account-was, wallet-is, number-is, levels-are, commands, bytes, unless, greet, hear, receive}
 use Rattle.gateway.specs.Calls.{Gateway, Call, add-account, connect, set-paper-collar, wallet, last-seq, depth-levels, receive-from, tick, publish, shut-down, disconnect, detach, take-batch, deliver-event, replay-command, replay-event, finish, checkpoint, Outcome, refused, done, call, within, plan}
-use Rattle.gateway.specs.Start.{Started, not-started, started, set-up, restore, start-unless, restore-saved}
+use Rattle.gateway.specs.Start.{Started, not-started, started, charging, set-up, restore, start-unless, restore-saved}
 use Rattle.gateway.specs.Restart.{next-of}
 
 -- what a caller sees of a call: its code, or its answer and the messages sent
@@ -78,7 +78,7 @@ abbrev timing : Timing
 timing = record { heartbeat = 1000000000; «idle_timeout» = 5000000000 }
 
 abbrev start : Started
-start = set-up 4 0 people [] timing
+start = set-up (pos 0) 4 0 people [] timing
 
 abbrev log-in : ℕ → ℕ → ℕ → Call
 log-in s a token = receive-from s (In.Login 1 a token) 1 9
@@ -329,22 +329,22 @@ abbrev table : List (List Seen × List Seen)
 table =
     (run-from start (opening-calls ++ filled-calls), opening-seen ++ filled-seen)
     ∷ (run-from start burst-calls, burst-seen)
-    ∷ (run-from (set-up 4 9 people book timing) depth-calls, depth-seen)
+    ∷ (run-from (set-up (pos 0) 4 9 people book timing) depth-calls, depth-seen)
     ∷ (run-from start gone-calls, gone-seen)
     ∷ (last-seen (run-from start (collar-calls 5 2 9)) ∷ [], quietly ∷ [])
     ∷ (last-seen (run-from start (collar-calls 4 1 8)) ∷ [], tells (send 3 (Out.Reject Reject.OffMarket 3) ∷ []) ∷ [])
     ∷ (run-from start reject-calls, reject-seen)
     ∷ (run-from start tick-calls, tick-seen)
-    ∷ (run-from (restore 4 people timing saved-bytes) restart-calls, restart-seen)
+    ∷ (run-from (restore (pos 0) 4 people timing saved-bytes) restart-calls, restart-seen)
     ∷ (run-from start refusal-calls, refusal-seen)
-    ∷ (run-from (set-up 4 9 people (L.Stop 10 0 Buy None 1 ∷ []) timing) [], code 2 ∷ [])
-    ∷ (run-from (set-up 257 0 [] [] timing) [], code 5 ∷ [])
-    ∷ (run-from (restore 4 people timing (0 ∷ [])) [], code 11 ∷ [])
+    ∷ (run-from (set-up (pos 0) 4 9 people (L.Stop 10 0 Buy None 1 ∷ []) timing) [], code 2 ∷ [])
+    ∷ (run-from (set-up (pos 0) 257 0 [] [] timing) [], code 5 ∷ [])
+    ∷ (run-from (restore (pos 0) 4 people timing (0 ∷ [])) [], code 11 ∷ [])
     ∷ []
 
 -- each list of calls gives what stands beside it
 pub examples : Each (λ row. row .0 ≡ row .1) table
-unfolding well-formed encode decode within plan own-number owner-below numbers-agree names-below tests reports tick-of add show take-off apply depth-agrees levels-fit levels-few depth-few unless greet hear receive order-of owner-of changes pay paper change step hold fits holds-fit listing-agrees contents start-unless set-up restore-saved restore without look insert replace update place-of filled green
+unfolding well-formed encode decode within plan own-number owner-below numbers-agree names-below tests reports tick-of add show take-off apply depth-agrees levels-fit levels-few depth-few unless greet hear receive order-of owner-of changes pay paper change step hold fits holds-fit listing-agrees contents start-unless charging set-up restore-saved restore without look insert replace update place-of filled green
 examples = (filled, (burst, (depth, (gone, (stays, (moves, (rejects, (ticks, (restarts, (refuses, (foreign, (too-many, (malformed, tt)))))))))))))
   where
     filled : run-from start (opening-calls ++ filled-calls) ≡ opening-seen ++ filled-seen
@@ -353,7 +353,7 @@ examples = (filled, (burst, (depth, (gone, (stays, (moves, (rejects, (ticks, (re
     burst : run-from start burst-calls ≡ burst-seen
     burst = refl
 
-    depth : run-from (set-up 4 9 people book timing) depth-calls ≡ depth-seen
+    depth : run-from (set-up (pos 0) 4 9 people book timing) depth-calls ≡ depth-seen
     depth = refl
 
     gone : run-from start gone-calls ≡ gone-seen
@@ -371,17 +371,17 @@ examples = (filled, (burst, (depth, (gone, (stays, (moves, (rejects, (ticks, (re
     ticks : run-from start tick-calls ≡ tick-seen
     ticks = refl
 
-    restarts : run-from (restore 4 people timing saved-bytes) restart-calls ≡ restart-seen
+    restarts : run-from (restore (pos 0) 4 people timing saved-bytes) restart-calls ≡ restart-seen
     restarts = refl
 
     refuses : run-from start refusal-calls ≡ refusal-seen
     refuses = refl
 
-    foreign : run-from (set-up 4 9 people (L.Stop 10 0 Buy None 1 ∷ []) timing) [] ≡ code 2 ∷ []
+    foreign : run-from (set-up (pos 0) 4 9 people (L.Stop 10 0 Buy None 1 ∷ []) timing) [] ≡ code 2 ∷ []
     foreign = refl
 
-    too-many : run-from (set-up 257 0 [] [] timing) [] ≡ code 5 ∷ []
+    too-many : run-from (set-up (pos 0) 257 0 [] [] timing) [] ≡ code 5 ∷ []
     too-many = refl
 
-    malformed : run-from (restore 4 people timing (0 ∷ [])) [] ≡ code 11 ∷ []
+    malformed : run-from (restore (pos 0) 4 people timing (0 ∷ [])) [] ≡ code 11 ∷ []
     malformed = refl

@@ -50,10 +50,10 @@ module _ (N : ℕ) where
       if-map (map (forget N)) (eqb v 0) (remove-forget n os)
       (update-forget (λ o. with-leaves v (f o)) (λ o. ap (with-leaves v) (h o)) n os)
 
-  pay-forget : (p : ℤ) (q : ℕ) (o : Option Order) (ws : List (Option Funds)) → pay p q (forgotten o) ws ≡ pay p q o ws
+  pay-forget : (fee p : ℤ) (q : ℕ) (o : Option Order) (ws : List (Option Funds)) → pay fee p q (forgotten o) ws ≡ pay fee p q o ws
   unfolding pay
-  pay-forget p q none ws = refl
-  pay-forget p q (some o) ws = refl
+  pay-forget fee p q none ws = refl
+  pay-forget fee p q (some o) ws = refl
 
   paper-forget : (n : ℕ) (l : Ledger) → paper n (forgetting N l) ≡ paper n l
   unfolding paper
@@ -67,7 +67,7 @@ module _ (N : ℕ) where
   unfolding change
   change-forget (mark-by t m p) l = simp (paper-forget t l, paper-forget m l)
   change-forget (fill n p q v) l =
-      simp (left-forget (λ o. o) (λ o. refl) n v (l .orders), find-forget n (l .orders), pay-forget p q (find n (l .orders)) (l .wallets))
+      simp (left-forget (λ o. o) (λ o. refl) n v (l .orders), find-forget n (l .orders), pay-forget (l .fee) p q (find n (l .orders)) (l .wallets))
   change-forget (set-leaves n v) l = ap (λ os. with-orders os l) (update-forget (with-leaves v) (λ o. refl) n (l .orders))
   change-forget (reprice n p v) l = ap (λ os. with-orders os l) (left-forget (with-price p) (λ o. refl) n v (l .orders))
   change-forget (retire n) l = ap (λ os. with-orders os l) (remove-forget n (l .orders))
@@ -95,18 +95,18 @@ module _ (N : ℕ) where
   open-forget a [] = refl
   open-forget a (o ∷ os) = ap (λ n. cond (eqb (o .account) a) (suc n) n) (open-forget a os)
 
-  pub held-forget : (a : ℕ) (s : Side) (os : List Order) → held a s (map (forget N) os) ≡ held a s os
-  held-forget a s [] = refl
-  held-forget a s (o ∷ os) = ap (λ n. held-by a s o +ℤ n) (held-forget a s os)
+  pub held-forget : (fee : ℤ) (a : ℕ) (s : Side) (os : List Order) → held fee a s (map (forget N) os) ≡ held fee a s os
+  held-forget fee a s [] = refl
+  held-forget fee a s (o ∷ os) = ap (λ n. held-by fee a s o +ℤ n) (held-forget fee a s os)
 
-  fits-forget : (a : ℕ) (w : Option Funds) (os : List Order) → wallet-fits a w (map (forget N) os) ≡ wallet-fits a w os
-  fits-forget a none os = refl
-  fits-forget a (some w) os = simp held-forget
+  fits-forget : (fee : ℤ) (a : ℕ) (w : Option Funds) (os : List Order) → wallet-fits fee a w (map (forget N) os) ≡ wallet-fits fee a w os
+  fits-forget fee a none os = refl
+  fits-forget fee a (some w) os = simp held-forget
 
-  all-fit-forget : (a : ℕ) (ws : List (Option Funds)) (os : List Order) → wallets-fit a ws (map (forget N) os) ≡ wallets-fit a ws os
-  all-fit-forget a [] os = refl
-  all-fit-forget a (w ∷ ws) os = ap₂ _&&_ (fits-forget a w os) (all-fit-forget (suc a) ws os)
+  all-fit-forget : (fee : ℤ) (a : ℕ) (ws : List (Option Funds)) (os : List Order) → wallets-fit fee a ws (map (forget N) os) ≡ wallets-fit fee a ws os
+  all-fit-forget fee a [] os = refl
+  all-fit-forget fee a (w ∷ ws) os = ap₂ _&&_ (fits-forget fee a w os) (all-fit-forget fee (suc a) ws os)
 
   pub holds-forget : (l : Ledger) → holds-fit (forgetting N l) ≡ holds-fit l
   unfolding holds-fit
-  holds-forget l = all-fit-forget 0 (l .wallets) (l .orders)
+  holds-forget l = all-fit-forget (l .fee) 0 (l .wallets) (l .orders)

@@ -49,7 +49,7 @@ use Rattle.risk.specs.Meter.{green}
 use Rattle.gateway.specs.Rest.{Mail, send, close}
 use Rattle.gateway.specs.Entry.{Answer, account-was, wallet-is, number-is, levels-are, commands, bytes, unless, greet, hear, receive}
 use Rattle.gateway.specs.Calls.{Call, add-account, connect, set-paper-collar, wallet, last-seq, depth-levels, receive-from, tick, publish, end-session, shut-down, disconnect, detach, take-batch, deliver-event, replay-command, replay-event, finish, checkpoint, within, plan}
-use Rattle.gateway.specs.Start.{Started, set-up, restore, start-unless, restore-saved}
+use Rattle.gateway.specs.Start.{Started, charging, set-up, restore, start-unless, restore-saved}
 use Rattle.gateway.proofs.Examples.{Seen, code, sees, run-from, quietly, tells}
 
 abbrev answers : Answer → Seen
@@ -84,7 +84,7 @@ at p q k = record { price = p; qty = q; orders = k }
 
 abbrev start-0 : Started
 start-0 =
-    set-up 4 4 (member 0 7 9 1 F.None ∷ member 1 8 2 0 (funds (pos 1276) (pos 9)) ∷ member 2 9 9 1 (funds (pos 238) (pos 13))
+    set-up (pos 0) 4 4 (member 0 7 9 1 F.None ∷ member 1 8 2 0 (funds (pos 1276) (pos 9)) ∷ member 2 9 9 1 (funds (pos 238) (pos 13))
     ∷ []) [] (timing 1000000000 5000000000)
 
 abbrev calls-0 : List Call
@@ -121,8 +121,8 @@ seen-0 =
 
 abbrev start-1 : Started
 start-1 =
-    set-up 4 1 (member 0 7 2 9 (funds (pos 1825) (pos 13)) ∷ member 1 8 3 9 (funds (pos 492) (pos 5)) ∷ member 2 9 9 9 (funds (pos 1907) (pos 12))
-    ∷ []) (L.Order 1 2 Buy (pos 98) 5 5 ∷ []) (timing 1000000000 5000000000)
+    set-up (pos 0) 4 1 (member 0 7 2 9 (funds (pos 1825) (pos 13)) ∷ member 1 8 3 9 (funds (pos 492) (pos 5))
+    ∷ member 2 9 9 9 (funds (pos 1907) (pos 12)) ∷ []) (L.Order 1 2 Buy (pos 98) 5 5 ∷ []) (timing 1000000000 5000000000)
 
 abbrev calls-1 : List Call
 calls-1 =
@@ -154,7 +154,7 @@ seen-1 =
 
 abbrev start-2 : Started
 start-2 =
-    set-up 4 7 (member 0 7 9 1 (funds (pos 1792) (pos 18)) ∷ member 1 8 3 9 (funds (pos 1558) (pos 3)) ∷ member 2 9 9 9 F.None
+    set-up (pos 0) 4 7 (member 0 7 9 1 (funds (pos 1792) (pos 18)) ∷ member 1 8 3 9 (funds (pos 1558) (pos 3)) ∷ member 2 9 9 9 F.None
     ∷ []) [] (timing 4 12)
 
 abbrev calls-2 : List Call
@@ -179,7 +179,7 @@ seen-2 =
 
 abbrev start-3 : Started
 start-3 =
-    restore 4 (member 0 7 9 1 F.None ∷ member 1 8 2 0 (funds (pos 1276) (pos 9)) ∷ member 2 9 9 1 (funds (pos 238) (pos 13))
+    restore (pos 0) 4 (member 0 7 9 1 F.None ∷ member 1 8 2 0 (funds (pos 1276) (pos 9)) ∷ member 2 9 9 1 (funds (pos 238) (pos 13))
     ∷ []) (timing 1000000000 5000000000) (6 ∷ 0 ∷ 0 ∷ 0 ∷ 0 ∷ 0 ∷ 0 ∷ 0 ∷ 3 ∷ 99 ∷ 0 ∷ 0 ∷ 0 ∷ 0 ∷ 0 ∷ 0 ∷ 0 ∷ 2 ∷ 0 ∷ 0 ∷ 0 ∷ 1 ∷ 0 ∷ 0 ∷ 0 ∷ 252 ∷ 4
     ∷ 0 ∷ 0 ∷ 0 ∷ 0 ∷ 0 ∷ 0 ∷ 9 ∷ 0 ∷ 0 ∷ 0 ∷ 0 ∷ 0 ∷ 0 ∷ 0 ∷ 2 ∷ 0 ∷ 0 ∷ 0 ∷ 238 ∷ 0 ∷ 0 ∷ 0 ∷ 0 ∷ 0 ∷ 0 ∷ 0 ∷ 13 ∷ 0 ∷ 0 ∷ 0 ∷ 0 ∷ 0 ∷ 0 ∷ 0 ∷ 1 ∷ 0
     ∷ 0 ∷ 0 ∷ 6 ∷ 0 ∷ 0 ∷ 0 ∷ 0 ∷ 0 ∷ 0 ∷ 0 ∷ 0 ∷ 0 ∷ 0 ∷ 0 ∷ 15 ∷ 0 ∷ 0 ∷ 0 ∷ 0 ∷ 0 ∷ 0 ∷ 0 ∷ 2 ∷ 99 ∷ 0 ∷ 0 ∷ 0 ∷ 0 ∷ 0 ∷ 0 ∷ 0 ∷ 1 ∷ 0 ∷ 0 ∷ 0 ∷ 0
@@ -195,7 +195,8 @@ seen-3 =
 
 abbrev start-4 : Started
 start-4 =
-    set-up 4 1 (member 0 7 1 9 F.None ∷ member 1 8 3 2 (funds (pos 966) (pos 12)) ∷ member 2 9 2 2 F.None ∷ []) [] (timing 1000000000 5000000000)
+    set-up (pos 0) 4 1 (member 0 7 1 9 F.None ∷ member 1 8 3 2 (funds (pos 966) (pos 12)) ∷ member 2 9 2 2 F.None
+    ∷ []) [] (timing 1000000000 5000000000)
 
 abbrev calls-4 : List Call
 calls-4 =
@@ -220,8 +221,8 @@ seen-4 =
 
 abbrev start-5 : Started
 start-5 =
-    set-up 4 3 (member 0 7 9 9 (funds (pos 477) (pos 0)) ∷ member 1 8 9 0 (funds (pos 39) (pos 10)) ∷ member 2 9 9 5 (funds (pos 1347) (pos 1))
-    ∷ []) [] (timing 1000000000 5000000000)
+    set-up (pos 0) 4 3 (member 0 7 9 9 (funds (pos 477) (pos 0)) ∷ member 1 8 9 0 (funds (pos 39) (pos 10))
+    ∷ member 2 9 9 5 (funds (pos 1347) (pos 1)) ∷ []) [] (timing 1000000000 5000000000)
 
 abbrev calls-5 : List Call
 calls-5 =
@@ -248,7 +249,7 @@ seen-5 =
 
 abbrev start-6 : Started
 start-6 =
-    set-up 4 7 (member 0 7 9 9 F.None ∷ member 1 8 9 0 F.None ∷ member 2 9 9 2 F.None ∷ []) [] (timing 1000000000 5000000000)
+    set-up (pos 0) 4 7 (member 0 7 9 9 F.None ∷ member 1 8 9 0 F.None ∷ member 2 9 9 2 F.None ∷ []) [] (timing 1000000000 5000000000)
 
 abbrev calls-6 : List Call
 calls-6 =
@@ -278,7 +279,7 @@ seen-6 =
 
 abbrev start-7 : Started
 start-7 =
-    set-up 4 2 (member 0 7 9 0 F.None ∷ member 1 8 2 9 F.None ∷ member 2 9 9 9 F.None ∷ []) [] (timing 5 0)
+    set-up (pos 0) 4 2 (member 0 7 9 0 F.None ∷ member 1 8 2 9 F.None ∷ member 2 9 9 9 F.None ∷ []) [] (timing 5 0)
 
 abbrev calls-7 : List Call
 calls-7 =
@@ -295,8 +296,8 @@ seen-7 =
 
 abbrev start-8 : Started
 start-8 =
-    restore 4 (member 0 7 9 9 F.None ∷ member 1 8 9 0 F.None ∷ member 2 9 9 2 F.None ∷ []) (timing 1000000000 5000000000) (8 ∷ 0 ∷ 0 ∷ 0 ∷ 0 ∷ 0 ∷ 0
-    ∷ 0 ∷ 1 ∷ 99 ∷ 0 ∷ 0 ∷ 0 ∷ 0 ∷ 0 ∷ 0 ∷ 0 ∷ 0 ∷ 0 ∷ 0 ∷ 0 ∷ 0 ∷ 0 ∷ 0 ∷ 0 ∷ [])
+    restore (pos 0) 4 (member 0 7 9 9 F.None ∷ member 1 8 9 0 F.None ∷ member 2 9 9 2 F.None ∷ []) (timing 1000000000 5000000000) (8 ∷ 0 ∷ 0 ∷ 0 ∷ 0
+    ∷ 0 ∷ 0 ∷ 0 ∷ 1 ∷ 99 ∷ 0 ∷ 0 ∷ 0 ∷ 0 ∷ 0 ∷ 0 ∷ 0 ∷ 0 ∷ 0 ∷ 0 ∷ 0 ∷ 0 ∷ 0 ∷ 0 ∷ 0 ∷ [])
 
 abbrev calls-8 : List Call
 calls-8 =
@@ -314,7 +315,7 @@ seen-8 =
 
 abbrev start-9 : Started
 start-9 =
-    set-up 4 0 (member 0 7 9 2 (funds (pos 1243) (negsuc 9223372036854775807)) ∷ member 1 8 2 0 (funds (pos 692) (pos 12))
+    set-up (pos 0) 4 0 (member 0 7 9 2 (funds (pos 1243) (negsuc 9223372036854775807)) ∷ member 1 8 2 0 (funds (pos 692) (pos 12))
     ∷ member 2 9 9 9 (funds (negsuc 9223372036854775807) (pos 13)) ∷ []) [] (timing 1000000000 5000000000)
 
 abbrev calls-9 : List Call
@@ -343,7 +344,7 @@ seen-9 =
 
 abbrev start-10 : Started
 start-10 =
-    set-up 4 5 (member 0 7 9 9 (funds (pos 962) (pos 11)) ∷ member 1 8 9 5 F.None ∷ member 2 9 9 9 F.None ∷ []) (L.Stop 4 0 Sell None 3
+    set-up (pos 0) 4 5 (member 0 7 9 9 (funds (pos 962) (pos 11)) ∷ member 1 8 9 5 F.None ∷ member 2 9 9 9 F.None ∷ []) (L.Stop 4 0 Sell None 3
     ∷ L.Order 2 3 Buy (pos 101) 4 1 ∷ L.Stop 3 0 Buy (Some (pos 100)) 5 ∷ L.Order 1 3 Sell (pos 99) 18446744073709551615 18446744073709551615
     ∷ []) (timing 1000000000 5000000000)
 
@@ -391,7 +392,7 @@ seen-10 =
 
 abbrev start-11 : Started
 start-11 =
-    set-up 257 0 (member 0 7 2 9 F.None ∷ member 1 8 9 9 F.None ∷ member 2 9 9 2 F.None ∷ []) [] (timing 1000000000 5000000000)
+    set-up (pos 0) 257 0 (member 0 7 2 9 F.None ∷ member 1 8 9 9 F.None ∷ member 2 9 9 2 F.None ∷ []) [] (timing 1000000000 5000000000)
 
 abbrev calls-11 : List Call
 calls-11 =
@@ -403,7 +404,7 @@ seen-11 =
 
 abbrev start-12 : Started
 start-12 =
-    set-up 4 7 (member 0 7 9 5 F.None ∷ member 1 8 3 0 (funds (pos 364) (negsuc 4)) ∷ member 2 9 9 9 (funds (pos 1219) (pos 17))
+    set-up (pos 0) 4 7 (member 0 7 9 5 F.None ∷ member 1 8 3 0 (funds (pos 364) (negsuc 4)) ∷ member 2 9 9 9 (funds (pos 1219) (pos 17))
     ∷ []) [] (timing 4 12)
 
 abbrev calls-12 : List Call
@@ -439,7 +440,7 @@ table =
 
 -- each list of calls gives what the Rust gave
 pub from-rust : Each (λ row. row .0 ≡ row .1) table
-unfolding well-formed encode decode within plan own-number owner-below numbers-agree names-below tests reports tick-of add show take-off apply depth-agrees levels-fit levels-few depth-few unless greet hear receive order-of owner-of changes pay paper change step hold fits holds-fit listing-agrees contents start-unless set-up restore-saved restore without look insert replace update place-of filled green
+unfolding well-formed encode decode within plan own-number owner-below numbers-agree names-below tests reports tick-of add show take-off apply depth-agrees levels-fit levels-few depth-few unless greet hear receive order-of owner-of changes pay paper change step hold fits holds-fit listing-agrees contents start-unless charging set-up restore-saved restore without look insert replace update place-of filled green
 from-rust = (row-0, (row-1, (row-2, (row-3, (row-4, (row-5, (row-6, (row-7, (row-8, (row-9, (row-10, (row-11, (row-12, tt)))))))))))))
   where
     row-0 : run-from start-0 calls-0 ≡ seen-0

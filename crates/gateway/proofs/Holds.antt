@@ -6,6 +6,7 @@ use mathlib.Core.List.{List, [], _∷_}
 use Prim.Native.Nat.{ℕ, zero, suc, _+_}
 use native.Mathlib.Omega.{arith}
 use borrow.Author.Tests.{eqb-true}
+use lib.IntN.{ℤ}
 use lib.ListN.{getD}
 use lib.Dec.{eqb}
 use Rattle.accounts.specs.declared.Funds.{Funds}
@@ -19,37 +20,37 @@ use Rattle.gateway.proofs.Base.{split}
 -- ---- all wallets, one by one
 
 abbrev pub fits-at : ℕ → Ledger → Bool
-fits-at a l = wallet-fits a (getD (l .wallets) a none) (l .orders)
+fits-at a l = wallet-fits (l .fee) a (getD (l .wallets) a none) (l .orders)
 
-wallets-each : (k : ℕ) (ws : List (Option Funds)) (os : List Order) → wallets-fit k ws os ≡ true → (i : ℕ) → wallet-fits (k + i) (getD ws i none) os ≡ true
-wallets-each k [] os h i = refl
-wallets-each k (w ∷ ws) os h zero =
+wallets-each : (fee : ℤ) (k : ℕ) (ws : List (Option Funds)) (os : List Order) → wallets-fit fee k ws os ≡ true → (i : ℕ) → wallet-fits fee (k + i) (getD ws i none) os ≡ true
+wallets-each fee k [] os h i = refl
+wallets-each fee k (w ∷ ws) os h zero =
     let e : k + zero ≡ k = omega arith in
-    rw e (and-eq-true-iff (wallet-fits k w os) (wallets-fit (suc k) ws os) .0 h .0)
-wallets-each k (w ∷ ws) os h (suc i) =
+    rw e (and-eq-true-iff (wallet-fits fee k w os) (wallets-fit fee (suc k) ws os) .0 h .0)
+wallets-each fee k (w ∷ ws) os h (suc i) =
     let e : k + suc i ≡ suc k + i = omega arith in
-    rw e (wallets-each (suc k) ws os (and-eq-true-iff (wallet-fits k w os) (wallets-fit (suc k) ws os) .0 h .1) i)
+    rw e (wallets-each fee (suc k) ws os (and-eq-true-iff (wallet-fits fee k w os) (wallets-fit fee (suc k) ws os) .0 h .1) i)
 
-each-wallets : (k : ℕ) (ws : List (Option Funds)) (os : List Order) → ((i : ℕ) → wallet-fits (k + i) (getD ws i none) os ≡ true) → wallets-fit k ws os ≡ true
-each-wallets k [] os h = refl
-each-wallets k (w ∷ ws) os h =
+each-wallets : (fee : ℤ) (k : ℕ) (ws : List (Option Funds)) (os : List Order) → ((i : ℕ) → wallet-fits fee (k + i) (getD ws i none) os ≡ true) → wallets-fit fee k ws os ≡ true
+each-wallets fee k [] os h = refl
+each-wallets fee k (w ∷ ws) os h =
     let e : k + zero ≡ k = omega arith in
-    and-eq-true-iff (wallet-fits k w os) (wallets-fit (suc k) ws os) .1
-    (ap (λ j. wallet-fits j w os) (sym e) ∙ h zero, each-wallets (suc k) ws os (λ i. let f : k + suc i ≡ suc k + i = omega arith in ap (λ j. wallet-fits j (getD ws i none) os) (sym f) ∙ h (suc i)))
+    and-eq-true-iff (wallet-fits fee k w os) (wallets-fit fee (suc k) ws os) .1
+    (ap (λ j. wallet-fits fee j w os) (sym e) ∙ h zero, each-wallets fee (suc k) ws os (λ i. let f : k + suc i ≡ suc k + i = omega arith in ap (λ j. wallet-fits fee j (getD ws i none) os) (sym f) ∙ h (suc i)))
 
 pub holds-each : (l : Ledger) → holds-fit l ≡ true → (a : ℕ) → fits-at a l ≡ true
 unfolding holds-fit
-holds-each l h a = let e : 0 + a ≡ a = omega arith in ap (λ j. wallet-fits j (getD (l .wallets) a none) (l .orders)) (sym e) ∙ wallets-each 0 (l .wallets) (l .orders) h a
+holds-each l h a = let e : 0 + a ≡ a = omega arith in ap (λ j. wallet-fits (l .fee) j (getD (l .wallets) a none) (l .orders)) (sym e) ∙ wallets-each (l .fee) 0 (l .wallets) (l .orders) h a
 
 each-holds : (l : Ledger) → ((a : ℕ) → fits-at a l ≡ true) → holds-fit l ≡ true
 unfolding holds-fit
-each-holds l h = each-wallets 0 (l .wallets) (l .orders) (λ i. let e : 0 + i ≡ i = omega arith in ap (λ j. wallet-fits j (getD (l .wallets) i none) (l .orders)) e ∙ h i)
+each-holds l h = each-wallets (l .fee) 0 (l .wallets) (l .orders) (λ i. let e : 0 + i ≡ i = omega arith in ap (λ j. wallet-fits (l .fee) j (getD (l .wallets) i none) (l .orders)) e ∙ h i)
 
 -- each total of a wallet
-pub side-fits : (a : ℕ) (w : Option Funds) (os : List Order) → is-some w ≡ true → wallet-fits a w os ≡ true → (z : Side) → fits (held a z os) ≡ true
-side-fits a none os e h z = absurd (false≢true e)
-side-fits a (some f) os e h Buy = and-eq-true-iff (fits (held a Buy os)) (fits (held a Sell os)) .0 h .0
-side-fits a (some f) os e h Sell = and-eq-true-iff (fits (held a Buy os)) (fits (held a Sell os)) .0 h .1
+pub side-fits : (fee : ℤ) (a : ℕ) (w : Option Funds) (os : List Order) → is-some w ≡ true → wallet-fits fee a w os ≡ true → (z : Side) → fits (held fee a z os) ≡ true
+side-fits fee a none os e h z = absurd (false≢true e)
+side-fits fee a (some f) os e h Buy = and-eq-true-iff (fits (held fee a Buy os)) (fits (held fee a Sell os)) .0 h .0
+side-fits fee a (some f) os e h Sell = and-eq-true-iff (fits (held fee a Buy os)) (fits (held fee a Sell os)) .0 h .1
 
 -- ---- some totals change, and the others stay
 
@@ -61,9 +62,9 @@ abbrev is-in : ℕ → Side → List Total → Bool
 is-in a z [] = false
 is-in a z (t ∷ ts) = (eqb (t .0) a && same-side z (t .1)) || is-in a z ts
 
-abbrev pub totals-fit : List Total → List Order → Bool
-totals-fit [] os = true
-totals-fit (t ∷ ts) os = fits (held (t .0) (t .1) os) && totals-fit ts os
+abbrev pub totals-fit : ℤ → List Total → List Order → Bool
+totals-fit fee [] os = true
+totals-fit fee (t ∷ ts) os = fits (held fee (t .0) (t .1) os) && totals-fit fee ts os
 
 -- t is another total
 abbrev pub Other : ℕ → Side → Total → Type 0
@@ -75,15 +76,15 @@ side-is Buy Sell e = absurd (false≢true e)
 side-is Sell Buy e = absurd (false≢true e)
 side-is Sell Sell e = refl
 
-listed-fits : (a : ℕ) (z : Side) (ts : List Total) (os : List Order) → totals-fit ts os ≡ true → is-in a z ts ≡ true → fits (held a z os) ≡ true
-listed-fits a z [] os h e = absurd (false≢true e)
-listed-fits a z (t ∷ ts) os h e =
-    let u = and-eq-true-iff (fits (held (t .0) (t .1) os)) (totals-fit ts os) .0 h in
-    split (λ b. ((eqb (t .0) a && same-side z (t .1)) ≡ b) → b || is-in a z ts ≡ true → fits (held a z os) ≡ true) (eqb (t .0) a && same-side z (t .1))
+listed-fits : (fee : ℤ) (a : ℕ) (z : Side) (ts : List Total) (os : List Order) → totals-fit fee ts os ≡ true → is-in a z ts ≡ true → fits (held fee a z os) ≡ true
+listed-fits fee a z [] os h e = absurd (false≢true e)
+listed-fits fee a z (t ∷ ts) os h e =
+    let u = and-eq-true-iff (fits (held fee (t .0) (t .1) os)) (totals-fit fee ts os) .0 h in
+    split (λ b. ((eqb (t .0) a && same-side z (t .1)) ≡ b) → b || is-in a z ts ≡ true → fits (held fee a z os) ≡ true) (eqb (t .0) a && same-side z (t .1))
     (λ _ q _.
     let v = and-eq-true-iff (eqb (t .0) a) (same-side z (t .1)) .0 q in
-    ap₂ (λ b w. fits (held b w os)) (sym (eqb-true (t .0) a (v .0))) (side-is z (t .1) (v .1)) ∙ u .0)
-    (λ _ _ k. listed-fits a z ts os (u .1) k) refl e
+    ap₂ (λ b w. fits (held fee b w os)) (sym (eqb-true (t .0) a (v .0))) (side-is z (t .1) (v .1)) ∙ u .0)
+    (λ _ _ k. listed-fits fee a z ts os (u .1) k) refl e
 
 not-listed : (a : ℕ) (z : Side) (ts : List Total) → is-in a z ts ≡ false → Each (Other a z) ts
 not-listed a z [] e = tt
@@ -99,26 +100,26 @@ both-ways false false f g = refl
 -- where every total fitted, those that changed decide
 pub holds-listed : (l k : Ledger) (ts : List Total) → holds-fit l ≡ true → ((a : ℕ) → is-some (getD (k .wallets) a none) ≡ is-some (getD (l .wallets) a none)) →
     Each (λ t. is-some (getD (l .wallets) (t .0) none) ≡ true) ts →
-    ((a : ℕ) (z : Side) → is-some (getD (l .wallets) a none) ≡ true → Each (Other a z) ts → held a z (k .orders) ≡ held a z (l .orders)) →
-    holds-fit k ≡ totals-fit ts (k .orders)
-holds-listed l k ts h same mine stay = both-ways (holds-fit k) (totals-fit ts (k .orders)) (λ e. down e ts mine) (λ e. each-holds k (up e))
+    ((a : ℕ) (z : Side) → is-some (getD (l .wallets) a none) ≡ true → Each (Other a z) ts → held (k .fee) a z (k .orders) ≡ held (l .fee) a z (l .orders)) →
+    holds-fit k ≡ totals-fit (k .fee) ts (k .orders)
+holds-listed l k ts h same mine stay = both-ways (holds-fit k) (totals-fit (k .fee) ts (k .orders)) (λ e. down e ts mine) (λ e. each-holds k (up e))
   where
-    down : holds-fit k ≡ true → (us : List Total) → Each (λ t. is-some (getD (l .wallets) (t .0) none) ≡ true) us → totals-fit us (k .orders) ≡ true
+    down : holds-fit k ≡ true → (us : List Total) → Each (λ t. is-some (getD (l .wallets) (t .0) none) ≡ true) us → totals-fit (k .fee) us (k .orders) ≡ true
     down e [] m = refl
     down e (t ∷ us) m =
-        and-eq-true-iff (fits (held (t .0) (t .1) (k .orders))) (totals-fit us (k .orders)) .1
-        (side-fits (t .0) (getD (k .wallets) (t .0) none) (k .orders) (same (t .0) ∙ m .0) (holds-each k e (t .0)) (t .1), down e us (m .1))
+        and-eq-true-iff (fits (held (k .fee) (t .0) (t .1) (k .orders))) (totals-fit (k .fee) us (k .orders)) .1
+        (side-fits (k .fee) (t .0) (getD (k .wallets) (t .0) none) (k .orders) (same (t .0) ∙ m .0) (holds-each k e (t .0)) (t .1), down e us (m .1))
 
-    total : totals-fit ts (k .orders) ≡ true → (a : ℕ) → is-some (getD (l .wallets) a none) ≡ true → (z : Side) → fits (held a z (k .orders)) ≡ true
+    total : totals-fit (k .fee) ts (k .orders) ≡ true → (a : ℕ) → is-some (getD (l .wallets) a none) ≡ true → (z : Side) → fits (held (k .fee) a z (k .orders)) ≡ true
     total e a w z =
-        split (λ b. (is-in a z ts ≡ b) → fits (held a z (k .orders)) ≡ true) (is-in a z ts) (λ _ i. listed-fits a z ts (k .orders) e i)
-        (λ _ i. ap fits (stay a z w (not-listed a z ts i)) ∙ side-fits a (getD (l .wallets) a none) (l .orders) w (holds-each l h a) z) refl
+        split (λ b. (is-in a z ts ≡ b) → fits (held (k .fee) a z (k .orders)) ≡ true) (is-in a z ts) (λ _ i. listed-fits (k .fee) a z ts (k .orders) e i)
+        (λ _ i. ap fits (stay a z w (not-listed a z ts i)) ∙ side-fits (l .fee) a (getD (l .wallets) a none) (l .orders) w (holds-each l h a) z) refl
 
-    up : totals-fit ts (k .orders) ≡ true → (a : ℕ) → fits-at a k ≡ true
+    up : totals-fit (k .fee) ts (k .orders) ≡ true → (a : ℕ) → fits-at a k ≡ true
     up e a = by (getD (k .wallets) a none) refl
       where
-        by : (w : Option Funds) → getD (k .wallets) a none ≡ w → wallet-fits a w (k .orders) ≡ true
+        by : (w : Option Funds) → getD (k .wallets) a none ≡ w → wallet-fits (k .fee) a w (k .orders) ≡ true
         by none q = refl
         by (some f) q =
             let v = sym (same a) ∙ ap is-some q in
-            and-eq-true-iff (fits (held a Buy (k .orders))) (fits (held a Sell (k .orders))) .1 (total e a v Buy, total e a v Sell)
+            and-eq-true-iff (fits (held (k .fee) a Buy (k .orders))) (fits (held (k .fee) a Sell (k .orders))) .1 (total e a v Buy, total e a v Sell)

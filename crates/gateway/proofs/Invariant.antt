@@ -23,7 +23,7 @@ use Rattle.accounts.specs.declared.Account.{Account}
 use Rattle.accounts.specs.declared.Funds.{Funds}
 use Rattle.accounts.specs.declared.MaybeFunds as F
 use Rattle.gateway.specs.Limits.{owner-slots, most-orders, most-in-flight}
-use Rattle.wallet.specs.Wallet.{settle}
+use Rattle.wallet.specs.Wallet.{charged, settle}
 use Rattle.gateway.specs.Ledger.{Order, Ledger, New, Item, account, command, event, order-of, owner-of, placed, number-of, find, remove, with-leaves, with-price, left}
 use Rattle.gateway.specs.Ledger.{Change, mark-by, fill, set-leaves, reprice, retire, changes, change, changed, pay, paper, funds-of, step, same-side, order-hold, held, fits, wallet-fits, wallets-fit, holds-fit, open-of}
 use Rattle.gateway.specs.Basics.{is-some}
@@ -189,10 +189,10 @@ set-fits i v [] g h = tt
 set-fits zero v (w ∷ ws) g h = (g, h .1)
 set-fits (suc i) v (w ∷ ws) g h = (h .0, set-fits i v ws g (h .1))
 
-pay-fits : (p : ℤ) (q : ℕ) (o : Option Order) (ws : List (Option Funds)) → WalletsFit ws → WalletsFit (pay p q o ws)
+pay-fits : (fee p : ℤ) (q : ℕ) (o : Option Order) (ws : List (Option Funds)) → WalletsFit ws → WalletsFit (pay fee p q o ws)
 unfolding pay
-pay-fits p q none ws h = h
-pay-fits p q (some o) ws h = set-fits (o .account) _ ws (settled-fits (o .side) p q (getD ws (o .account) none)) h
+pay-fits fee p q none ws h = h
+pay-fits fee p q (some o) ws h = set-fits (o .account) _ ws (settled-fits (o .side) (charged fee (o .side) p) q (getD ws (o .account) none)) h
 
 change-fits : (x : Change) (l : Ledger) → ChangeFits x → LedgerFits l → LedgerFits (change x l)
 unfolding change
@@ -206,7 +206,7 @@ change-fits (mark-by t m p) l h k =
 change-fits (fill n p q v) l h k =
     record {
       last-fits = k .last-fits;
-      money-fits = pay-fits p q (find n (l .orders)) (l .wallets) (k .money-fits);
+      money-fits = pay-fits (l .fee) p q (find n (l .orders)) (l .wallets) (k .money-fits);
       orders-fit = left-fits (λ o. o) (λ o g. g) n v (l .orders) h (k .orders-fit);
       mark-fits = k .mark-fits;
     }
@@ -272,16 +272,16 @@ step-fits ref (event n e) l r h k = changed-fits (changes n e) l (changes-fit n 
 -- ---- wallets
 
 -- a change leaves the last number, and pays into the wallets at most
-change-pays : (P : List (Option Funds) → Type 0) → ((p : ℤ) (q : ℕ) (o : Option Order) (ws : List (Option Funds)) → P ws → P (pay p q o ws)) →
+change-pays : (P : List (Option Funds) → Type 0) → ((fee p : ℤ) (q : ℕ) (o : Option Order) (ws : List (Option Funds)) → P ws → P (pay fee p q o ws)) →
     (x : Change) (l : Ledger) → P (l .wallets) → (change x l .last ≡ l .last) × P (change x l .wallets)
 unfolding change
 change-pays P h (mark-by t m p) l w = (refl, w)
-change-pays P h (fill n p q v) l w = (refl, h p q _ _ w)
+change-pays P h (fill n p q v) l w = (refl, h _ p q _ _ w)
 change-pays P h (set-leaves n v) l w = (refl, w)
 change-pays P h (reprice n p v) l w = (refl, w)
 change-pays P h (retire n) l w = (refl, w)
 
-pub paid : (P : List (Option Funds) → Type 0) → ((p : ℤ) (q : ℕ) (o : Option Order) (ws : List (Option Funds)) → P ws → P (pay p q o ws)) →
+pub paid : (P : List (Option Funds) → Type 0) → ((fee p : ℤ) (q : ℕ) (o : Option Order) (ws : List (Option Funds)) → P ws → P (pay fee p q o ws)) →
     (xs : List Change) (l : Ledger) → P (l .wallets) → (changed xs l .last ≡ l .last) × P (changed xs l .wallets)
 paid P h [] l w = (refl, w)
 paid P h (x ∷ xs) l w =
@@ -290,12 +290,25 @@ paid P h (x ∷ xs) l w =
     (u .0 ∙ t .0, u .1)
 
 pub last-stays : (xs : List Change) (l : Ledger) → changed xs l .last ≡ l .last
-last-stays xs l = paid (λ ws. Unit {0}) (λ p q o ws u. tt) xs l tt .0
+last-stays xs l = paid (λ ws. Unit {0}) (λ fee p q o ws u. tt) xs l tt .0
 
-pay-length : (m : ℕ) (p : ℤ) (q : ℕ) (o : Option Order) (ws : List (Option Funds)) → length ws ≡ m → length (pay p q o ws) ≡ m
+fee-stays : (x : Change) (l : Ledger) → change x l .fee ≡ l .fee
+unfolding change
+fee-stays (mark-by t m p) l = refl
+fee-stays (fill n p q v) l = refl
+fee-stays (set-leaves n v) l = refl
+fee-stays (reprice n p v) l = refl
+fee-stays (retire n) l = refl
+
+-- nothing changes the fee
+pub fees-stay : (xs : List Change) (l : Ledger) → changed xs l .fee ≡ l .fee
+fees-stay [] l = refl
+fees-stay (x ∷ xs) l = fees-stay xs (change x l) ∙ fee-stays x l
+
+pay-length : (m : ℕ) (fee p : ℤ) (q : ℕ) (o : Option Order) (ws : List (Option Funds)) → length ws ≡ m → length (pay fee p q o ws) ≡ m
 unfolding pay
-pay-length m p q none ws h = h
-pay-length m p q (some o) ws h = rw length-set h
+pay-length m fee p q none ws h = h
+pay-length m fee p q (some o) ws h = rw length-set h
 
 some-map : (f : Funds → Funds) (w : Option Funds) → is-some (Option·map f w) ≡ is-some w
 some-map f none = refl
@@ -309,13 +322,13 @@ still-some (w ∷ ws) zero v h (suc j) = refl
 still-some (w ∷ ws) (suc i) v h zero = refl
 still-some (w ∷ ws) (suc i) v h (suc j) = still-some ws i v h j
 
-pub pay-some : (p : ℤ) (q : ℕ) (o : Option Order) (ws : List (Option Funds)) (j : ℕ) → is-some (getD (pay p q o ws) j none) ≡ is-some (getD ws j none)
+pub pay-some : (fee p : ℤ) (q : ℕ) (o : Option Order) (ws : List (Option Funds)) (j : ℕ) → is-some (getD (pay fee p q o ws) j none) ≡ is-some (getD ws j none)
 unfolding pay
-pay-some p q none ws j = refl
-pay-some p q (some o) ws j = still-some ws (o .account) _ (some-map (settle (o .side) p q) (getD ws (o .account) none)) j
+pay-some fee p q none ws j = refl
+pay-some fee p q (some o) ws j = still-some ws (o .account) _ (some-map (settle (o .side) (charged fee (o .side) p) q) (getD ws (o .account) none)) j
 
-pay-owned : (t : List (Option Account)) (p : ℤ) (q : ℕ) (o : Option Order) (ws : List (Option Funds)) → Owned t ws → Owned t (pay p q o ws)
-pay-owned t p q o ws h j = pay-some p q o ws j ∙ h j
+pay-owned : (t : List (Option Account)) (fee p : ℤ) (q : ℕ) (o : Option Order) (ws : List (Option Funds)) → Owned t ws → Owned t (pay fee p q o ws)
+pay-owned t fee p q o ws h j = pay-some fee p q o ws j ∙ h j
 
 -- a new account's wallet
 owned-set : (a : Account) (t : List (Option Account)) (ws : List (Option Funds)) → a .id < length t → length t ≤ length ws → Owned t ws →
@@ -330,27 +343,27 @@ owned-set a t ws l m h j =
 
 -- ---- hold totals
 
-fit-set : (k i : ℕ) (v : Option Funds) (ws : List (Option Funds)) (os : List Order) → wallet-fits (k + i) v os ≡ true →
-    wallets-fit k ws os ≡ true → wallets-fit k (set ws i v) os ≡ true
-fit-set k i v [] os h t = t
-fit-set k zero v (w ∷ ws) os h t =
-    and-eq-true-iff (wallet-fits k v os) (wallets-fit (suc k) ws os) .1
-    (rw add-zero at h, and-eq-true-iff (wallet-fits k w os) (wallets-fit (suc k) ws os) .0 t .1)
-fit-set k (suc i) v (w ∷ ws) os h t =
-    let u = and-eq-true-iff (wallet-fits k w os) (wallets-fit (suc k) ws os) .0 t in
+fit-set : (fee : ℤ) (k i : ℕ) (v : Option Funds) (ws : List (Option Funds)) (os : List Order) → wallet-fits fee (k + i) v os ≡ true →
+    wallets-fit fee k ws os ≡ true → wallets-fit fee k (set ws i v) os ≡ true
+fit-set fee k i v [] os h t = t
+fit-set fee k zero v (w ∷ ws) os h t =
+    and-eq-true-iff (wallet-fits fee k v os) (wallets-fit fee (suc k) ws os) .1
+    (rw add-zero at h, and-eq-true-iff (wallet-fits fee k w os) (wallets-fit fee (suc k) ws os) .0 t .1)
+fit-set fee k (suc i) v (w ∷ ws) os h t =
+    let u = and-eq-true-iff (wallet-fits fee k w os) (wallets-fit fee (suc k) ws os) .0 t in
     let e : k + suc i ≡ suc k + i = omega arith in
-    and-eq-true-iff (wallet-fits k w os) (wallets-fit (suc k) (set ws i v) os) .1 (u .0, fit-set (suc k) i v ws os (rw e at h) (u .1))
+    and-eq-true-iff (wallet-fits fee k w os) (wallets-fit fee (suc k) (set ws i v) os) .1 (u .0, fit-set fee (suc k) i v ws os (rw e at h) (u .1))
 
 -- an account without orders holds nothing
-held-none : (a : ℕ) (s : Side) (os : List Order) → open-of a os ≡ 0 → held a s os ≡ pos 0
-held-none a s [] h = refl
-held-none a s (o ∷ os) h =
-    split (λ x. (cond x (suc (open-of a os)) (open-of a os) ≡ 0) → cond (x && same-side s (o .side)) (order-hold o) (pos 0) +ℤ held a s os ≡ pos 0)
-    (eqb (o .account) a) (λ e z. absurd (omega (arith, z))) (λ e z. +ℤ-idl (held a s os) ∙ held-none a s os z) h
+held-none : (fee : ℤ) (a : ℕ) (s : Side) (os : List Order) → open-of a os ≡ 0 → held fee a s os ≡ pos 0
+held-none fee a s [] h = refl
+held-none fee a s (o ∷ os) h =
+    split (λ x. (cond x (suc (open-of a os)) (open-of a os) ≡ 0) → cond (x && same-side s (o .side)) (order-hold fee o) (pos 0) +ℤ held fee a s os ≡ pos 0)
+    (eqb (o .account) a) (λ e z. absurd (omega (arith, z))) (λ e z. +ℤ-idl (held fee a s os) ∙ held-none fee a s os z) h
 
-fits-none : (a : ℕ) (v : Option Funds) (os : List Order) → open-of a os ≡ 0 → wallet-fits a v os ≡ true
-fits-none a none os h = refl
-fits-none a (some w) os h = simp (held-none a Buy os h, held-none a Sell os h, zero-fits)
+fits-none : (fee : ℤ) (a : ℕ) (v : Option Funds) (os : List Order) → open-of a os ≡ 0 → wallet-fits fee a v os ≡ true
+fits-none fee a none os h = refl
+fits-none fee a (some w) os h = simp (held-none fee a Buy os h, held-none fee a Sell os h, zero-fits)
 
 -- ---- the run of commands in flight: consecutive numbers that end at the last
 
@@ -412,7 +425,7 @@ core-ok from (account a) c r f ok p =
       few = ok .few;
       runs = ok .runs;
       flying = ok .flying;
-      holds = fit-set 0 (a .id) _ (c .ledger .wallets) (c .ledger .orders) (fits-none (0 + a .id) (funds-of (a .funds)) (c .ledger .orders) (rw zero-add (eqb-true _ 0 (p .1 .1 .0)))) (ok .holds);
+      holds = fit-set _ 0 (a .id) _ (c .ledger .wallets) (c .ledger .orders) (fits-none _ (0 + a .id) (funds-of (a .funds)) (c .ledger .orders) (rw zero-add (eqb-true _ 0 (p .1 .1 .0)))) (ok .holds);
       limit = rw length-set (ok .limit);
       fit = step-fits (from .client-ref) (account a) (c .ledger) r f (ok .fit);
     }

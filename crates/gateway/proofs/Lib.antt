@@ -25,3 +25,4 @@ pub mod Levels
 pub mod AtPrice
 pub mod Depths
 pub mod Joins
+pub mod Fee

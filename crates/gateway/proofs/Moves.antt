@@ -91,7 +91,7 @@ module _ {n : ℕ} where
   pub unchanged : {x : Change} → Of n x → (l : Ledger) → find n (l .orders) ≡ none → change x l ≡ l
   unfolding change pay
   unchanged (fills p q v) l e =
-      ap₂ (λ w os. record { last = l .last; wallets = pay p q w (l .wallets); orders = os; mark = l .mark }) e (left-turned n (λ o. o) v (l .orders) ∙ turned-none n (leaves (λ o. o) v) (l .orders) e)
+      ap₂ (λ w os. record { last = l .last; wallets = pay (l .fee) p q w (l .wallets); orders = os; mark = l .mark; fee = l .fee }) e (left-turned n (λ o. o) v (l .orders) ∙ turned-none n (leaves (λ o. o) v) (l .orders) e)
   unchanged (sets v) l e = ap (λ os. with-orders os l) (update-turned n (with-leaves v) (l .orders) ∙ turned-none n (becomes (set-leaves n v)) (l .orders) e)
   unchanged (reprices p v) l e = ap (λ os. with-orders os l) (left-turned n (with-price p) v (l .orders) ∙ turned-none n (leaves (with-price p) v) (l .orders) e)
   unchanged retires l e = ap (λ os. with-orders os l) (remove-turned n (l .orders) ∙ turned-none n (λ o. []) (l .orders) e)
@@ -135,41 +135,42 @@ rise-changed x l = rise-shrinks 0 (shrunk (x ∷ []) l)
 -- nor is it changed who has a wallet
 pub wallets-changed : (x : Change) (l : Ledger) (a : ℕ) → is-some (getD (change x l .wallets) a none) ≡ is-some (getD (l .wallets) a none)
 wallets-changed x l =
-    paid (λ ws. (a : ℕ) → is-some (getD ws a none) ≡ is-some (getD (l .wallets) a none)) (λ p q o ws h a. pay-some p q o ws a ∙ h a) (x ∷ []) l (λ a. refl) .1
+    paid (λ ws. (a : ℕ) → is-some (getD ws a none) ≡ is-some (getD (l .wallets) a none)) (λ fee p q o ws h a. pay-some fee p q o ws a ∙ h a) (x ∷ []) l (λ a. refl) .1
 
 -- ---- the mark
 
--- the orders and the wallets are the same
+-- the orders, the wallets and the fee are the same
 pub record Alike (l k : Ledger) : Type 0 where
   pub orders-are : l .orders ≡ k .orders
   pub wallets-are : l .wallets ≡ k .wallets
+  pub fees-are : l .fee ≡ k .fee
 
 pub marked-alike : (a b : ℕ) (p : ℤ) (l : Ledger) → Alike (change (mark-by a b p) l) l
 unfolding change
-marked-alike a b p l = record { orders-are = refl; wallets-are = refl }
+marked-alike a b p l = record { orders-are = refl; wallets-are = refl; fees-are = refl }
 
 pub changed-alike : (x : Change) {l k : Ledger} → Alike l k → Alike (change x l) (change x k)
 unfolding change
-changed-alike (mark-by a b p) h = record { orders-are = h .orders-are; wallets-are = h .wallets-are }
+changed-alike (mark-by a b p) h = record { orders-are = h .orders-are; wallets-are = h .wallets-are; fees-are = h .fees-are }
 changed-alike (fill n p q v) h =
-    record { orders-are = ap (left n (λ o. o) v) (h .orders-are); wallets-are = ap₂ (λ os ws. pay p q (find n os) ws) (h .orders-are) (h .wallets-are) }
-changed-alike (set-leaves n v) h = record { orders-are = ap (update number-of n (with-leaves v)) (h .orders-are); wallets-are = h .wallets-are }
-changed-alike (reprice n p v) h = record { orders-are = ap (left n (with-price p) v) (h .orders-are); wallets-are = h .wallets-are }
-changed-alike (retire n) h = record { orders-are = ap (remove n) (h .orders-are); wallets-are = h .wallets-are }
+    record { orders-are = ap (left n (λ o. o) v) (h .orders-are); wallets-are = λ i. pay (h .fees-are i) p q (find n (h .orders-are i)) (h .wallets-are i); fees-are = h .fees-are }
+changed-alike (set-leaves n v) h = record { orders-are = ap (update number-of n (with-leaves v)) (h .orders-are); wallets-are = h .wallets-are; fees-are = h .fees-are }
+changed-alike (reprice n p v) h = record { orders-are = ap (left n (with-price p) v) (h .orders-are); wallets-are = h .wallets-are; fees-are = h .fees-are }
+changed-alike (retire n) h = record { orders-are = ap (remove n) (h .orders-are); wallets-are = h .wallets-are; fees-are = h .fees-are }
 
 pub holds-alike : {l k : Ledger} → Alike l k → holds-fit l ≡ holds-fit k
 unfolding holds-fit
-holds-alike h = ap₂ (λ ws os. wallets-fit 0 ws os) (h .wallets-are) (h .orders-are)
+holds-alike h = λ i. wallets-fit (h .fees-are i) 0 (h .wallets-are i) (h .orders-are i)
 
 pub notices-alike : (x : Change) {l k : Ledger} → Alike l k → change-notices x l ≡ change-notices x k
 notices-alike x h =
-    ap₂ (λ ws os. option [] (λ o. cond (is-some (wallet-of ws o)) (order-notices x o) []) (named x os)) (h .wallets-are) (h .orders-are)
+    λ i. option [] (λ o. cond (is-some (wallet-of (h .wallets-are i) o)) (order-notices (h .fees-are i) x o) []) (named x (h .orders-are i))
 
 -- ---- holds
 
-pub held-append : (a : ℕ) (z : Side) (l m : List Order) → held a z (l ++ m) ≡ held a z l +ℤ held a z m
-held-append a z [] m = sym (+ℤ-idl (held a z m))
-held-append a z (o ∷ l) m = ap (λ n. held-by a z o +ℤ n) (held-append a z l m) ∙ sym (+ℤ-assoc (held-by a z o) (held a z l) (held a z m))
+pub held-append : (fee : ℤ) (a : ℕ) (z : Side) (l m : List Order) → held fee a z (l ++ m) ≡ held fee a z l +ℤ held fee a z m
+held-append fee a z [] m = sym (+ℤ-idl (held fee a z m))
+held-append fee a z (o ∷ l) m = ap (λ n. held-by fee a z o +ℤ n) (held-append fee a z l m) ∙ sym (+ℤ-assoc (held-by fee a z o) (held fee a z l) (held fee a z m))
 
 swap : (x y h : ℤ) → y +ℤ h ≡ x +ℤ h +ℤ (y -ℤ x)
 swap x y h =
@@ -180,11 +181,11 @@ swap x y h =
     )
 
 -- an order with nothing left holds nothing
-nothing-left : (b : Side) (p : MaybePrice) → hold b p 0 ≡ pos 0
+nothing-left : (fee : ℤ) (b : Side) (p : MaybePrice) → hold fee b p 0 ≡ pos 0
 unfolding hold place-of
-nothing-left b None = refl
-nothing-left Buy (Some p) = rw *ℤ-zero refl
-nothing-left Sell (Some p) = refl
+nothing-left fee b None = refl
+nothing-left fee Buy (Some p) = rw *ℤ-zero refl
+nothing-left fee Sell (Some p) = refl
 
 absent-rises : (n k : ℕ) (os : List Order) → n < k → Rise k os → Absent number-of n os
 unfolding look
@@ -192,49 +193,50 @@ absent-rises n k [] h t = refl
 absent-rises n k (o ∷ os) h t = rw (ne-eqb (o .number) n (λ e. omega (arith, t .0, e))) (absent-rises n (suc (o .number)) os (omega (arith, t .0)) (t .1))
 
 module _ (a : ℕ) (z : Side) where
-  held-turned : (n : ℕ) (g : Order → List Order) (k : ℕ) (os : List Order) → Rise k os →
-      held a z (turned n g os) ≡ held a z os +ℤ option (pos 0) (λ o. held a z (g o) -ℤ held-by a z o) (find n os)
-  unfolding look turned
-  held-turned n g k [] t = refl
-  held-turned n g k (o ∷ os) t =
-      let rest = turned n g os in
-      let x = held-by a z o in
-      let m : Option Order → ℤ = option (pos 0) (λ r. held a z (g r) -ℤ held-by a z r) in
-      let u = held-turned n g (suc (o .number)) os (t .1) in
-      split (λ b. (eqb (o .number) n ≡ b) → held a z (cond b (g o ++ rest) (o ∷ rest)) ≡ x +ℤ held a z os +ℤ m (cond b (some o) (find n os))) (eqb (o .number) n)
-      (λ _ e.
-      let same : held a z rest ≡ held a z os =
-      u ∙ ap (λ w. held a z os +ℤ m w) (absent-rises n (suc (o .number)) os (let q = eqb-true (o .number) n e in omega arith) (t .1)) ∙ +ℤ-idr (held a z os) in
-      held-append a z (g o) rest ∙ ap (λ w. held a z (g o) +ℤ w) same ∙ swap x (held a z (g o)) (held a z os))
-      (λ _ e. ap (λ w. x +ℤ w) u ∙ sym (+ℤ-assoc x (held a z os) _)) refl
-
   -- an order of the account and the side
   abbrev pub mine : Order → Bool
   mine o = eqb (o .account) a && same-side z (o .side)
 
-  held-leaves : (f : Order → Order) (v : ℕ) (o : Order) → (f o .account ≡ o .account) × (f o .side ≡ o .side) → held a z (leaves f v o) ≡ cond (mine o) (hold (o .side) (f o .price) v) (pos 0)
+module _ (fee : ℤ) (a : ℕ) (z : Side) where
+  held-turned : (n : ℕ) (g : Order → List Order) (k : ℕ) (os : List Order) → Rise k os →
+      held fee a z (turned n g os) ≡ held fee a z os +ℤ option (pos 0) (λ o. held fee a z (g o) -ℤ held-by fee a z o) (find n os)
+  unfolding look turned
+  held-turned n g k [] t = refl
+  held-turned n g k (o ∷ os) t =
+      let rest = turned n g os in
+      let x = held-by fee a z o in
+      let m : Option Order → ℤ = option (pos 0) (λ r. held fee a z (g r) -ℤ held-by fee a z r) in
+      let u = held-turned n g (suc (o .number)) os (t .1) in
+      split (λ b. (eqb (o .number) n ≡ b) → held fee a z (cond b (g o ++ rest) (o ∷ rest)) ≡ x +ℤ held fee a z os +ℤ m (cond b (some o) (find n os))) (eqb (o .number) n)
+      (λ _ e.
+      let same : held fee a z rest ≡ held fee a z os =
+      u ∙ ap (λ w. held fee a z os +ℤ m w) (absent-rises n (suc (o .number)) os (let q = eqb-true (o .number) n e in omega arith) (t .1)) ∙ +ℤ-idr (held fee a z os) in
+      held-append fee a z (g o) rest ∙ ap (λ w. held fee a z (g o) +ℤ w) same ∙ swap x (held fee a z (g o)) (held fee a z os))
+      (λ _ e. ap (λ w. x +ℤ w) u ∙ sym (+ℤ-assoc x (held fee a z os) _)) refl
+
+  held-leaves : (f : Order → Order) (v : ℕ) (o : Order) → (f o .account ≡ o .account) × (f o .side ≡ o .side) → held fee a z (leaves f v o) ≡ cond (mine a z o) (hold fee (o .side) (f o .price) v) (pos 0)
   held-leaves f v o h =
-      split (λ b. (eqb v 0 ≡ b) → held a z (cond b [] (with-leaves v (f o) ∷ [])) ≡ cond (mine o) (hold (o .side) (f o .price) v) (pos 0)) (eqb v 0)
-      (λ _ e. split (λ b. pos 0 ≡ cond b (hold (o .side) (f o .price) v) (pos 0)) (mine o) (λ _. sym (ap (hold (o .side) (f o .price)) (eqb-true v 0 e) ∙ nothing-left (o .side) (f o .price))) (λ _. refl))
-      (λ _ e. +ℤ-idr _ ∙ ap₂ (λ b s. cond (eqb b a && same-side z s) (hold s (f o .price) v) (pos 0)) (h .0) (h .1)) refl
+      split (λ b. (eqb v 0 ≡ b) → held fee a z (cond b [] (with-leaves v (f o) ∷ [])) ≡ cond (mine a z o) (hold fee (o .side) (f o .price) v) (pos 0)) (eqb v 0)
+      (λ _ e. split (λ b. pos 0 ≡ cond b (hold fee (o .side) (f o .price) v) (pos 0)) (mine a z o) (λ _. sym (ap (hold fee (o .side) (f o .price)) (eqb-true v 0 e) ∙ nothing-left fee (o .side) (f o .price))) (λ _. refl))
+      (λ _ e. +ℤ-idr _ ∙ ap₂ (λ b s. cond (eqb b a && same-side z s) (hold fee s (f o .price) v) (pos 0)) (h .0) (h .1)) refl
 
   -- what it holds afterwards
-  held-becomes : {n : ℕ} {x : Change} → Of n x → (o : Order) → held a z (becomes x o) ≡ cond (mine o) (hold-after x o) (pos 0)
+  held-becomes : {n : ℕ} {x : Change} → Of n x → (o : Order) → held fee a z (becomes x o) ≡ cond (mine a z o) (hold-after fee x o) (pos 0)
   held-becomes (fills p q v) o = held-leaves (λ r. r) v o (refl, refl)
   held-becomes (sets v) o = +ℤ-idr _
   held-becomes (reprices p v) o = held-leaves (with-price p) v o (refl, refl)
-  held-becomes retires o = split (λ b. pos 0 ≡ cond b (pos 0) (pos 0)) (mine o) (λ _. refl) (λ _. refl)
+  held-becomes retires o = split (λ b. pos 0 ≡ cond b (pos 0) (pos 0)) (mine a z o) (λ _. refl) (λ _. refl)
 
   -- what the account's orders of the side hold more, where x is a change of the order
   abbrev pub hold-move : Change → Option Order → ℤ
-  hold-move x w = option (pos 0) (λ o. cond (mine o) (hold-after x o -ℤ order-hold o) (pos 0)) w
+  hold-move x w = option (pos 0) (λ o. cond (mine a z o) (hold-after fee x o -ℤ order-hold fee o) (pos 0)) w
 
-  moves-by : {n : ℕ} {x : Change} → Of n x → (w : Option Order) → option (pos 0) (λ o. held a z (becomes x o) -ℤ held-by a z o) w ≡ hold-move x w
+  moves-by : {n : ℕ} {x : Change} → Of n x → (w : Option Order) → option (pos 0) (λ o. held fee a z (becomes x o) -ℤ held-by fee a z o) w ≡ hold-move x w
   moves-by c none = refl
   moves-by {x = x} c (some o) =
-      ap (λ h. h -ℤ held-by a z o) (held-becomes c o)
-      ∙ split (λ b. cond b (hold-after x o) (pos 0) -ℤ cond b (order-hold o) (pos 0) ≡ cond b (hold-after x o -ℤ order-hold o) (pos 0)) (mine o) (λ _. refl) (λ _. refl)
+      ap (λ h. h -ℤ held-by fee a z o) (held-becomes c o)
+      ∙ split (λ b. cond b (hold-after fee x o) (pos 0) -ℤ cond b (order-hold fee o) (pos 0) ≡ cond b (hold-after fee x o -ℤ order-hold fee o) (pos 0)) (mine a z o) (λ _. refl) (λ _. refl)
 
-  pub held-changed : {n : ℕ} {x : Change} → Of n x → (l : Ledger) → Rise 0 (l .orders) → held a z (change x l .orders) ≡ held a z (l .orders) +ℤ hold-move x (find n (l .orders))
+  pub held-changed : {n : ℕ} {x : Change} → Of n x → (l : Ledger) → Rise 0 (l .orders) → held fee a z (change x l .orders) ≡ held fee a z (l .orders) +ℤ hold-move x (find n (l .orders))
   held-changed {n} {x} c l r =
-      ap (held a z) (orders-turned c l) ∙ held-turned n (becomes x) 0 (l .orders) r ∙ ap (λ m. held a z (l .orders) +ℤ m) (moves-by c (find n (l .orders)))
+      ap (held fee a z) (orders-turned c l) ∙ held-turned n (becomes x) 0 (l .orders) r ∙ ap (λ m. held fee a z (l .orders) +ℤ m) (moves-by c (find n (l .orders)))

@@ -9,6 +9,8 @@ use mathlib.Core.Option.{Option, none, some}
 use mathlib.Core.List.{List, [], _∷_, _++_}
 use native.Mathlib.Omega.{arith}
 use borrow.Author.Tests.{eqb-true, ne-eqb}
+use lib.IntN.{ℤ, pos}
+use lib.Signed.{leZ}
 use lib.ListN.{length}
 use lib.Dec.{eqb, ltb, leb}
 use Rattle.orderbook.specs.declared.Event.the-variants.{Rejected}
@@ -17,7 +19,7 @@ use Rattle.orderbook.specs.declared.Listed.{Listed}
 use Rattle.accounts.specs.declared.Account.{Account}
 use Rattle.accounts.specs.declared.Timing.{Timing}
 use Rattle.gateway.specs.Basics.{option, is-some}
-use Rattle.gateway.specs.Limits.{malformed}
+use Rattle.gateway.specs.Limits.{malformed, bad-fee}
 use Rattle.table.specs.Live.{look, without}
 use Rattle.gateway.specs.Ledger.{Order, Ledger, New, Item, account, command, event, order-of, owner-of, placed, find, remove, with-orders, Change, retire, changes, change, changed, step}
 use Rattle.gateway.specs.Saved.{Saved}
@@ -27,7 +29,7 @@ use Rattle.gateway.specs.Rest.{Mail, stamped}
 use Rattle.gateway.specs.Entry.{Answer, Plan, refuse, quiet, records}
 use Rattle.gateway.specs.Deliver.{notices-of}
 use Rattle.gateway.specs.Calls.{Gateway, Call, plan, done, carry-out, call}
-use Rattle.gateway.specs.Start.{Started, not-started, started, start-unless, set-up, restore, restore-saved}
+use Rattle.gateway.specs.Start.{Started, not-started, started, start-unless, charging, set-up, restore, restore-saved}
 use Rattle.gateway.specs.Fits.{Unsigned, AccountsFit, ListingFits, Bytes, CallFits, CallsFit}
 use Rattle.gateway.specs.Restart.{next-of, final}
 use Rattle.gateway.proofs.Base.{split}
@@ -168,8 +170,8 @@ refuses g ok t (y ∷ xs) x a n i why ms h f fx e =
 
 -- ---- from set-up, and from restore: nothing is in flight
 
-starts : (limit : ℕ) (l : List Account) (s : Started) (g : Gateway) → Begins limit l s → (s ≡ started g → g .core .flights ≡ []) → s ≡ started g → RefusesAsRust g
-starts limit l s g b f e = refuses g (subst (Begins limit l) e b .0) (rw (f e) tt)
+starts : (fee : ℤ) (limit : ℕ) (l : List Account) (s : Started) (g : Gateway) → Begins fee limit l s → (s ≡ started g → g .core .flights ≡ []) → s ≡ started g → RefusesAsRust g
+starts fee limit l s g b f e = refuses g (subst (Begins fee limit l) e b .0) (rw (f e) tt)
 
 none-flying : (ts : Tests ℕ) (k g : Gateway) → k .core .flights ≡ [] → start-unless ts k ≡ started g → g .core .flights ≡ []
 unfolding start-unless
@@ -178,16 +180,24 @@ none-flying (t ∷ ts) k g h e =
     split (λ b. cond b (start-unless ts k) (not-started (t .0)) ≡ started g → g .core .flights ≡ []) (t .1) (λ _ q. none-flying ts k g h q)
     (λ _ q. absurd (let z : _≡_ {A = ℕ} 0 1 = cc in omega (arith, z))) e
 
-pub refuses-after-set-up : (limit last : ℕ) (l : List Account) (listing : List Listed) (timing : Timing) (g : Gateway) → Unsigned last → AccountsFit l →
-    ListingFits listing → set-up limit last l listing timing ≡ started g → RefusesAsRust g
-unfolding set-up
-refuses-after-set-up limit last l listing timing g f a x e = starts limit l _ g (set-up-begins limit last l listing timing f a x) (none-flying _ _ g refl) e
+-- whatever the fee
+judged : (fee : ℤ) (s : Started) (g : Gateway) → (s ≡ started g → g .core .flights ≡ []) → charging fee s ≡ started g → g .core .flights ≡ []
+unfolding charging
+judged fee s g h e =
+    split (λ b. cond b s (not-started bad-fee) ≡ started g → g .core .flights ≡ []) (leZ (pos 0) fee) (λ _ q. h q)
+    (λ _ q. absurd (let z : _≡_ {A = ℕ} 0 1 = cc in omega (arith, z))) e
 
-pub refuses-after-restore : (limit : ℕ) (l : List Account) (timing : Timing) (bs : List ℕ) (g : Gateway) → AccountsFit l → Bytes bs →
-    restore limit l timing bs ≡ started g → RefusesAsRust g
+pub refuses-after-set-up : (fee : ℤ) (limit last : ℕ) (l : List Account) (listing : List Listed) (timing : Timing) (g : Gateway) → Unsigned last → AccountsFit l →
+    ListingFits listing → set-up fee limit last l listing timing ≡ started g → RefusesAsRust g
+unfolding set-up
+refuses-after-set-up fee limit last l listing timing g f a x e =
+    starts fee limit l _ g (set-up-begins fee limit last l listing timing f a x) (judged fee _ g (none-flying _ _ g refl)) e
+
+pub refuses-after-restore : (fee : ℤ) (limit : ℕ) (l : List Account) (timing : Timing) (bs : List ℕ) (g : Gateway) → AccountsFit l → Bytes bs →
+    restore fee limit l timing bs ≡ started g → RefusesAsRust g
 unfolding restore restore-saved
-refuses-after-restore limit l timing bs g a b e = starts limit l _ g (restore-begins limit l timing bs a b) (go (decode bs)) e
+refuses-after-restore fee limit l timing bs g a b e = starts fee limit l _ g (restore-begins fee limit l timing bs a b) (judged fee _ g (go (decode bs))) e
   where
-    go : (s : Option Saved) → option (not-started malformed) (restore-saved limit l timing) s ≡ started g → g .core .flights ≡ []
+    go : (s : Option Saved) → option (not-started malformed) (restore-saved fee limit l timing) s ≡ started g → g .core .flights ≡ []
     go none q = absurd (let z : _≡_ {A = ℕ} 0 1 = cc in omega (arith, z))
     go (some s) q = none-flying _ _ g refl q

@@ -15,6 +15,7 @@ use mathlib.Core.Option.{Option, none, some, Option·map}
 use mathlib.Core.List.{List, [], _∷_, _++_, map, append-nil, append-assoc}
 use native.Mathlib.Omega.{arith}
 use borrow.Author.Tests.{ltb-true, lt-ltb, eqb-true}
+use lib.IntN.{ℤ}
 use lib.ListN.{length, getD, set, replicate, length-set}
 use lib.Dec.{ltb}
 use Rattle.orderbook.specs.declared.Side.the-variants.{Buy, Sell}
@@ -23,21 +24,21 @@ use Rattle.accounts.specs.declared.Account.{Account}
 use Rattle.accounts.specs.declared.Funds.{Funds}
 use Rattle.accounts.specs.declared.Timing.{Timing}
 use Rattle.gateway.specs.Basics.{option, is-some}
-use Rattle.gateway.specs.Limits.{malformed}
-use Rattle.gateway.specs.Ledger.{Order, Item, account, command, event, order-hold, open-of, step, replayed}
+use Rattle.gateway.specs.Limits.{malformed, bad-fee}
+use Rattle.gateway.specs.Ledger.{Order, Item, account, command, event, order-hold, open-of, changes, step, replayed}
 use Rattle.gateway.specs.Saved.{contents, opening}
 use Rattle.gateway.specs.Bytes.{encode, decode}
 use Rattle.gateway.specs.Core.{Tests, Pass, Origin, system, Core, tests, core-step, accounts-after}
 use Rattle.gateway.specs.Rest.{Rest, no-session, stamped}
 use Rattle.gateway.specs.Entry.{bytes, Plan, refuse, quiet, records, unless, balance-with}
 use Rattle.gateway.specs.Calls.{Gateway, Call, checkpoint, replay-tests, plan, refused, done, carry-out, call}
-use Rattle.gateway.specs.Start.{Started, not-started, started, entered, all-below, set-up, restore, restore-saved}
+use Rattle.gateway.specs.Start.{Started, not-started, started, charging, entered, all-below, set-up, restore, restore-saved}
 use Rattle.gateway.specs.Fits.{Unsigned, AccountsFit, ListingFits, Bytes, CallFits, CallsFit}
 use Rattle.gateway.specs.Restart.{next-of, items-of, final, record-of, added, as-call, on-done, replay, later, all-later, forget, forgetting, ledger-of, SameBooks, Restarts}
 use Rattle.gateway.proofs.Base.{split}
 use Rattle.gateway.proofs.Forget.{above, step-forget, open-forget, held-forget}
 use Rattle.gateway.proofs.View.{view, step-view, tests-view}
-use Rattle.gateway.proofs.Invariant.{core-ok, last-stays}
+use Rattle.gateway.proofs.Invariant.{core-ok, last-stays, fees-stay}
 use Rattle.gateway.proofs.Calls.{Good, plan-good, unless-pass, stamped-rest}
 use Rattle.gateway.proofs.Restore.{Accounts, begun-from, restores, opening-contents, view-now}
 use Rattle.gateway.proofs.Bytes.{decode-encode}
@@ -113,16 +114,19 @@ below-more n (b ∷ l) a h g =
     let u = and-eq-true-iff (ltb (b .id) n) (all-below n l) .0 h in
     rw (u .0) (below-more n l a (u .1) g)
 
-item-accounts : (limit : ℕ) (l : List Account) (from : Origin) (i : Item) (c : Core) → Pass (tests i c) → Accounts limit l c → Accounts limit (l ++ added (i ∷ [])) (core-step from i c)
-unfolding tests
-item-accounts limit l from (account a) c p t =
+item-accounts : (fee : ℤ) (limit : ℕ) (l : List Account) (from : Origin) (i : Item) (c : Core) → Pass (tests i c) → Accounts fee limit l c → Accounts fee limit (l ++ added (i ∷ [])) (core-step from i c)
+unfolding step tests
+item-accounts fee limit l from (account a) c p t =
     record {
       table = rw (t .table) (sym (entered-more (replicate limit none) l a));
       below = below-more limit l a (t .below) (rw (t .size) at (ltb-true (a .id) (length (c .accounts)) (p .0)));
       size = rw length-set (t .size);
+      fee-is = t .fee-is;
+      fee-good = t .fee-good;
     }
-item-accounts limit l from (command n k) c p t = rw append-nil (record { table = t .table; below = t .below; size = t .size })
-item-accounts limit l from (event n e) c p t = rw append-nil (record { table = t .table; below = t .below; size = t .size })
+item-accounts fee limit l from (command n k) c p t = rw append-nil (record { table = t .table; below = t .below; size = t .size; fee-is = t .fee-is; fee-good = t .fee-good })
+item-accounts fee limit l from (event n e) c p t =
+    rw append-nil (record { table = t .table; below = t .below; size = t .size; fee-is = fees-stay (changes n e) (c .ledger) ∙ t .fee-is; fee-good = t .fee-good })
 
 added-append : (is js : List Item) → added (is ++ js) ≡ added is ++ added js
 added-append [] js = refl
@@ -130,18 +134,18 @@ added-append (account a ∷ is) js = ap (λ l. a ∷ l) (added-append is js)
 added-append (command n k ∷ is) js = added-append is js
 added-append (event n e ∷ is) js = added-append is js
 
-carry-accounts : (limit : ℕ) (l : List Account) (g : Gateway) (p : Plan) → Good (g .core) p → Accounts limit l (g .core) →
-    Accounts limit (l ++ added (items-of (carry-out (g .core) p))) (next-of g (carry-out (g .core) p) .core)
-carry-accounts limit l g (refuse k) h t = rw append-nil t
-carry-accounts limit l g (quiet a ms r) h t = rw append-nil t
-carry-accounts limit l g (records from i ms r) h t = item-accounts limit l from i (g .core) (h .0) t
+carry-accounts : (fee : ℤ) (limit : ℕ) (l : List Account) (g : Gateway) (p : Plan) → Good (g .core) p → Accounts fee limit l (g .core) →
+    Accounts fee limit (l ++ added (items-of (carry-out (g .core) p))) (next-of g (carry-out (g .core) p) .core)
+carry-accounts fee limit l g (refuse k) h t = rw append-nil t
+carry-accounts fee limit l g (quiet a ms r) h t = rw append-nil t
+carry-accounts fee limit l g (records from i ms r) h t = item-accounts fee limit l from i (g .core) (h .0) t
 
-final-accounts : (limit : ℕ) (l : List Account) (g : Gateway) (xs : List Call) → CallsFit xs → Ok g → Accounts limit l (g .core) →
-    Accounts limit (l ++ added (record-of g xs)) (final g xs .core)
-final-accounts limit l g [] f ok t = rw append-nil t
-final-accounts limit l g (x ∷ xs) f ok t =
-    let u = final-accounts limit (l ++ added (items-of (call g x))) (next-of g (call g x)) xs (f .1) (call-ok g x (f .0) ok)
-    (carry-accounts limit l g (plan (g .core) (g .rest) x) (good g x (f .0) ok) t) in
+final-accounts : (fee : ℤ) (limit : ℕ) (l : List Account) (g : Gateway) (xs : List Call) → CallsFit xs → Ok g → Accounts fee limit l (g .core) →
+    Accounts fee limit (l ++ added (record-of g xs)) (final g xs .core)
+final-accounts fee limit l g [] f ok t = rw append-nil t
+final-accounts fee limit l g (x ∷ xs) f ok t =
+    let u = final-accounts fee limit (l ++ added (items-of (call g x))) (next-of g (call g x)) xs (f .1) (call-ok g x (f .0) ok)
+    (carry-accounts fee limit l g (plan (g .core) (g .rest) x) (good g x (f .0) ok) t) in
     rw (added-append (items-of (call g x)) (record-of (next-of g (call g x)) xs), ← append-assoc) u
 
 -- ---- replay
@@ -211,38 +215,40 @@ final-append g (x ∷ xs) ys = final-append (next-of g (call g x)) xs ys
 
 -- ---- what is read from a ledger
 
-held-same : (n : ℕ) (os : List Order) → map order-hold (map (forget n) os) ≡ map order-hold os
-held-same n [] = refl
-held-same n (o ∷ os) = ap (λ t. order-hold o ∷ t) (held-same n os)
+held-same : (fee : ℤ) (n : ℕ) (os : List Order) → map (order-hold fee) (map (forget n) os) ≡ map (order-hold fee) os
+held-same fee n [] = refl
+held-same fee n (o ∷ os) = ap (λ t. order-hold fee o ∷ t) (held-same fee n os)
 
-balance-same : (n a : ℕ) (w : Option Funds) (os : List Order) → Option·map (balance-with a (map (forget n) os)) w ≡ Option·map (balance-with a os) w
-balance-same n a none os = refl
-balance-same n a (some w) os = simp (held-forget n a Buy os, held-forget n a Sell os)
+balance-same : (fee : ℤ) (n a : ℕ) (w : Option Funds) (os : List Order) → Option·map (balance-with fee a (map (forget n) os)) w ≡ Option·map (balance-with fee a os) w
+balance-same fee n a none os = refl
+balance-same fee n a (some w) os = simp (held-forget n fee a Buy os, held-forget n fee a Sell os)
 
 same-books : (n : ℕ) (c d : Core) → d .ledger ≡ forgetting n (c .ledger) → SameBooks n c d
 same-books n c d e =
     record {
       last = ap (λ l. l .last) e;
       mark = ap (λ l. l .mark) e;
+      fee = ap (λ l. l .fee) e;
       orders = ap (λ l. l .orders) e;
-      holds = ap (λ l. map order-hold (l .orders)) e ∙ held-same n (c .ledger .orders);
-      wallet = λ a. ap (λ l. Option·map (balance-with a (l .orders)) (getD (l .wallets) a none)) e ∙ balance-same n a (getD (c .ledger .wallets) a none) (c .ledger .orders);
+      holds = ap (λ l. map (order-hold (l .fee)) (l .orders)) e ∙ held-same (c .ledger .fee) n (c .ledger .orders);
+      wallet = λ a. ap (λ l. Option·map (balance-with (l .fee) a (l .orders)) (getD (l .wallets) a none)) e ∙ balance-same (c .ledger .fee) n a (getD (c .ledger .wallets) a none) (c .ledger .orders);
       open-count = λ a. ap (λ l. open-of a (l .orders)) e ∙ open-forget n a (c .ledger .orders);
     }
 
 -- ---- demand 3
 
 -- from a start g with the accounts l, any calls xs, an accepted checkpoint of the bytes bs there, and any calls ys after it
-restart : (limit : ℕ) (l : List Account) (timing : Timing) (g : Gateway) → Ok g → Accounts limit l (g .core) →
+restart : (fee : ℤ) (limit : ℕ) (l : List Account) (timing : Timing) (g : Gateway) → Ok g → Accounts fee limit l (g .core) →
     (xs ys : List Call) (room : ℕ) (bs : List ℕ) (h : Gateway) → CallsFit xs → CallsFit ys →
     call (final g xs) (checkpoint room) ≡ done (bytes bs) [] [] h →
     all-later (final g xs .core .ledger .last) (record-of (final g xs) ys) →
-    Restarts limit (l ++ added (record-of g xs)) timing (final g xs .core .ledger .last) bs (record-of (final g xs) ys) (final g (xs ++ (checkpoint room ∷ ys)))
-unfolding plan at-view restore ledger-of
-restart limit l timing g ok t xs ys room bs h f f′ e late =
+    Restarts fee limit (l ++ added (record-of g xs)) timing (final g xs .core .ledger .last) bs (record-of (final g xs) ys) (final g (xs ++ (checkpoint room ∷ ys)))
+unfolding plan at-view charging restore ledger-of
+restart fee limit l timing g ok t xs ys room bs h f f′ e late =
     let m = final g xs in
     let N = m .core .ledger .last in
     let mok = final-ok g xs f ok in
+    let mat = final-accounts fee limit l g xs f ok t in
     let k = checkpointed m _ (encode (contents (m .core .ledger))) bs h e in
     let d : decode bs ≡ some (contents (m .core .ledger)) = ap decode (k .0) ∙ decode-encode (contents (m .core .ledger)) (contents-fit (m .core) (mok .core-is)) in
     let u = leads N m ys f′ mok (omega arith) late (begun-from timing (m .core) .rest) refl in
@@ -251,36 +257,39 @@ restart limit l timing g ok t xs ys room bs h f f′ e late =
     record {
       begun = at-view N (m .core) (begun-from timing (m .core) .rest);
       accepts =
-          ap (option (not-started malformed) (restore-saved limit (l ++ added (record-of g xs)) timing)) d
-          ∙ restores limit (l ++ added (record-of g xs)) timing (m .core) (mok .core-is) (final-accounts limit l g xs f ok t)
+          ap (λ b. cond b (option (not-started malformed) (restore-saved fee limit (l ++ added (record-of g xs)) timing) (decode bs)) (not-started bad-fee)) (mat .fee-good)
+          ∙ ap (option (not-started malformed) (restore-saved fee limit (l ++ added (record-of g xs)) timing)) d
+          ∙ ap (λ y. restore-saved y limit (l ++ added (record-of g xs)) timing (contents (m .core .ledger))) (sym (mat .fee-is))
+          ∙ restores fee limit (l ++ added (record-of g xs)) timing (m .core) (mok .core-is) mat
           ∙ ap (λ c. started (record { core = c; rest = begun-from timing (m .core) .rest })) (sym (view-now (m .core) (mok .core-is)));
       ended = at-view N (final m ys .core) (u .0);
       replays = u .1;
       agrees =
           same-books N (final g (xs ++ (checkpoint room ∷ ys)) .core) (view N (final m ys .core)) (ap (λ n. forgetting N (n .core .ledger)) (sym same));
       counted =
-          ap (Option·map (λ s. replayed (record-of m ys) (opening s))) d
+          ap (Option·map (λ s. replayed (record-of m ys) (opening fee s))) d
+          ∙ ap (λ y. some (replayed (record-of m ys) (opening y (contents (m .core .ledger))))) (sym (mat .fee-is))
           ∙ ap (λ c. some (replayed (record-of m ys) c)) (opening-contents (m .core) (mok .core-is) ∙ sym (ap (λ c. c .ledger) (view-now (m .core) (mok .core-is))))
           ∙ ap some (u .2);
     }
 
 -- the claim of a list that begins with g: every accepted checkpoint in it, and all that follows it up to any moment
-pub record Demand3 (limit : ℕ) (l : List Account) (g : Gateway) : Type 0 where
+pub record Demand3 (fee : ℤ) (limit : ℕ) (l : List Account) (g : Gateway) : Type 0 where
   pub restarts : (timing : Timing) (xs ys : List Call) (room : ℕ) (bs : List ℕ) (h : Gateway) → CallsFit xs → CallsFit ys →
       call (final g xs) (checkpoint room) ≡ done (bytes bs) [] [] h →
       all-later (final g xs .core .ledger .last) (record-of (final g xs) ys) →
-      Restarts limit (l ++ added (record-of g xs)) timing (final g xs .core .ledger .last) bs (record-of (final g xs) ys) (final g (xs ++ (checkpoint room ∷ ys)))
+      Restarts fee limit (l ++ added (record-of g xs)) timing (final g xs .core .ledger .last) bs (record-of (final g xs) ys) (final g (xs ++ (checkpoint room ∷ ys)))
 
-demand-3 : (limit : ℕ) (l : List Account) (s : Started) (g : Gateway) → Begins limit l s → s ≡ started g → Demand3 limit l g
-demand-3 limit l s g b e =
-    let t : Begins limit l (started g) = subst (Begins limit l) e b in
-    record { restarts = λ timing. restart limit l timing g (t .0) (t .1) }
+demand-3 : (fee : ℤ) (limit : ℕ) (l : List Account) (s : Started) (g : Gateway) → Begins fee limit l s → s ≡ started g → Demand3 fee limit l g
+demand-3 fee limit l s g b e =
+    let t : Begins fee limit l (started g) = subst (Begins fee limit l) e b in
+    record { restarts = λ timing. restart fee limit l timing g (t .0) (t .1) }
 
 -- a list may start with set-up, and with restore
-pub after-set-up : (limit last : ℕ) (l : List Account) (listing : List Listed) (timing : Timing) (g : Gateway) → Unsigned last → AccountsFit l → ListingFits listing →
-    set-up limit last l listing timing ≡ started g → Demand3 limit l g
-after-set-up limit last l listing timing g f a x e = demand-3 limit l _ g (set-up-begins limit last l listing timing f a x) e
+pub after-set-up : (fee : ℤ) (limit last : ℕ) (l : List Account) (listing : List Listed) (timing : Timing) (g : Gateway) → Unsigned last → AccountsFit l → ListingFits listing →
+    set-up fee limit last l listing timing ≡ started g → Demand3 fee limit l g
+after-set-up fee limit last l listing timing g f a x e = demand-3 fee limit l _ g (set-up-begins fee limit last l listing timing f a x) e
 
-pub after-restore : (limit : ℕ) (l : List Account) (timing : Timing) (bs : List ℕ) (g : Gateway) → AccountsFit l → Bytes bs →
-    restore limit l timing bs ≡ started g → Demand3 limit l g
-after-restore limit l timing bs g a b e = demand-3 limit l _ g (restore-begins limit l timing bs a b) e
+pub after-restore : (fee : ℤ) (limit : ℕ) (l : List Account) (timing : Timing) (bs : List ℕ) (g : Gateway) → AccountsFit l → Bytes bs →
+    restore fee limit l timing bs ≡ started g → Demand3 fee limit l g
+after-restore fee limit l timing bs g a b e = demand-3 fee limit l _ g (restore-begins fee limit l timing bs a b) e

@@ -4,6 +4,8 @@ use mathlib.Core.Bool.{true}
 use mathlib.Core.Path.{_≡_, refl, ap, ap₂, sym, _∙_, subst}
 use mathlib.Core.Option.{Option, none, some}
 use mathlib.Core.List.{List, [], _∷_, _++_, map}
+use lib.IntN.{ℤ, pos}
+use lib.Signed.{leZ}
 use native.Mathlib.Omega.{arith}
 use borrow.Author.Tests.{le-leb, lt-ltb, ltb-true, ltb-false, eq-eqb, ne-eqb}
 use lib.ListN.{length, getD, List·getD-eq-default}
@@ -86,18 +88,18 @@ same-wallets [] (w ∷ ws) e h = absurd (omega (arith, e))
 same-wallets (f ∷ fs) [] e h = absurd (omega (arith, e))
 same-wallets (f ∷ fs) (w ∷ ws) e h = ap₂ (λ x t. x ∷ t) (same-wallet f w (h 0)) (same-wallets fs ws (omega arith) (λ i. h (suc i)))
 
-pub restored-contents : (c : Core) → CoreOk c → restored-ledger (c .accounts) (contents (c .ledger)) ≡ c .ledger
+pub restored-contents : (c : Core) → CoreOk c → restored-ledger (c .ledger .fee) (c .accounts) (contents (c .ledger)) ≡ c .ledger
 unfolding contents
 restored-contents c ok =
-    ap (λ ws. record { last = c .ledger .last; wallets = ws; orders = c .ledger .orders; mark = c .ledger .mark })
+    ap (λ ws. record { last = c .ledger .last; wallets = ws; orders = c .ledger .orders; mark = c .ledger .mark; fee = c .ledger .fee })
     (ap (restored-wallets (by-slot funds-in owner-slots (c .accounts))) (refilled (c .ledger .wallets) (ok .slots))
     ∙ same-wallets (by-slot funds-in owner-slots (c .accounts)) (c .ledger .wallets) (by-slot-length funds-in owner-slots (c .accounts) ∙ sym (ok .slots))
     (λ i. ok .owned i ∙ sym (by-slot-owned (c .accounts) (ok .limit) i)))
 
-pub opening-contents : (c : Core) → CoreOk c → opening (contents (c .ledger)) ≡ c .ledger
+pub opening-contents : (c : Core) → CoreOk c → opening (c .ledger .fee) (contents (c .ledger)) ≡ c .ledger
 unfolding opening contents
 opening-contents c ok =
-    ap (λ ws. record { last = c .ledger .last; wallets = ws; orders = c .ledger .orders; mark = c .ledger .mark }) (refilled (c .ledger .wallets) (ok .slots))
+    ap (λ ws. record { last = c .ledger .last; wallets = ws; orders = c .ledger .orders; mark = c .ledger .mark; fee = c .ledger .fee }) (refilled (c .ledger .wallets) (ok .slots))
 
 -- ---- nothing is forgotten of orders up to the last number, and nothing up to it stays in flight
 
@@ -119,11 +121,13 @@ unfolding start-unless
 start-pass g [] h = refl
 start-pass g (t ∷ ts) h = rw (h .0) (start-pass g ts (h .1))
 
--- the accounts of the moment make the core's table
-pub record Accounts (limit : ℕ) (l : List Account) (c : Core) : Type 0 where
+-- the accounts of the moment make the core's table, and the fee is the core's
+pub record Accounts (fee : ℤ) (limit : ℕ) (l : List Account) (c : Core) : Type 0 where
   pub table : c .accounts ≡ accounts-of limit l
   pub below : all-below limit l ≡ true
   pub size : length (c .accounts) ≡ limit
+  pub fee-is : c .ledger .fee ≡ fee
+  pub fee-good : leZ (pos 0) fee ≡ true
 
 order-pass : (limit last : ℕ) (os : List Order) → All (Keyed (In last limit)) os → Pass (order-tests limit last os)
 order-pass limit last [] h = tt
@@ -133,10 +137,10 @@ pass-both : {A : Type 0} (xs ys : Tests A) → Pass xs → Pass ys → Pass (xs 
 pass-both [] ys p q = q
 pass-both (x ∷ xs) ys p q = (p .0, pass-both xs ys (p .1) q)
 
-restore-pass : (limit : ℕ) (l : List Account) (c : Core) → CoreOk c → Accounts limit l c → Pass (restore-tests limit l (contents (c .ledger)))
+restore-pass : (fee : ℤ) (limit : ℕ) (l : List Account) (c : Core) → CoreOk c → Accounts fee limit l c → Pass (restore-tests (c .ledger .fee) limit l (contents (c .ledger)))
 unfolding contents
-restore-pass limit l c ok t =
-    pass-both (saved-tests limit l (contents (c .ledger))) ((outside, holds-fit (restored-ledger (accounts-of limit l) (contents (c .ledger)))) ∷ []) (
+restore-pass fee limit l c ok t =
+    pass-both (saved-tests limit l (contents (c .ledger))) ((outside, holds-fit (restored-ledger (c .ledger .fee) (accounts-of limit l) (contents (c .ledger)))) ∷ []) (
       le-leb limit owner-slots (omega (arith, ok .limit, t .size)),
       (
         t .below,
@@ -146,19 +150,19 @@ restore-pass limit l c ok t =
         ),
       ),
     )
-    (ap holds-fit (ap (λ k. restored-ledger k (contents (c .ledger))) (sym (t .table)) ∙ restored-contents c ok) ∙ ok .holds, tt)
+    (ap holds-fit (ap (λ k. restored-ledger (c .ledger .fee) k (contents (c .ledger))) (sym (t .table)) ∙ restored-contents c ok) ∙ ok .holds, tt)
 
 -- the gateway that comes of restoring the core's contents
 abbrev pub begun-from : Timing → Core → Gateway
-begun-from timing c = begin timing (c .ledger) (c .accounts) empty-depth (each (hold-notice-of (c .ledger .wallets)) (c .ledger .orders))
+begun-from timing c = begin timing (c .ledger) (c .accounts) empty-depth (each (hold-notice-of (c .ledger .fee) (c .ledger .wallets)) (c .ledger .orders))
 
-pub restores : (limit : ℕ) (l : List Account) (timing : Timing) (c : Core) → CoreOk c → Accounts limit l c →
-    restore-saved limit l timing (contents (c .ledger)) ≡ started (begun-from timing c)
+pub restores : (fee : ℤ) (limit : ℕ) (l : List Account) (timing : Timing) (c : Core) → CoreOk c → Accounts fee limit l c →
+    restore-saved (c .ledger .fee) limit l timing (contents (c .ledger)) ≡ started (begun-from timing c)
 unfolding restore-saved
-restores limit l timing c ok t =
-    start-pass _ (restore-tests limit l (contents (c .ledger))) (restore-pass limit l c ok t)
-    ∙ ap (λ k. from (restored-ledger k (contents (c .ledger))) k) (sym (t .table))
+restores fee limit l timing c ok t =
+    start-pass _ (restore-tests (c .ledger .fee) limit l (contents (c .ledger))) (restore-pass fee limit l c ok t)
+    ∙ ap (λ k. from (restored-ledger (c .ledger .fee) k (contents (c .ledger))) k) (sym (t .table))
     ∙ ap (λ k. from k (c .accounts)) (restored-contents c ok)
   where
     from : Ledger → List (Option Account) → Started
-    from k t = started (begin timing k t empty-depth (each (hold-notice-of (k .wallets)) (k .orders)))
+    from k t = started (begin timing k t empty-depth (each (hold-notice-of (k .fee) (k .wallets)) (k .orders)))

@@ -80,27 +80,27 @@ or-zero z =
     (λ _ a. split (λ y. (leZ z most ≡ y) → fits (Option·getD (fit-in (cond y (inside z) above)) (pos 0)) ≡ true) (leZ z most) (λ _ b. between z a b) (λ _ b. zero-fits) refl)
     (λ _ a. zero-fits) refl
 
-hold-fits : (s : Side) (p : MaybePrice) (v : ℕ) → fits (hold s p v) ≡ true
+hold-fits : (fee : ℤ) (s : Side) (p : MaybePrice) (v : ℕ) → fits (hold fee s p v) ≡ true
 unfolding hold
-hold-fits s None v = zero-fits
-hold-fits Buy (Some p) v = or-zero _
-hold-fits Sell (Some p) v = or-zero _
+hold-fits fee s None v = zero-fits
+hold-fits fee Buy (Some p) v = or-zero _
+hold-fits fee Sell (Some p) v = or-zero _
 
-held-one : (a : ℕ) (s : Side) (o : Order) → fits (held a s (o ∷ [])) ≡ true
-held-one a s o =
-    ap fits (+ℤ-idr (held-by a s o))
-    ∙ split (λ b. fits (cond b (order-hold o) (pos 0)) ≡ true) (eqb (o .account) a && same-side s (o .side)) (λ e. hold-fits (o .side) (o .price) (o .leaves)) (λ e. zero-fits)
+held-one : (fee : ℤ) (a : ℕ) (s : Side) (o : Order) → fits (held fee a s (o ∷ [])) ≡ true
+held-one fee a s o =
+    ap fits (+ℤ-idr (held-by fee a s o))
+    ∙ split (λ b. fits (cond b (order-hold fee o) (pos 0)) ≡ true) (eqb (o .account) a && same-side s (o .side)) (λ e. hold-fits fee (o .side) (o .price) (o .leaves)) (λ e. zero-fits)
 
-one-fits : (ref n b : ℕ) (x : Option New) (a : ℕ) (ws : List (Option Funds)) → wallets-fit a ws (placed ref n b x) ≡ true
-one-fits ref n b x a [] = refl
-one-fits ref n b x a (none ∷ ws) = one-fits ref n b x (suc a) ws
-one-fits ref n b none a (some w ∷ ws) = rw zero-fits (one-fits ref n b none (suc a) ws)
-one-fits ref n b (some x) a (some w ∷ ws) = rw (held-one a Buy _, held-one a Sell _) (one-fits ref n b (some x) (suc a) ws)
+one-fits : (fee : ℤ) (ref n b : ℕ) (x : Option New) (a : ℕ) (ws : List (Option Funds)) → wallets-fit fee a ws (placed ref n b x) ≡ true
+one-fits fee ref n b x a [] = refl
+one-fits fee ref n b x a (none ∷ ws) = one-fits fee ref n b x (suc a) ws
+one-fits fee ref n b none a (some w ∷ ws) = rw zero-fits (one-fits fee ref n b none (suc a) ws)
+one-fits fee ref n b (some x) a (some w ∷ ws) = rw (held-one fee a Buy _, held-one fee a Sell _) (one-fits fee ref n b (some x) (suc a) ws)
 
 room-fits : (c : Core) (n : ℕ) (k : Command) → c .ledger .orders ≡ [] → fits-after (command n k) c ≡ true
 unfolding step holds-fit
 room-fits c n k e =
-    ap (λ os. wallets-fit 0 (c .ledger .wallets) (os ++ placed 0 n (owner-of k) (order-of k))) e ∙ one-fits 0 n (owner-of k) (order-of k) 0 (c .ledger .wallets)
+    ap (λ os. wallets-fit (c .ledger .fee) 0 (c .ledger .wallets) (os ++ placed 0 n (owner-of k) (order-of k))) e ∙ one-fits (c .ledger .fee) 0 n (owner-of k) (order-of k) 0 (c .ledger .wallets)
 
 -- ---- plans that serve
 
@@ -200,7 +200,7 @@ led m ms h (n ∷ k ∷ ns) s ref e = many n k _ s ref e
 abbrev pub last-tests : ℕ → NewOrder → Command → Core → Rest → Tests RejectCode
 last-tests a o k c r =
     (Unavailable, ltb (length (c .ledger .orders)) most-orders)
-    ∷ (Unavailable, leb (length (r .notices ++ new-notice a o (wallet-at a c))) most-notices)
+    ∷ (Unavailable, leb (length (r .notices ++ new-notice (c .ledger .fee) a o (wallet-at a c))) most-notices)
     ∷ (Unavailable, fits-after (command (next c) k) c)
     ∷ []
 
@@ -208,10 +208,10 @@ guard-serves : (s ref : ℕ) (r : Rest) (p : Plan) (ts : Tests RejectCode) → N
 guard-serves s ref r p ts h k = unless-needs (is-code Unavailable) Serves (reject s ref r) (other s ref r) p ts h k
 
 module _ (s a : ℕ) (c : Core) where
-  one-notice : (o : NewOrder) (w : Option Funds) → leb (length (new-notice a o w)) most-notices ≡ true
+  one-notice : (o : NewOrder) (w : Option Funds) → leb (length (new-notice (c .ledger .fee) a o w)) most-notices ≡ true
   one-notice o none = refl
   one-notice o (some w) =
-      split (λ b. leb (length (cond b [] (a ∷ []))) most-notices ≡ true) (is-zero (hold (o .side) (price-of (o .kind)) (o .qty))) (λ e. refl) (λ e. refl)
+      split (λ b. leb (length (cond b [] (a ∷ []))) most-notices ≡ true) (is-zero (hold (c .ledger .fee) (o .side) (price-of (o .kind)) (o .qty))) (λ e. refl) (λ e. refl)
 
   last-pass : (o : NewOrder) (k : Command) (r : Rest) → Roomy c r → Pass (last-tests a o k c r)
   last-pass o k r h = (rw (h .orders) refl, (rw (h .notices) (one-notice o (wallet-at a c)), (room-fits c (next c) k (h .orders), tt)))
@@ -295,7 +295,7 @@ no-notices : (xs : List Change) (l : Ledger) → l .orders ≡ [] → notices-of
 no-notices [] l e = refl
 no-notices (x ∷ xs) l e =
     let u = no-notices xs (change x l) (shrinks-none (subst (λ os. Shrinks os (change x l .orders)) e (shrunk (x ∷ []) l))) in
-    ap (λ o. option [] (λ y. cond (is-some (wallet-of (l .wallets) y)) (order-notices x y) []) o ++ notices-of xs (change x l)) (ap (named x) e ∙ named-none x) ∙ u
+    ap (λ o. option [] (λ y. cond (is-some (wallet-of (l .wallets) y)) (order-notices (l .fee) x y) []) o ++ notices-of xs (change x l)) (ap (named x) e ∙ named-none x) ∙ u
 
 -- an event leaves an empty depth and an empty list of trades few
 few-after : (n : ℕ) (e : Event) → (depth-few (apply e empty-depth) ≡ true) × (leb (length (tick-of n e)) most-trades ≡ true)
@@ -419,8 +419,8 @@ module _ (s a : ℕ) (c : Core) (r : Rest) (h : Roomy c r) (m : Member a c r) wh
       let told : List ℕ → Plan = λ ns.
       records (record { client-ref = o .«client_ref»; session = some s }) (command (next c) k) [] (queued k (pending (r .depth) (r .trades) ns (spent a c r))) in
       tokened (o .«client_ref») (enter-new s a o c)
-      ∙ unless-pass (reject s (o .«client_ref») (spent a c r)) (told (r .notices ++ new-notice a o (wallet-at a c))) (new-tests a o k c (spent a c r)) (new-pass o k)
-      ∙ ap (λ w. told (r .notices ++ new-notice a o w)) (m .no-wallet)
+      ∙ unless-pass (reject s (o .«client_ref») (spent a c r)) (told (r .notices ++ new-notice (c .ledger .fee) a o (wallet-at a c))) (new-tests a o k c (spent a c r)) (new-pass o k)
+      ∙ ap (λ w. told (r .notices ++ new-notice (c .ledger .fee) a o w)) (m .no-wallet)
       ∙ ap told (append-nil (r .notices))
 
   other-numbered : (own : Tests RejectCode) (k : Command) → Pass own → with-token s a 0 c r (enter-other s own k c) ≡ numbered (some s) k c (spent a c r)

@@ -1,7 +1,7 @@
 -- An accepted trade settles exactly. In plain words: the wallets after it are those before, where the taker's account is paid and then the maker's,
--- each with its order's own side at the trade's price; an account that neither order names keeps its wallet. Where the numbers fit, a buy's cash falls
--- by price × quantity and its seats rise by the quantity, and a sell's go the other way. What an account holds on a side moves by the new hold less
--- the old, and the new hold is that of the order's own side and price with what is left: the trade's price has no part in it. So a gateway that echoes
+-- each with its order's own side at the trade's price, a buy's with the fee; an account that neither order names keeps its wallet. Where the numbers fit, a buy's cash falls
+-- by (price + fee) × quantity and its seats rise by the quantity, and a sell's go the other way. What an account holds on a side moves by the new hold less
+-- the old, and the new hold is that of the order's own side and charged price with what is left: the trade's price has no part in it. So a gateway that echoes
 -- reports and moves no wallet, or releases a buy's hold at the trade's price, is not this one. Assumes nothing.
 use Prim.Native.Nat.{ℕ}
 use mathlib.Core.Bool.{Bool, true, false, not, _&&_, and-eq-true-iff, true≢false}
@@ -31,17 +31,17 @@ use Rattle.gateway.specs.Invariant.{CoreOk}
 
 -- ---- wallets
 
-module _ (p : ℤ) (q : ℕ) (ws : List (Option Funds)) where
+module _ (fee p : ℤ) (q : ℕ) (ws : List (Option Funds)) where
   -- the account of a filled order is paid
   pub pay-own : (x : Option Order) (o : Order) (w : Funds) → x ≡ some o → getD ws (o .account) none ≡ some w →
-      getD (pay p q x ws) (o .account) none ≡ some (W.settle (o .side) p q w)
+      getD (pay fee p q x ws) (o .account) none ≡ some (W.settle (o .side) (W.charged fee (o .side) p) q w)
   unfolding pay
   pay-own x o w h e =
-      ap (λ y. getD (pay p q y ws) (o .account) none) h
-      ∙ getD-set-same ws (o .account) _ none (held-slot ws (o .account) w e) ∙ ap (Option·map (W.settle (o .side) p q)) e
+      ap (λ y. getD (pay fee p q y ws) (o .account) none) h
+      ∙ getD-set-same ws (o .account) _ none (held-slot ws (o .account) w e) ∙ ap (Option·map (W.settle (o .side) (W.charged fee (o .side) p) q)) e
 
   -- and no other
-  pub pay-other : (x : Option Order) (b : ℕ) → ((o : Order) → x ≡ some o → b ≡ o .account → ⊥) → getD (pay p q x ws) b none ≡ getD ws b none
+  pub pay-other : (x : Option Order) (b : ℕ) → ((o : Order) → x ≡ some o → b ≡ o .account → ⊥) → getD (pay fee p q x ws) b none ≡ getD ws b none
   unfolding pay
   pay-other none b h = refl
   pay-other (some o) b h = getD-set-other ws (o .account) b _ none (h o refl)
@@ -64,8 +64,8 @@ settles-exactly Sell p q f a b c d = simp (fit-inside _ a, fit-inside _ b, fit-i
 -- ---- holds
 
 -- for the order's own account and side: what it holds afterwards, less what it held
-pub own-move : (x : Change) (o : Order) → hold-move (o .account) (o .side) x (some o) ≡ hold-after x o -ℤ order-hold o
-own-move x o = simp (eq-eqb (o .account) (o .account) refl, self (o .side))
+pub own-move : (fee : ℤ) (x : Change) (o : Order) → hold-move fee (o .account) (o .side) x (some o) ≡ hold-after fee x o -ℤ order-hold fee o
+own-move fee x o = simp (eq-eqb (o .account) (o .account) refl, self (o .side))
   where
     self : (s : Side) → same-side s s ≡ true
     self Buy = refl
@@ -75,8 +75,9 @@ own-move x o = simp (eq-eqb (o .account) (o .account) refl, self (o .side))
 
 -- c before and d after a trade of q at p between the two orders, with so much left of each
 pub record Settles (c d : Ledger) (taker maker : ℕ) (p : ℤ) (q tl ml : ℕ) : Type 0 where
-  pub wallets : d .wallets ≡ pay p q (find maker (c .orders)) (pay p q (find taker (c .orders)) (c .wallets))
-  pub holds : (a : ℕ) (s : Side) → held a s (d .orders) ≡ held a s (c .orders) +ℤ hold-move a s (fill taker p q tl) (find taker (c .orders)) +ℤ hold-move a s (fill maker p q ml) (find maker (c .orders))
+  pub wallets : d .wallets ≡ pay (c .fee) p q (find maker (c .orders)) (pay (c .fee) p q (find taker (c .orders)) (c .wallets))
+  pub fee : d .fee ≡ c .fee
+  pub holds : (a : ℕ) (s : Side) → held (c .fee) a s (d .orders) ≡ held (c .fee) a s (c .orders) +ℤ hold-move (c .fee) a s (fill taker p q tl) (find taker (c .orders)) +ℤ hold-move (c .fee) a s (fill maker p q ml) (find maker (c .orders))
 
 trade-settles : (n t taker maker : ℕ) (s : Side) (p : ℤ) (q tl ml : ℕ) (l : Ledger) → (taker ≡ maker → ⊥) → Rise 0 (l .orders) →
     Settles l (changed (changes n (Trade t taker maker s p q tl ml)) l) taker maker p q tl ml
@@ -85,10 +86,11 @@ trade-settles n t taker maker s p q tl ml l h u =
     let same = find-changed taker maker h (fills p q tl) l in
     let next = change (fill taker p q tl) l in
     record {
-      wallets = ap (λ x. pay p q x (pay p q (find taker (l .orders)) (l .wallets))) same;
+      fee = refl;
+      wallets = ap (λ x. pay (l .fee) p q x (pay (l .fee) p q (find taker (l .orders)) (l .wallets))) same;
       holds = λ a b.
-          held-changed a b (fills p q ml) next (rise-changed (fill taker p q tl) l u)
-          ∙ ap₂ (λ x y. x +ℤ hold-move a b (fill maker p q ml) y) (held-changed a b (fills p q tl) l u) same;
+          held-changed (l .fee) a b (fills p q ml) next (rise-changed (fill taker p q tl) l u)
+          ∙ ap₂ (λ x y. x +ℤ hold-move (l .fee) a b (fill maker p q ml) y) (held-changed (l .fee) a b (fills p q tl) l u) same;
     }
 
 differ : (n : ℕ) (new : Bool) (t taker maker : ℕ) (s : Side) (p : ℤ) (q tl ml : ℕ) → numbers-agree n new (Trade t taker maker s p q tl ml) ≡ true → taker ≡ maker → ⊥
@@ -108,19 +110,19 @@ accepted-settles from n t taker maker s p q tl ml c ok h =
 -- the taker's account, where the maker's order is not of it; and the maker's likewise
 pub side-settles : (c d : Ledger) (taker maker : ℕ) (p : ℤ) (q tl ml : ℕ) → Settles c d taker maker p q tl ml → (i j : ℕ) → ((i ≡ taker) × (j ≡ maker)) ⊎ ((i ≡ maker) × (j ≡ taker)) →
     (o : Order) (w : Funds) → find i (c .orders) ≡ some o → getD (c .wallets) (o .account) none ≡ some w →
-    ((x : Order) → find j (c .orders) ≡ some x → o .account ≡ x .account → ⊥) → getD (d .wallets) (o .account) none ≡ some (W.settle (o .side) p q w)
+    ((x : Order) → find j (c .orders) ≡ some x → o .account ≡ x .account → ⊥) → getD (d .wallets) (o .account) none ≡ some (W.settle (o .side) (W.charged (c .fee) (o .side) p) q w)
 side-settles c d taker maker p q tl ml h i j (inl z) o w e f g =
     ap (λ ws. getD ws (o .account) none) (h .wallets)
-    ∙ pay-other p q _ (find maker (c .orders)) (o .account) (λ x k. g x (ap (λ m. find m (c .orders)) (z .1) ∙ k))
-    ∙ pay-own p q (c .wallets) (find taker (c .orders)) o w (ap (λ m. find m (c .orders)) (sym (z .0)) ∙ e) f
+    ∙ pay-other (c .fee) p q _ (find maker (c .orders)) (o .account) (λ x k. g x (ap (λ m. find m (c .orders)) (z .1) ∙ k))
+    ∙ pay-own (c .fee) p q (c .wallets) (find taker (c .orders)) o w (ap (λ m. find m (c .orders)) (sym (z .0)) ∙ e) f
 side-settles c d taker maker p q tl ml h i j (inr z) o w e f g =
     ap (λ ws. getD ws (o .account) none) (h .wallets)
-    ∙ pay-own p q _ (find maker (c .orders)) o w (ap (λ m. find m (c .orders)) (sym (z .0)) ∙ e)
-    (pay-other p q (c .wallets) (find taker (c .orders)) (o .account) (λ x k. g x (ap (λ m. find m (c .orders)) (z .1) ∙ k)) ∙ f)
+    ∙ pay-own (c .fee) p q _ (find maker (c .orders)) o w (ap (λ m. find m (c .orders)) (sym (z .0)) ∙ e)
+    (pay-other (c .fee) p q (c .wallets) (find taker (c .orders)) (o .account) (λ x k. g x (ap (λ m. find m (c .orders)) (z .1) ∙ k)) ∙ f)
 
 -- an account that neither order names
 pub others-keep : (c d : Ledger) (taker maker : ℕ) (p : ℤ) (q tl ml : ℕ) → Settles c d taker maker p q tl ml → (b : ℕ) →
     ((o : Order) → find taker (c .orders) ≡ some o → b ≡ o .account → ⊥) → ((o : Order) → find maker (c .orders) ≡ some o → b ≡ o .account → ⊥) →
     getD (d .wallets) b none ≡ getD (c .wallets) b none
 others-keep c d taker maker p q tl ml h b u v =
-    ap (λ ws. getD ws b none) (h .wallets) ∙ pay-other p q _ (find maker (c .orders)) b v ∙ pay-other p q (c .wallets) (find taker (c .orders)) b u
+    ap (λ ws. getD ws b none) (h .wallets) ∙ pay-other (c .fee) p q _ (find maker (c .orders)) b v ∙ pay-other (c .fee) p q (c .wallets) (find taker (c .orders)) b u

@@ -66,20 +66,20 @@ abbrev pub hold-notice : ℕ → ℤ → ℤ → List ℕ
 hold-notice a old new = cond (is-zero (new -ℤ old)) [] (a ∷ [])
 
 -- what order o holds once x has happened to it: a fill leaves it its own price
-abbrev pub hold-after : Change → Order → ℤ
-hold-after (mark-by t m p) o = order-hold o
-hold-after (fill n p q v) o = hold (o .side) (o .price) v
-hold-after (set-leaves n v) o = hold (o .side) (o .price) v
-hold-after (reprice n p v) o = hold (o .side) (Some p) v
-hold-after (retire n) o = pos 0
+abbrev pub hold-after : ℤ → Change → Order → ℤ
+hold-after fee (mark-by t m p) o = order-hold fee o
+hold-after fee (fill n p q v) o = hold fee (o .side) (o .price) v
+hold-after fee (set-leaves n v) o = hold fee (o .side) (o .price) v
+hold-after fee (reprice n p v) o = hold fee (o .side) (Some p) v
+hold-after fee (retire n) o = pos 0
 
 -- what is noticed of order o, whose account has a wallet: settling, and a hold that changes
-abbrev pub order-notices : Change → Order → List ℕ
-order-notices (mark-by t m p) o = []
-order-notices (fill n p q v) o = o .account ∷ hold-notice (o .account) (order-hold o) (hold (o .side) (o .price) v)
-order-notices (set-leaves n v) o = hold-notice (o .account) (order-hold o) (hold (o .side) (o .price) v)
-order-notices (reprice n p v) o = hold-notice (o .account) (order-hold o) (hold (o .side) (Some p) v)
-order-notices (retire n) o = hold-notice (o .account) (order-hold o) (pos 0)
+abbrev pub order-notices : ℤ → Change → Order → List ℕ
+order-notices fee (mark-by t m p) o = []
+order-notices fee (fill n p q v) o = o .account ∷ hold-notice (o .account) (order-hold fee o) (hold fee (o .side) (o .price) v)
+order-notices fee (set-leaves n v) o = hold-notice (o .account) (order-hold fee o) (hold fee (o .side) (o .price) v)
+order-notices fee (reprice n p v) o = hold-notice (o .account) (order-hold fee o) (hold fee (o .side) (Some p) v)
+order-notices fee (retire n) o = hold-notice (o .account) (order-hold fee o) (pos 0)
 
 -- the order that a change names
 abbrev pub named : Change → List Order → Option Order
@@ -90,7 +90,7 @@ named (reprice n p v) os = find n os
 named (retire n) os = find n os
 
 abbrev pub change-notices : Change → Ledger → List ℕ
-change-notices x l = option [] (λ o. cond (is-some (wallet-of (l .wallets) o)) (order-notices x o) []) (named x (l .orders))
+change-notices x l = option [] (λ o. cond (is-some (wallet-of (l .wallets) o)) (order-notices (l .fee) x o) []) (named x (l .orders))
 
 abbrev pub notices-of : List Change → Ledger → List ℕ
 notices-of [] l = []

@@ -75,11 +75,11 @@ sends ms r = quiet nothing ms r
 abbrev pub wallet-at : ℕ → Core → Option Funds
 wallet-at a c = getD (c .ledger .wallets) a none
 
-abbrev pub balance-with : ℕ → List Order → Funds → Balance
-balance-with a os w = record { cash = w .cash; position = w .position; «cash_held» = held a Buy os; «position_held» = held a Sell os }
+abbrev pub balance-with : ℤ → ℕ → List Order → Funds → Balance
+balance-with fee a os w = record { cash = w .cash; position = w .position; «cash_held» = held fee a Buy os; «position_held» = held fee a Sell os }
 
 abbrev pub balance : ℕ → Core → Option Balance
-balance a c = Option·map (balance-with a (c .ledger .orders)) (wallet-at a c)
+balance a c = Option·map (balance-with (c .ledger .fee) a (c .ledger .orders)) (wallet-at a c)
 
 -- ---- ending a session
 
@@ -158,15 +158,15 @@ command-of n a s q (Kind.Limit p t d) = Limit n a s p q t d
 command-of n a s q Kind.Market = Market n a s q
 command-of n a s q (Kind.Stop t l) = Stop n a s t l q
 
--- the amount fits, is not negative, and the free part of the wallet covers it exactly
-abbrev pub covered : Option ℤ → Side → ℕ → Funds → List Order → Bool
-covered hold s a w os = option false (λ h. leZ (pos 0) h && W.covers s h (balance-with a os w)) hold
+-- what q at p would hold fits, is not negative, and the free part of account a's wallet covers it exactly
+abbrev pub covered : ℤ → Side → ℤ → ℕ → ℕ → Funds → List Order → Bool
+covered fee s p q a w os = option false (λ h. leZ (pos 0) h && W.covers s h (balance-with fee a os w)) (W.hold-of s (W.charged fee s p) q)
 
 -- a wallet's account places limit orders that it can pay for in full
 abbrev pub paper-tests : ℕ → Side → ℕ → Core → Rest → OrderKind → Funds → Tests RejectCode
 paper-tests a s q c r (Kind.Limit p t d) w =
     (OffMarket, near-market p (r .collar) (price-option (c .ledger .mark)))
-    ∷ (InsufficientFunds, covered (W.hold-of s p q) s a w (c .ledger .orders))
+    ∷ (InsufficientFunds, covered (c .ledger .fee) s p q a w (c .ledger .orders))
     ∷ []
 paper-tests a s q c r Kind.Market w = (NotAllowed, false) ∷ []
 paper-tests a s q c r (Kind.Stop t l) w = (NotAllowed, false) ∷ []
@@ -175,8 +175,8 @@ abbrev pub is-zero : ℤ → Bool
 is-zero z = leZ z (pos 0) && leZ (pos 0) z
 
 -- the notice of a new order's hold, where its account has a wallet
-abbrev pub new-notice : ℕ → NewOrder → Option Funds → List ℕ
-new-notice a o w = option [] (λ f. cond (is-zero (hold (o .side) (price-of (o .kind)) (o .qty))) [] (a ∷ [])) w
+abbrev pub new-notice : ℤ → ℕ → NewOrder → Option Funds → List ℕ
+new-notice fee a o w = option [] (λ f. cond (is-zero (hold fee (o .side) (price-of (o .kind)) (o .qty))) [] (a ∷ [])) w
 
 abbrev pub most-open : Option Account → ℕ
 most-open a = option 0 (λ x. x .«max_open_orders») a
@@ -187,7 +187,7 @@ new-tests a o k c r =
     ∷ option [] (paper-tests a (o .side) (o .qty) c r (o .kind)) (wallet-at a c)
     ++ (can-number Unavailable c r
     ++ ((Unavailable, ltb (length (c .ledger .orders)) most-orders)
-    ∷ (Unavailable, leb (length (r .notices ++ new-notice a o (wallet-at a c))) most-notices)
+    ∷ (Unavailable, leb (length (r .notices ++ new-notice (c .ledger .fee) a o (wallet-at a c))) most-notices)
     ∷ (Unavailable, fits-after (command (next c) k) c)
     ∷ []))
 
@@ -199,7 +199,7 @@ abbrev pub enter-new : ℕ → ℕ → NewOrder → Core → Rest → Plan
 enter-new s a o c r =
     let k = command-of (next c) a (o .side) (o .qty) (o .kind) in
     unless (new-tests a o k c r) (reject s (o .«client_ref») r)
-    (records (record { client-ref = o .«client_ref»; session = some s }) (command (next c) k) [] (queued k (noticing (new-notice a o (wallet-at a c)) r)))
+    (records (record { client-ref = o .«client_ref»; session = some s }) (command (next c) k) [] (queued k (noticing (new-notice (c .ledger .fee) a o (wallet-at a c)) r)))
 
 -- a command that places nothing, after the tests of its own
 abbrev pub enter-other : ℕ → Tests RejectCode → Command → Core → Rest → Plan

@@ -32,12 +32,14 @@ pub record Order : Type 0 where
   pub price : MaybePrice
   pub leaves : ℕ
 
--- wallets by account; orders ascending by number; the mark is the reference price (the Rust's market_price)
+-- wallets by account; orders ascending by number; the mark is the reference price (the Rust's market_price); the fee for a seat (02, order 7) never
+-- changes
 pub record Ledger : Type 0 where
   pub last : ℕ
   pub wallets : List (Option Funds)
   pub orders : List Order
   pub mark : MaybePrice
+  pub fee : ℤ
 
 -- an item of the record
 pub data Item : Type 0 where
@@ -94,7 +96,7 @@ abbrev pub with-price : ℤ → Order → Order
 with-price p o = record { number = o .number; account = o .account; client-ref = o .client-ref; side = o .side; price = Some p; leaves = o .leaves }
 
 abbrev pub with-orders : List Order → Ledger → Ledger
-with-orders os l = record { last = l .last; wallets = l .wallets; orders = os; mark = l .mark }
+with-orders os l = record { last = l .last; wallets = l .wallets; orders = os; mark = l .mark; fee = l .fee }
 
 -- ---- what an event does, in a few primitive changes
 
@@ -128,12 +130,12 @@ left n f v os = cond (eqb v 0) (remove n os) (update number-of n (λ o. with-lea
 abbrev pub wallet-of : List (Option Funds) → Order → Option Funds
 wallet-of ws o = getD ws (o .account) none
 
--- a fill settles with the order's own side (`traded`)
-abbrev pub paid-to : ℤ → ℕ → List (Option Funds) → Order → List (Option Funds)
-paid-to p q ws o = set ws (o .account) (Option·map (W.settle (o .side) p q) (wallet-of ws o))
+-- a fill settles with the order's own side (`traded`), a buy's price with the fee
+abbrev pub paid-to : ℤ → ℤ → ℕ → List (Option Funds) → Order → List (Option Funds)
+paid-to fee p q ws o = set ws (o .account) (Option·map (W.settle (o .side) (W.charged fee (o .side) p) q) (wallet-of ws o))
 
-unfoldable pub pay : ℤ → ℕ → Option Order → List (Option Funds) → List (Option Funds)
-pay p q o ws = option ws (paid-to p q ws) o
+unfoldable pub pay : ℤ → ℤ → ℕ → Option Order → List (Option Funds) → List (Option Funds)
+pay fee p q o ws = option ws (paid-to fee p q ws) o
 
 -- the order is live and its account has a wallet
 unfoldable pub paper : ℕ → Ledger → Bool
@@ -142,9 +144,9 @@ paper n l = option false (λ o. is-some (wallet-of (l .wallets) o)) (find n (l .
 unfoldable pub change : Change → Ledger → Ledger
 -- paper accounts that trade with each other do not move the mark
 change (mark-by t m p) l =
-    record { last = l .last; wallets = l .wallets; orders = l .orders; mark = cond (paper t l && paper m l) (l .mark) (Some p) }
+    record { last = l .last; wallets = l .wallets; orders = l .orders; mark = cond (paper t l && paper m l) (l .mark) (Some p); fee = l .fee }
 change (fill n p q v) l =
-    record { last = l .last; wallets = pay p q (find n (l .orders)) (l .wallets); orders = left n (λ o. o) v (l .orders); mark = l .mark }
+    record { last = l .last; wallets = pay (l .fee) p q (find n (l .orders)) (l .wallets); orders = left n (λ o. o) v (l .orders); mark = l .mark; fee = l .fee }
 change (set-leaves n v) l = with-orders (update number-of n (with-leaves v) (l .orders)) l
 change (reprice n p v) l = with-orders (left n (with-price p) v (l .orders)) l
 change (retire n) l = with-orders (remove n (l .orders)) l
@@ -162,8 +164,8 @@ funds-of (F.the-variants.Some f) = some f
 
 -- `ref` is the client reference of the order that a command places: the gateway has the client's, the ledger and a replay 0
 unfoldable pub step : ℕ → Item → Ledger → Ledger
-step ref (account a) l = record { last = l .last; wallets = set (l .wallets) (a .id) (funds-of (a .funds)); orders = l .orders; mark = l .mark }
-step ref (command n k) l = record { last = n; wallets = l .wallets; orders = l .orders ++ placed ref n (owner-of k) (order-of k); mark = l .mark }
+step ref (account a) l = record { last = l .last; wallets = set (l .wallets) (a .id) (funds-of (a .funds)); orders = l .orders; mark = l .mark; fee = l .fee }
+step ref (command n k) l = record { last = n; wallets = l .wallets; orders = l .orders ++ placed ref n (owner-of k) (order-of k); mark = l .mark; fee = l .fee }
 step ref (event n e) l = changed (changes n e) l
 
 abbrev pub replayed : List Item → Ledger → Ledger
@@ -183,36 +185,36 @@ price-option None = none
 price-option (Some p) = some p
 
 -- what an order with these fields holds: 0 without a price, or where the amount does not fit (wallet/specs)
-unfoldable pub hold : Side → MaybePrice → ℕ → ℤ
-hold s p v = W.held s (price-option p) v
+unfoldable pub hold : ℤ → Side → MaybePrice → ℕ → ℤ
+hold fee s p v = W.held s (Option·map (W.charged fee s) (price-option p)) v
 
 -- what an order holds of its account's wallet, where it has one
-abbrev pub order-hold : Order → ℤ
-order-hold o = hold (o .side) (o .price) (o .leaves)
+abbrev pub order-hold : ℤ → Order → ℤ
+order-hold fee o = hold fee (o .side) (o .price) (o .leaves)
 
-abbrev pub held-by : ℕ → Side → Order → ℤ
-held-by a s o = cond (eqb (o .account) a && same-side s (o .side)) (order-hold o) (pos 0)
+abbrev pub held-by : ℤ → ℕ → Side → Order → ℤ
+held-by fee a s o = cond (eqb (o .account) a && same-side s (o .side)) (order-hold fee o) (pos 0)
 
 -- cash held is account a's sum over live buys, seats held over live sells
-abbrev pub held : ℕ → Side → List Order → ℤ
-held a s [] = pos 0
-held a s (o ∷ os) = held-by a s o +ℤ held a s os
+abbrev pub held : ℤ → ℕ → Side → List Order → ℤ
+held fee a s [] = pos 0
+held fee a s (o ∷ os) = held-by fee a s o +ℤ held fee a s os
 
 -- 64 bits signed
 unfoldable pub fits : ℤ → Bool
 fits z = is-some (fit z)
 
-abbrev pub wallet-fits : ℕ → Option Funds → List Order → Bool
-wallet-fits a none os = true
-wallet-fits a (some w) os = fits (held a Buy os) && fits (held a Sell os)
+abbrev pub wallet-fits : ℤ → ℕ → Option Funds → List Order → Bool
+wallet-fits fee a none os = true
+wallet-fits fee a (some w) os = fits (held fee a Buy os) && fits (held fee a Sell os)
 
-abbrev pub wallets-fit : ℕ → List (Option Funds) → List Order → Bool
-wallets-fit a [] os = true
-wallets-fit a (w ∷ ws) os = wallet-fits a w os && wallets-fit (suc a) ws os
+abbrev pub wallets-fit : ℤ → ℕ → List (Option Funds) → List Order → Bool
+wallets-fit fee a [] os = true
+wallets-fit fee a (w ∷ ws) os = wallet-fits fee a w os && wallets-fit fee (suc a) ws os
 
 -- code 7: the hold totals of every wallet are in range
 unfoldable pub holds-fit : Ledger → Bool
-holds-fit l = wallets-fit 0 (l .wallets) (l .orders)
+holds-fit l = wallets-fit (l .fee) 0 (l .wallets) (l .orders)
 
 -- an owner's number of live orders
 abbrev pub open-of : ℕ → List Order → ℕ

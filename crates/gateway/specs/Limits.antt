@@ -1,4 +1,4 @@
--- The limits and the refusal codes of document 01, each once.
+-- The limits of document 01 and the refusal codes of documents 01 and 02, each once.
 use Prim.Native.Nat.{ℕ, _-_}
 
 abbrev pub owner-slots : ℕ
@@ -68,3 +68,7 @@ malformed = 11
 
 abbrev pub has-orders : ℕ
 has-orders = 12
+
+-- 02, order 7
+abbrev pub bad-fee : ℕ
+bad-fee = 15

@@ -4,6 +4,7 @@ use mathlib.Core.Bool.{cond}
 use mathlib.Core.Path.{_≡_}
 use mathlib.Core.Option.{Option, none, some, Option·map}
 use mathlib.Core.List.{List, [], _∷_, _++_, map}
+use lib.IntN.{ℤ}
 use lib.Dec.{leb}
 use Rattle.accounts.specs.declared.Account.{Account}
 use Rattle.accounts.specs.declared.Timing.{Timing}
@@ -69,28 +70,29 @@ forget n o =
     record { number = o .number; account = o .account; client-ref = cond (leb (o .number) n) (o .client-ref) 0; side = o .side; price = o .price; leaves = o .leaves }
 
 abbrev pub forgetting : ℕ → Ledger → Ledger
-forgetting n l = record { last = l .last; wallets = l .wallets; orders = map (forget n) (l .orders); mark = l .mark }
+forgetting n l = record { last = l .last; wallets = l .wallets; orders = map (forget n) (l .orders); mark = l .mark; fee = l .fee }
 
--- the independent ledger: a checkpoint's bytes, then the record
-unfoldable pub ledger-of : List ℕ → List Item → Option Ledger
-ledger-of bs is = Option·map (λ s. replayed is (opening s)) (decode bs)
+-- the independent ledger: the fee and a checkpoint's bytes, then the record
+unfoldable pub ledger-of : ℤ → List ℕ → List Item → Option Ledger
+ledger-of fee bs is = Option·map (λ s. replayed is (opening fee s)) (decode bs)
 
--- two gateways agree on the books: last number, reference price, live orders with their holds (but for lost client references), and for every account
+-- two gateways agree on the books: last number, reference price, fee, live orders with their holds (but for lost client references), and for every account
 -- its wallet with cash held and seats held (01's sums over live buys and live sells) and its open count
 pub record SameBooks (n : ℕ) (c d : Core) : Type 0 where
   pub last : d .ledger .last ≡ c .ledger .last
   pub mark : d .ledger .mark ≡ c .ledger .mark
+  pub fee : d .ledger .fee ≡ c .ledger .fee
   pub orders : d .ledger .orders ≡ map (forget n) (c .ledger .orders)
-  pub holds : map order-hold (d .ledger .orders) ≡ map order-hold (c .ledger .orders)
+  pub holds : map (order-hold (d .ledger .fee)) (d .ledger .orders) ≡ map (order-hold (c .ledger .fee)) (c .ledger .orders)
   pub wallet : (a : ℕ) → balance a d ≡ balance a c
   pub open-count : (a : ℕ) → open-of a (d .ledger .orders) ≡ open-of a (c .ledger .orders)
 
--- what demand 3 claims of a checkpoint's bytes, taken at the number n with the accounts l, the record since, and the gateway g of now: the bytes are
+-- what demand 3 claims of the fee and a checkpoint's bytes, taken at the number n with the accounts l, the record since, and the gateway g of now: the bytes are
 -- restored, the record is replayed item by item, the two gateways agree on the books, and the second's are the independent ledger's
-pub record Restarts (limit : ℕ) (l : List Account) (timing : Timing) (n : ℕ) (bs : List ℕ) (is : List Item) (g : Gateway) : Type 0 where
+pub record Restarts (fee : ℤ) (limit : ℕ) (l : List Account) (timing : Timing) (n : ℕ) (bs : List ℕ) (is : List Item) (g : Gateway) : Type 0 where
   pub begun : Gateway
-  pub accepts : restore limit l timing bs ≡ started begun
+  pub accepts : restore fee limit l timing bs ≡ started begun
   pub ended : Gateway
   pub replays : replay is begun ≡ some ended
   pub agrees : SameBooks n (g .core) (ended .core)
-  pub counted : ledger-of bs is ≡ some (ended .core .ledger)
+  pub counted : ledger-of fee bs is ≡ some (ended .core .ledger)

@@ -3,6 +3,7 @@ use Prim.Native.Nat.{ℕ, zero, suc}
 use mathlib.Core.Bool.{cond}
 use mathlib.Core.Option.{Option, none, some}
 use mathlib.Core.List.{List, [], _∷_}
+use lib.IntN.{ℤ}
 use lib.Dec.{eqb}
 use Rattle.orderbook.specs.declared.MaybePrice.{MaybePrice}
 use Rattle.accounts.specs.declared.Funds.{Funds}
@@ -31,6 +32,6 @@ slots (suc n) a (x ∷ xs) = cond (eqb (x .0) a) (some (x .1) ∷ slots n (suc a
 unfoldable pub contents : Ledger → Saved
 contents l = record { last = l .last; mark = l .mark; wallets = saved-from 0 (l .wallets); orders = l .orders }
 
--- the ledger's start
-unfoldable pub opening : Saved → Ledger
-opening s = record { last = s .last; wallets = slots owner-slots 0 (s .wallets); orders = s .orders; mark = s .mark }
+-- the ledger's start, with the fee that is handed in
+unfoldable pub opening : ℤ → Saved → Ledger
+opening fee s = record { last = s .last; wallets = slots owner-slots 0 (s .wallets); orders = s .orders; mark = s .mark; fee = fee }

@@ -3,6 +3,8 @@ use Prim.Native.Nat.{ℕ, zero, suc}
 use mathlib.Core.Bool.{Bool, true, cond, not, _&&_}
 use mathlib.Core.Option.{Option, none, some, Option·getD, Option·map}
 use mathlib.Core.List.{List, [], _∷_, _++_}
+use lib.IntN.{ℤ, pos}
+use lib.Signed.{leZ}
 use lib.ListN.{length, set, replicate}
 use lib.Dec.{eqb, ltb, leb}
 use Rattle.orderbook.specs.declared.MaybePrice.the-variants.{None}
@@ -11,7 +13,7 @@ use Rattle.accounts.specs.declared.Account.{Account}
 use Rattle.accounts.specs.declared.Funds.{Funds}
 use Rattle.accounts.specs.declared.Timing.{Timing}
 use Rattle.gateway.specs.Basics.{option, each, is-some}
-use Rattle.gateway.specs.Limits.{owner-slots, session-slots, most-orders, out-of-range, foreign, full, outside, inconsistent, malformed}
+use Rattle.gateway.specs.Limits.{owner-slots, session-slots, most-orders, out-of-range, foreign, full, outside, inconsistent, malformed, bad-fee}
 use Rattle.risk.specs.declared.Bucket.{Bucket}
 use Rattle.risk.specs.Throttle as Throttle
 use Rattle.gateway.specs.Ledger.{Order, Ledger, funds-of, order-hold, wallet-of, holds-fit}
@@ -30,6 +32,10 @@ pub data Started : Type 0 where
 unfoldable pub start-unless : Tests ℕ → Gateway → Started
 start-unless [] g = started g
 start-unless (t ∷ ts) g = cond (t .1) (start-unless ts g) (not-started (t .0))
+
+-- the fee is judged before all else (02, order 7)
+unfoldable pub charging : ℤ → Started → Started
+charging fee s = cond (leZ (pos 0) fee) s (not-started bad-fee)
 
 -- ---- accounts
 
@@ -82,9 +88,9 @@ listed-tests limit last xs (o ∷ os) =
     ∷ (inconsistent, eqb (listed-times (o .number) xs) 1)
     ∷ listed-tests limit last xs os
 
-abbrev pub listed-ledger : ℕ → ℕ → List Account → List Listed → Ledger
-listed-ledger limit last l xs =
-    record { last = last; wallets = by-slot funds-in owner-slots (accounts-of limit l); orders = listed-orders xs; mark = None }
+abbrev pub listed-ledger : ℤ → ℕ → ℕ → List Account → List Listed → Ledger
+listed-ledger fee limit last l xs =
+    record { last = last; wallets = by-slot funds-in owner-slots (accounts-of limit l); orders = listed-orders xs; mark = None; fee = fee }
 
 abbrev pub entry-tests : ℕ → ℕ → List Account → List Listed → Tests ℕ
 entry-tests limit last l xs =
@@ -93,19 +99,19 @@ entry-tests limit last l xs =
     ∷ (out-of-range, all-below limit l)
     ∷ listed-tests limit last xs (listed-orders xs)
 
-abbrev pub total-tests : ℕ → ℕ → List Account → List Listed → Tests ℕ
-total-tests limit last l xs =
+abbrev pub total-tests : ℤ → ℕ → ℕ → List Account → List Listed → Tests ℕ
+total-tests fee limit last l xs =
     (full, levels-few (listed-depth xs .resting))
-    ∷ (outside, holds-fit (listed-ledger limit last l xs))
+    ∷ (outside, holds-fit (listed-ledger fee limit last l xs))
     ∷ (outside, levels-fit (listed-depth xs .resting))
     ∷ []
 
-abbrev pub set-up-tests : ℕ → ℕ → List Account → List Listed → Tests ℕ
-set-up-tests limit last l xs = entry-tests limit last l xs ++ total-tests limit last l xs
+abbrev pub set-up-tests : ℤ → ℕ → ℕ → List Account → List Listed → Tests ℕ
+set-up-tests fee limit last l xs = entry-tests limit last l xs ++ total-tests fee limit last l xs
 
-unfoldable pub set-up : ℕ → ℕ → List Account → List Listed → Timing → Started
-set-up limit last l xs timing =
-    start-unless (set-up-tests limit last l xs) (begin timing (listed-ledger limit last l xs) (accounts-of limit l) (listed-depth xs) [])
+unfoldable pub set-up : ℤ → ℕ → ℕ → List Account → List Listed → Timing → Started
+set-up fee limit last l xs timing =
+    charging fee (start-unless (set-up-tests fee limit last l xs) (begin timing (listed-ledger fee limit last l xs) (accounts-of limit l) (listed-depth xs) []))
 
 -- ---- restore
 
@@ -118,9 +124,9 @@ restored-wallets [] ws = []
 restored-wallets (f ∷ fs) [] = f ∷ restored-wallets fs []
 restored-wallets (f ∷ fs) (w ∷ ws) = restored-wallet f w ∷ restored-wallets fs ws
 
-abbrev pub restored-ledger : List (Option Account) → Saved → Ledger
-restored-ledger t s =
-    record { last = s .last; wallets = restored-wallets (by-slot funds-in owner-slots t) (slots owner-slots 0 (s .wallets)); orders = s .orders; mark = s .mark }
+abbrev pub restored-ledger : ℤ → List (Option Account) → Saved → Ledger
+restored-ledger fee t s =
+    record { last = s .last; wallets = restored-wallets (by-slot funds-in owner-slots t) (slots owner-slots 0 (s .wallets)); orders = s .orders; mark = s .mark; fee = fee }
 
 abbrev pub wallets-below : ℕ → List (ℕ × Funds) → Bool
 wallets-below n [] = true
@@ -137,20 +143,20 @@ saved-tests limit l s =
     ∷ (out-of-range, wallets-below limit (s .wallets))
     ∷ order-tests limit (s .last) (s .orders)
 
-abbrev pub restore-tests : ℕ → List Account → Saved → Tests ℕ
-restore-tests limit l s = saved-tests limit l s ++ ((outside, holds-fit (restored-ledger (accounts-of limit l) s)) ∷ [])
+abbrev pub restore-tests : ℤ → ℕ → List Account → Saved → Tests ℕ
+restore-tests fee limit l s = saved-tests limit l s ++ ((outside, holds-fit (restored-ledger fee (accounts-of limit l) s)) ∷ [])
 
 -- one notice for each order whose hold is not 0, ascending by number
-abbrev pub hold-notice-of : List (Option Funds) → Order → List ℕ
-hold-notice-of ws o = cond (is-some (wallet-of ws o) && not (is-zero (order-hold o))) (o .account ∷ []) []
+abbrev pub hold-notice-of : ℤ → List (Option Funds) → Order → List ℕ
+hold-notice-of fee ws o = cond (is-some (wallet-of ws o) && not (is-zero (order-hold fee o))) (o .account ∷ []) []
 
 abbrev pub empty-depth : Depth
 empty-depth = record { resting = []; changed = [] }
 
-unfoldable pub restore-saved : ℕ → List Account → Timing → Saved → Started
-restore-saved limit l timing s =
-    let led = restored-ledger (accounts-of limit l) s in
-    start-unless (restore-tests limit l s) (begin timing led (accounts-of limit l) empty-depth (each (hold-notice-of (led .wallets)) (led .orders)))
+unfoldable pub restore-saved : ℤ → ℕ → List Account → Timing → Saved → Started
+restore-saved fee limit l timing s =
+    let led = restored-ledger fee (accounts-of limit l) s in
+    start-unless (restore-tests fee limit l s) (begin timing led (accounts-of limit l) empty-depth (each (hold-notice-of fee (led .wallets)) (led .orders)))
 
-unfoldable pub restore : ℕ → List Account → Timing → List ℕ → Started
-restore limit l timing xs = option (not-started malformed) (restore-saved limit l timing) (decode xs)
+unfoldable pub restore : ℤ → ℕ → List Account → Timing → List ℕ → Started
+restore fee limit l timing xs = charging fee (option (not-started malformed) (restore-saved fee limit l timing) (decode xs))

@@ -54,15 +54,15 @@ module _ (xs : List ℕ) {ys : List ℕ} (n : ℕ) (x : Move) (g : Gateway) wher
 
 -- ---- what it holds then, in the arms of the match
 
-pub after-as : (r : Row) (w : ℕ) {x y : Move} → x ≡ y → w ≡ hold-after-word x r → w ≡ hold-after-word y r
-after-as r w e h = h ∙ ap (λ z. hold-after-word z r) e
+pub after-as : (fee : ℕ) (r : Row) (w : ℕ) {x y : Move} → x ≡ y → w ≡ hold-after-word fee x r → w ≡ hold-after-word fee y r
+after-as fee r w e h = h ∙ ap (λ z. hold-after-word fee z r) e
 
-after-small : (x : Move) (r : Row) → hold-after-word x r < modulus
+after-small : (fee : ℕ) (x : Move) (r : Row) → hold-after-word fee x r < modulus
 unfolding L.hold-word
-after-small (Fill p q v) r = wrap-small _
-after-small (Leaves v) r = wrap-small _
-after-small (Reprice p v) r = wrap-small _
-after-small Retire r = omega arith
+after-small fee (Fill p q v) r = wrap-small _
+after-small fee (Leaves v) r = wrap-small _
+after-small fee (Reprice p v) r = wrap-small _
+after-small fee Retire r = omega arith
 
 -- ---- notices
 
@@ -127,22 +127,22 @@ module _ (xs : List ℕ) (st : State xs) (n : ℕ) (x : Move) (at : Found) (sees
 
     -- `new` is what it holds then
     module _ (new : ℕ) (holds : NewHold n x new (ledger s)) where
-      after-is : int new ≡ hold-after c was
+      after-is : int new ≡ hold-after (ledger s .fee) c was
       after-is = holds was (row .order)
 
       -- what the change asks
-      pub change-needs : new < modulus → State xs × L.At i s × (new ≡ hold-after-word x (s C.orders i))
+      pub change-needs : new < modulus → State xs × L.At i s × (new ≡ hold-after-word (word s C.fee) x (s C.orders i))
       change-needs l = (
         st,
         live-at xs st n at sees i found,
-        int-injective new (hold-after-word x (s C.orders i)) l (after-small x (s C.orders i)) (after-is ∙ sym (new-is n x (s C.orders i))),
+        int-injective new (hold-after-word (word s C.fee) x (s C.orders i)) l (after-small (word s C.fee) x (s C.orders i)) (after-is ∙ sym (new-is (word s C.fee) n x (s C.orders i))),
       )
 
       module _ (o : Live) (o-is : o ≡ live-row (s C.orders i)) where
         owner : o .account < owner-slots
         owner = owner-small xs st n at sees i found o o-is
 
-        old-is : int (o .hold) ≡ order-hold was
+        old-is : int (o .hold) ≡ order-hold (ledger s .fee) was
         old-is = ap (λ (w : Live). int (w .hold)) o-is ∙ st .sound .held .rows i (row .row .0) (row .row .2) .hold-is
 
         -- read from states with as many wallets
@@ -152,9 +152,9 @@ module _ (xs : List ℕ) (st : State xs) (n : ℕ) (x : Move) (at : Found) (sees
         noticed : (t u : Store) → Alike t → Alike u → change-notices c (ledger s) ≡ settled-notice (o .account) x t ++ L.hold-notice (o .account) (int (o .hold)) (int new) u
         noticed t u e f =
             notices-by n x (ledger s) (row .order)
-            ∙ ap (λ (ns : List ℕ). cond (is-some (wallet-of (ledger s .wallets) was)) ns []) (notices-are n x was)
-            ∙ joined (is-some (wallet-of (ledger s .wallets) was)) x (was .account) (Deliver.hold-notice (was .account) (order-hold was) (hold-after c was))
-            ∙ ap₂ (λ (b d : Bool). cond (eqb (settles x) 0) [] (cond b (was .account ∷ []) []) ++ cond d (Deliver.hold-notice (was .account) (order-hold was) (hold-after c was)) []) (sym e) (sym f)
+            ∙ ap (λ (ns : List ℕ). cond (is-some (wallet-of (ledger s .wallets) was)) ns []) (notices-are (ledger s .fee) n x was)
+            ∙ joined (is-some (wallet-of (ledger s .wallets) was)) x (was .account) (Deliver.hold-notice (was .account) (order-hold (ledger s .fee) was) (hold-after (ledger s .fee) c was))
+            ∙ ap₂ (λ (b d : Bool). cond (eqb (settles x) 0) [] (cond b (was .account ∷ []) []) ++ cond d (Deliver.hold-notice (was .account) (order-hold (ledger s .fee) was) (hold-after (ledger s .fee) c was)) []) (sym e) (sym f)
             ∙ sym (λ j. settled-notice (o-is j .account) x t ++ L.hold-notice (o-is j .account) (old-is j) (after-is j) u)
 
         alike : (t : Store) → ledger t .wallets ≡ change c (ledger s) .wallets → Alike t

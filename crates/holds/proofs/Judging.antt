@@ -48,14 +48,14 @@ small-sum {z} p q e l k =
     refl
 
 module _ {xs : List ℕ} (b : Between xs) (s : Shift) (o : Owned s (ledger (cell xs))) where
-  exact : s .funded ≡ true → (z : Side) → int (cell xs C.accounts (s .account) (held-cell z)) ≡ held (s .account) z (ledger (cell xs) .orders)
+  exact : s .funded ≡ true → (z : Side) → int (cell xs C.accounts (s .account) (held-cell z)) ≡ held (ledger (cell xs) .fee) (s .account) z (ledger (cell xs) .orders)
   exact f = held-exact (cell xs) (s .account) (b .state .sound .held) (b .ok .core-is .holds) (o .inside) (o .has-wallet f)
 
   pub fits-is : (z : Side) → z ≡ side (s .side) → (r : Bool) → r ≡ fits (int (cell xs C.accounts (s .account) (held-cell z)) -ℤ int (s .old) +ℤ int (s .new)) →
       not (s .funded) || r ≡ shift-fits s (ledger (cell xs))
   fits-is z e r h =
-      split (λ b. not b || r ≡ cond b (fits (held (s .account) (side (s .side)) (ledger (cell xs) .orders) -ℤ int (s .old) +ℤ int (s .new))) true) (s .funded)
-      (λ f. h ∙ ap (λ v. fits (v -ℤ int (s .old) +ℤ int (s .new))) (exact f z ∙ ap (λ w. held (s .account) w (ledger (cell xs) .orders)) e)) (λ f. refl)
+      split (λ b. not b || r ≡ cond b (fits (held (ledger (cell xs) .fee) (s .account) (side (s .side)) (ledger (cell xs) .orders) -ℤ int (s .old) +ℤ int (s .new))) true) (s .funded)
+      (λ f. h ∙ ap (λ v. fits (v -ℤ int (s .old) +ℤ int (s .new))) (exact f z ∙ ap (λ w. held (ledger (cell xs) .fee) (s .account) w (ledger (cell xs) .orders)) e)) (λ f. refl)
 
   -- small numbers fit
   abbrev held-at : ℕ
@@ -70,7 +70,7 @@ module _ {xs : List ℕ} (b : Between xs) (s : Shift) (o : Owned s (ledger (cell
   small-fits : is-small s (cell xs) ≡ true → shift-fits s (ledger (cell xs)) ≡ true
   small-fits e =
       let w = below e in
-      split (λ c. cond c (fits (held (s .account) (side (s .side)) (ledger (cell xs) .orders) -ℤ int (s .old) +ℤ int (s .new))) true ≡ true) (s .funded)
+      split (λ c. cond c (fits (held (ledger (cell xs) .fee) (s .account) (side (s .side)) (ledger (cell xs) .orders) -ℤ int (s .old) +ℤ int (s .new))) true ≡ true) (s .funded)
       (λ f.
       ap (λ h. fits (h -ℤ int (s .old) +ℤ int (s .new))) (sym (exact f (side (s .side))))
       ∙ small-sum (held-at + s .new) (s .old + 0) (sum3 0 held-at (s .old) (s .new) (small-is held-at (w .0)) (small-is (s .old) (w .1)) (small-is (s .new) (w .2))) (omega (arith, w .0, w .2)) (omega (arith, w .1)))
@@ -81,19 +81,19 @@ module _ {xs : List ℕ} (b : Between xs) (s : Shift) (o : Owned s (ledger (cell
         r ≡ fits (int (cell xs C.accounts (s .account) (held-cell z)) -ℤ int (s .old) +ℤ int (s .new) -ℤ int (t .old) +ℤ int (t .new)) → r ≡ pair-fits s t (ledger (cell xs))
     pair-one p z e r h =
         let f = and-eq-true-iff (s .funded) (t .funded && (eqb (s .account) (t .account) && same-side (side (s .side)) (side (t .side)))) .0 (sym one-is ∙ p) .0 in
-        h ∙ ap (λ v. fits (v -ℤ int (s .old) +ℤ int (s .new) -ℤ int (t .old) +ℤ int (t .new))) (exact f z ∙ ap (λ w. held (s .account) w (ledger (cell xs) .orders)) e)
+        h ∙ ap (λ v. fits (v -ℤ int (s .old) +ℤ int (s .new) -ℤ int (t .old) +ℤ int (t .new))) (exact f z ∙ ap (λ w. held (ledger (cell xs) .fee) (s .account) w (ledger (cell xs) .orders)) e)
         ∙ sym (ap (λ (c : Bool). judged c) (sym one-is ∙ p))
       where
         judged : Bool → Bool
         judged c =
-            cond c (fits (held (s .account) (side (s .side)) (ledger (cell xs) .orders) -ℤ int (s .old) +ℤ int (s .new) -ℤ int (t .old) +ℤ int (t .new)))
+            cond c (fits (held (ledger (cell xs) .fee) (s .account) (side (s .side)) (ledger (cell xs) .orders) -ℤ int (s .old) +ℤ int (s .new) -ℤ int (t .old) +ℤ int (t .new)))
             (shift-fits s (ledger (cell xs)) && shift-fits t (ledger (cell xs)))
 
     apart : one ≡ false → shift-fits s (ledger (cell xs)) && shift-fits t (ledger (cell xs)) ≡ pair-fits s t (ledger (cell xs))
     apart p =
         sym
         (ap (λ (c : Bool).
-        cond c (fits (held (s .account) (side (s .side)) (ledger (cell xs) .orders) -ℤ int (s .old) +ℤ int (s .new) -ℤ int (t .old) +ℤ int (t .new)))
+        cond c (fits (held (ledger (cell xs) .fee) (s .account) (side (s .side)) (ledger (cell xs) .orders) -ℤ int (s .old) +ℤ int (s .new) -ℤ int (t .old) +ℤ int (t .new)))
         (shift-fits s (ledger (cell xs)) && shift-fits t (ledger (cell xs)))) (sym one-is ∙ p))
 
     module _ (p : one ≡ false) (first : Bool) (first-is : first ≡ shift-fits s (ledger (cell xs))) where
@@ -106,7 +106,7 @@ module _ {xs : List ℕ} (b : Between xs) (s : Shift) (o : Owned s (ledger (cell
 module _ {xs : List ℕ} (b : Between xs) (s t : Shift) (o : Owned s (ledger (cell xs))) (p : Owned t (ledger (cell xs))) where
   pub both-small : (u v : Bool) → u ≡ is-small s (cell xs) → v ≡ is-small t (cell xs) → u && v ≡ true → true ≡ pair-fits s t (ledger (cell xs))
   both-small u v us vs e =
-      split (λ c. (is-one s t ≡ c) → true ≡ cond c (fits (held (s .account) (side (s .side)) (ledger (cell xs) .orders) -ℤ int (s .old) +ℤ int (s .new) -ℤ int (t .old) +ℤ int (t .new))) (shift-fits s (ledger (cell xs)) && shift-fits t (ledger (cell xs))))
+      split (λ c. (is-one s t ≡ c) → true ≡ cond c (fits (held (ledger (cell xs) .fee) (s .account) (side (s .side)) (ledger (cell xs) .orders) -ℤ int (s .old) +ℤ int (s .new) -ℤ int (t .old) +ℤ int (t .new))) (shift-fits s (ledger (cell xs)) && shift-fits t (ledger (cell xs))))
       (is-one s t)
       (λ _ one.
       let f = and-eq-true-iff (s .funded) (t .funded && (eqb (s .account) (t .account) && same-side (side (s .side)) (side (t .side)))) .0 one .0 in

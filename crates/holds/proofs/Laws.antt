@@ -16,10 +16,11 @@ use Rattle.table.specs.declared.Found.{Found}
 use Rattle.gateway.specs.Limits.{most-notices}
 use Rattle.gateway.specs.Table.{update}
 use Rattle.gateway.specs.Ledger.{Order, Ledger, Change, number-of, with-leaves, mark-by, find, paper, wallet-of, change, same-side, held, fits, holds-fit}
-use Rattle.gateway.specs.Deliver.{order-notices, change-notices, notices-of}
+use Rattle.gateway.specs.Deliver.{hold-after, order-notices, change-notices, notices-of}
 use Rattle.gateway.specs.Calls.{Gateway}
 use Rattle.gateway.specs.Invariant.{Ok}
 use Rattle.gateway.proofs.Base.{split}
+use Rattle.gateway.proofs.Invariant.{fees-stay}
 use Rattle.gateway.proofs.Moves.{Of, names, find-changed, wallets-changed, marked-alike, changed-alike, holds-alike, notices-alike}
 use Rattle.store.specs.Cells as C
 use Rattle.store.specs.Layout.{cell}
@@ -46,7 +47,7 @@ shift-is s l =
     p = record { account = s .account; side = side (s .side); old = int (s .old); new = int (s .new) }
 
     h : ℤ
-    h = held (p .account) (p .side) (l .orders) -ℤ p .old +ℤ p .new
+    h = held (l .fee) (p .account) (p .side) (l .orders) -ℤ p .old +ℤ p .new
 
 pair-is : (s t : Shift) (l : Ledger) → pair-fits s t l ≡ both-fit (part s) (part t) l
 pair-is s t l =
@@ -66,10 +67,10 @@ pair-is s t l =
     same = eqb (s .account) (t .account) && same-side (side (s .side)) (side (t .side))
 
     h : ℤ
-    h = held (p .account) (p .side) (l .orders) -ℤ p .old +ℤ p .new
+    h = held (l .fee) (p .account) (p .side) (l .orders) -ℤ p .old +ℤ p .new
 
     k : ℤ
-    k = held (q .account) (q .side) (l .orders) -ℤ q .old +ℤ q .new
+    k = held (l .fee) (q .account) (q .side) (l .orders) -ℤ q .old +ℤ q .new
 
     both : Bool
     both = fits (h -ℤ q .old +ℤ q .new)
@@ -84,12 +85,12 @@ paper-some n l = go (find n (l .orders))
     go none = refl
     go (some o) = split (λ b. b ≡ is-some (cond b (some o) none)) (is-some (wallet-of (l .wallets) o)) (λ _. refl) (λ _. refl)
 
-notices-paper : {n : ℕ} {c : Change} → Of n c → (l : Ledger) → change-notices c l ≡ option [] (order-notices c) (paper-order n l)
-notices-paper {n} {c} h l = ap (option [] (λ o. cond (is-some (wallet-of (l .wallets) o)) (order-notices c o) [])) (names h (l .orders)) ∙ go (find n (l .orders))
+notices-paper : {n : ℕ} {c : Change} → Of n c → (l : Ledger) → change-notices c l ≡ option [] (order-notices (l .fee) c) (paper-order n l)
+notices-paper {n} {c} h l = ap (option [] (λ o. cond (is-some (wallet-of (l .wallets) o)) (order-notices (l .fee) c o) [])) (names h (l .orders)) ∙ go (find n (l .orders))
   where
-    go : (w : Option Order) → option [] (λ o. cond (is-some (wallet-of (l .wallets) o)) (order-notices c o) []) w ≡ option [] (order-notices c) (option none (λ o. cond (is-some (wallet-of (l .wallets) o)) (some o) none) w)
+    go : (w : Option Order) → option [] (λ o. cond (is-some (wallet-of (l .wallets) o)) (order-notices (l .fee) c o) []) w ≡ option [] (order-notices (l .fee) c) (option none (λ o. cond (is-some (wallet-of (l .wallets) o)) (some o) none) w)
     go none = refl
-    go (some o) = split (λ b. cond b (order-notices c o) [] ≡ option [] (order-notices c) (cond b (some o) none)) (is-some (wallet-of (l .wallets) o)) (λ _. refl) (λ _. refl)
+    go (some o) = split (λ b. cond b (order-notices (l .fee) c o) [] ≡ option [] (order-notices (l .fee) c) (cond b (some o) none)) (is-some (wallet-of (l .wallets) o)) (λ _. refl) (λ _. refl)
 
 paper-same : (n : ℕ) (l k : Ledger) → find n (k .orders) ≡ find n (l .orders) → ((a : ℕ) → is-some (getD (k .wallets) a none) ≡ is-some (getD (l .wallets) a none)) → paper-order n k ≡ paper-order n l
 paper-same n l k e f = ap (option none (λ o. cond (is-some (wallet-of (k .wallets) o)) (some o) none)) e ∙ go (find n (l .orders))
@@ -98,26 +99,26 @@ paper-same n l k e f = ap (option none (λ o. cond (is-some (wallet-of (k .walle
     go none = refl
     go (some o) = ap (λ b. cond b (some o) none) (f (o .account))
 
-hold-same : (n : ℕ) (x : Move) (w : ℕ) (l k : Ledger) → find n (k .orders) ≡ find n (l .orders) → NewHold n x w l → NewHold n x w k
-hold-same n x w l k e h o f = h o (sym e ∙ f)
+hold-same : (n : ℕ) (x : Move) (w : ℕ) (l k : Ledger) → k .fee ≡ l .fee → find n (k .orders) ≡ find n (l .orders) → NewHold n x w l → NewHold n x w k
+hold-same n x w l k q e h o f = h o (sym e ∙ f) ∙ ap (λ y. hold-after y (change-of n x) o) (sym q)
 
-pub weighs-same : {n : ℕ} {x : Move} {s : Shift} {g : Gateway} → Weighs n x s g → (h : Gateway) → find n (h .core .ledger .orders) ≡ find n (g .core .ledger .orders) →
+pub weighs-same : {n : ℕ} {x : Move} {s : Shift} {g : Gateway} → Weighs n x s g → (h : Gateway) → h .core .ledger .fee ≡ g .core .ledger .fee → find n (h .core .ledger .orders) ≡ find n (g .core .ledger .orders) →
     ((a : ℕ) → is-some (getD (h .core .ledger .wallets) a none) ≡ is-some (getD (g .core .ledger .wallets) a none)) → Weighs n x s h
-weighs-same {n} {x} {s} {g} w h d f =
+weighs-same {n} {x} {s} {g} w h q d f =
     let l = g .core .ledger in
     let k = h .core .ledger in
     let e = paper-same n l k d f in
     record {
-      owned = record { inside = w .owned .inside; has-wallet = λ q. f (s .account) ∙ w .owned .has-wallet q };
+      owned = record { inside = w .owned .inside; has-wallet = λ u. f (s .account) ∙ w .owned .has-wallet u };
       paper-is = paper-some n k ∙ ap is-some e ∙ sym (paper-some n l) ∙ w .paper-is;
-      noticed = ap length (notices-paper (of n x) k ∙ ap (option [] (order-notices (change-of n x))) e ∙ sym (notices-paper (of n x) l)) ∙ w .noticed;
-      is = w .is ∙ ap (Option·map (part-of (change-of n x))) (sym e);
-      holds = hold-same n x (s .new) l k d (w .holds);
+      noticed = ap length (notices-paper (of n x) k ∙ (λ i. option [] (order-notices (q i) (change-of n x)) (e i)) ∙ sym (notices-paper (of n x) l)) ∙ w .noticed;
+      is = w .is ∙ sym (λ i. Option·map (part-of (q i) (change-of n x)) (e i));
+      holds = hold-same n x (s .new) l k q d (w .holds);
     }
 
 -- where another order has changed
 pub kept-hold : (n : ℕ) (x : Move) (w : ℕ) (l : Ledger) → NewHold n x w l → (i : ℕ) (y : Move) → (i ≡ n → ⊥) → NewHold n x w (change (change-of i y) l)
-kept-hold n x w l h i y ne = hold-same n x w l (change (change-of i y) l) (find-changed i n ne (of i y) l) h
+kept-hold n x w l h i y ne = hold-same n x w l (change (change-of i y) l) (fees-stay (change-of i y ∷ []) l) (find-changed i n ne (of i y) l) h
 
 -- in the bytes
 pub kept-hold-at : (n : ℕ) (x : Move) (w : ℕ) (xs : List ℕ) {ys : List ℕ} → NewHold n x w (ledger (cell xs)) → (i : ℕ) (y : Move) → (i ≡ n → ⊥) → Becomes ys (moved (change-of i y) (gateway (cell xs))) → NewHold n x w (ledger (cell ys))
@@ -147,15 +148,15 @@ left-live {xs} n v b at = seen-live b n at (find-updated n (with-leaves v) (λ o
 
 pub weighs-after : {j : ℕ} {y : Move} {t : Shift} {g : Gateway} → Weighs j y t g → (i : ℕ) (x : Move) → (i ≡ j → ⊥) → Weighs j y t (moved (change-of i x) g)
 weighs-after {j} {g = g} w i x ne =
-    weighs-same w (moved (change-of i x) g) (find-changed i j ne (of i x) (g .core .ledger)) (wallets-changed (change-of i x) (g .core .ledger))
+    weighs-same w (moved (change-of i x) g) (fees-stay (change-of i x ∷ []) (g .core .ledger)) (find-changed i j ne (of i x) (g .core .ledger)) (wallets-changed (change-of i x) (g .core .ledger))
 
 -- at most two notices
 pub weighs-few : {n : ℕ} {x : Move} {s : Shift} {g : Gateway} → Weighs n x s g → s .notices ≤ 2
 weighs-few {n} {x} {s} {g} w = let e = w .noticed in omega (arith, ap length (notices-paper (of n x) (g .core .ledger)), go (paper-order n (g .core .ledger)))
   where
-    go : (o : Option Order) → length (option [] (order-notices (change-of n x)) o) ≤ 2
+    go : (o : Option Order) → length (option [] (order-notices (g .core .ledger .fee) (change-of n x)) o) ≤ 2
     go none = omega arith
-    go (some o) = notices-two n x o
+    go (some o) = notices-two (g .core .ledger .fee) n x o
 
 pub weighed : (xs : List ℕ) (i : ℕ) (x : Move) (h : Shift) → Weighs i x h (gateway (cell xs)) → Weighed h (ledger (cell xs))
 weighed xs i x h w = record { owned = w .owned; few = omega (arith, weighs-few w) }

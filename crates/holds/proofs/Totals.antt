@@ -17,7 +17,7 @@ use Rattle.gateway.specs.Basics.{option, is-some}
 use Rattle.gateway.specs.Ledger.{Order, Ledger, Change, find, wallet-of, change, same-side, held, fits, holds-fit}
 use Rattle.gateway.specs.Deliver.{hold-after}
 use Rattle.gateway.proofs.Base.{split}
-use Rattle.gateway.proofs.Invariant.{Rise}
+use Rattle.gateway.proofs.Invariant.{Rise, fees-stay}
 use Rattle.gateway.proofs.Holds.{Total, totals-fit, Other, holds-listed, side-is}
 use Rattle.gateway.proofs.Moves.{Of, mine, hold-move, held-changed, find-changed, rise-changed, wallets-changed}
 use Rattle.holds.specs.Holds.{Part, part-of, paper-order}
@@ -46,10 +46,11 @@ keys-funded : (l : Ledger) (ps : List Part) → Each (λ p. Funded l (p .account
 keys-funded l [] e = tt
 keys-funded l (p ∷ ps) e = (e .0, keys-funded l ps (e .1))
 
-parts-fit : (l k : Ledger) (ps : List Part) → holds-fit l ≡ true → ((a : ℕ) → is-some (getD (k .wallets) a none) ≡ is-some (getD (l .wallets) a none)) → Each (λ p. Funded l (p .account)) ps →
-    ((a : ℕ) (z : Side) → Funded l a → held a z (k .orders) ≡ moved-by a z (held a z (l .orders)) ps) → holds-fit k ≡ totals-fit (map key ps) (k .orders)
-parts-fit l k ps h same owned moves =
-    holds-listed l k (map key ps) h same (keys-funded l ps owned) (λ a z w e. moves a z w ∙ untouched a z ps e (held a z (l .orders)))
+parts-fit : (l k : Ledger) (ps : List Part) → k .fee ≡ l .fee → holds-fit l ≡ true → ((a : ℕ) → is-some (getD (k .wallets) a none) ≡ is-some (getD (l .wallets) a none)) → Each (λ p. Funded l (p .account)) ps →
+    ((a : ℕ) (z : Side) → Funded l a → held (l .fee) a z (k .orders) ≡ moved-by a z (held (l .fee) a z (l .orders)) ps) → holds-fit k ≡ totals-fit (l .fee) (map key ps) (k .orders)
+parts-fit l k ps q h same owned moves =
+    holds-listed l k (map key ps) h same (keys-funded l ps owned) (λ a z w e. ap (λ f. held f a z (k .orders)) q ∙ moves a z w ∙ untouched a z ps e (held (l .fee) a z (l .orders)))
+    ∙ ap (λ f. totals-fit f (map key ps) (k .orders)) q
 
 -- ---- the part of the order n
 
@@ -57,21 +58,21 @@ abbrev listed : Option Part → List Part
 listed none = []
 listed (some p) = p ∷ []
 
-abbrev weighed : Change → List (Option Funds) → Option Order → Option Part
-weighed c ws w = Option·map (part-of c) (option none (λ o. cond (is-some (wallet-of ws o)) (some o) none) w)
+abbrev weighed : ℤ → Change → List (Option Funds) → Option Order → Option Part
+weighed fee c ws w = Option·map (part-of fee c) (option none (λ o. cond (is-some (wallet-of ws o)) (some o) none) w)
 
-listed-funded : (c : Change) (l : Ledger) (w : Option Order) → Each (λ p. Funded l (p .account)) (listed (weighed c (l .wallets) w))
+listed-funded : (c : Change) (l : Ledger) (w : Option Order) → Each (λ p. Funded l (p .account)) (listed (weighed (l .fee) c (l .wallets) w))
 listed-funded c l none = tt
 listed-funded c l (some o) =
-    split (λ b. (is-some (wallet-of (l .wallets) o) ≡ b) → Each (λ p. Funded l (p .account)) (listed (Option·map (part-of c) (cond b (some o) none)))) (is-some (wallet-of (l .wallets) o)) (λ _ e. (e, tt)) (λ _ e. tt) refl
+    split (λ b. (is-some (wallet-of (l .wallets) o) ≡ b) → Each (λ p. Funded l (p .account)) (listed (Option·map (part-of (l .fee) c) (cond b (some o) none)))) (is-some (wallet-of (l .wallets) o)) (λ _ e. (e, tt)) (λ _ e. tt) refl
 
-move-is : (a : ℕ) (z : Side) (c : Change) (l : Ledger) → Funded l a → (w : Option Order) (h : ℤ) → h +ℤ hold-move a z c w ≡ moved-by a z h (listed (weighed c (l .wallets) w))
+move-is : (a : ℕ) (z : Side) (c : Change) (l : Ledger) → Funded l a → (w : Option Order) (h : ℤ) → h +ℤ hold-move (l .fee) a z c w ≡ moved-by a z h (listed (weighed (l .fee) c (l .wallets) w))
 move-is a z c l f none h = +ℤ-idr h
 move-is a z c l f (some o) h =
-    split (λ b. (is-some (wallet-of (l .wallets) o) ≡ b) → h +ℤ hold-move a z c (some o) ≡ moved-by a z h (listed (Option·map (part-of c) (cond b (some o) none)))) (is-some (wallet-of (l .wallets) o))
+    split (λ b. (is-some (wallet-of (l .wallets) o) ≡ b) → h +ℤ hold-move (l .fee) a z c (some o) ≡ moved-by a z h (listed (Option·map (part-of (l .fee) c) (cond b (some o) none)))) (is-some (wallet-of (l .wallets) o))
     (λ _ e. refl)
     (λ _ e.
-    split (λ m. (mine a z o ≡ m) → h +ℤ cond m (hold-after c o -ℤ (part-of c o .old)) (pos 0) ≡ h) (mine a z o)
+    split (λ m. (mine a z o ≡ m) → h +ℤ cond m (hold-after (l .fee) c o -ℤ (part-of (l .fee) c o .old)) (pos 0) ≡ h) (mine a z o)
     (λ _ m. absurd (false≢true (sym e ∙ ap (λ b. is-some (getD (l .wallets) b none)) (eqb-true (o .account) a (and-eq-true-iff (eqb (o .account) a) (same-side z (o .side)) .0 m .0)) ∙ f)))
     (λ _ m. +ℤ-idr h) refl)
     refl
@@ -80,13 +81,13 @@ move-is a z c l f (some o) h =
 
 abbrev pub part-fits : Option Part → Ledger → Bool
 part-fits none l = true
-part-fits (some p) l = fits (held (p .account) (p .side) (l .orders) -ℤ p .old +ℤ p .new)
+part-fits (some p) l = fits (held (l .fee) (p .account) (p .side) (l .orders) -ℤ p .old +ℤ p .new)
 
 abbrev pub both-fit : Option Part → Option Part → Ledger → Bool
 both-fit none v l = part-fits v l
 both-fit (some p) none l = part-fits (some p) l && true
 both-fit (some p) (some q) l =
-    cond (eqb (p .account) (q .account) && same-side (p .side) (q .side)) (fits (held (p .account) (p .side) (l .orders) -ℤ p .old +ℤ p .new -ℤ q .old +ℤ q .new))
+    cond (eqb (p .account) (q .account) && same-side (p .side) (q .side)) (fits (held (l .fee) (p .account) (p .side) (l .orders) -ℤ p .old +ℤ p .new -ℤ q .old +ℤ q .new))
     (part-fits (some p) l && part-fits (some q) l)
 
 -- ---- sums
@@ -123,22 +124,22 @@ own p = ap₂ (λ b c. b && c) (eq-eqb (p .account) (p .account) refl) (itself (
 
 module _ (l : Ledger) (rise : Rise 0 (l .orders)) (fit : holds-fit l ≡ true) where
   module _ {i : ℕ} {c : Change} (of : Of i c) where
-    one-moves : (a : ℕ) (z : Side) → Funded l a → held a z (change c l .orders) ≡ moved-by a z (held a z (l .orders)) (listed (Option·map (part-of c) (paper-order i l)))
-    one-moves a z f = held-changed a z of l rise ∙ move-is a z c l f (find i (l .orders)) (held a z (l .orders))
+    one-moves : (a : ℕ) (z : Side) → Funded l a → held (l .fee) a z (change c l .orders) ≡ moved-by a z (held (l .fee) a z (l .orders)) (listed (Option·map (part-of (l .fee) c) (paper-order i l)))
+    one-moves a z f = held-changed (l .fee) a z of l rise ∙ move-is a z c l f (find i (l .orders)) (held (l .fee) a z (l .orders))
 
-    one-decides : (u : Option Part) → u ≡ Option·map (part-of c) (paper-order i l) → holds-fit (change c l) ≡ totals-fit (map key (listed u)) (change c l .orders)
+    one-decides : (u : Option Part) → u ≡ Option·map (part-of (l .fee) c) (paper-order i l) → holds-fit (change c l) ≡ totals-fit (l .fee) (map key (listed u)) (change c l .orders)
     one-decides u e =
-        parts-fit l (change c l) (listed u) fit (wallets-changed c l) (subst (λ v. Each (λ p. Funded l (p .account)) (listed v)) (sym e) (listed-funded c l (find i (l .orders))))
-        (λ a z f. one-moves a z f ∙ ap (λ v. moved-by a z (held a z (l .orders)) (listed v)) (sym e))
+        parts-fit l (change c l) (listed u) (fees-stay (c ∷ []) l) fit (wallets-changed c l) (subst (λ v. Each (λ p. Funded l (p .account)) (listed v)) (sym e) (listed-funded c l (find i (l .orders))))
+        (λ a z f. one-moves a z f ∙ ap (λ v. moved-by a z (held (l .fee) a z (l .orders)) (listed v)) (sym e))
 
-    pub one-fits : (u : Option Part) → u ≡ Option·map (part-of c) (paper-order i l) → part-fits u l ≡ holds-fit (change c l)
+    pub one-fits : (u : Option Part) → u ≡ Option·map (part-of (l .fee) c) (paper-order i l) → part-fits u l ≡ holds-fit (change c l)
     one-fits none e = sym (one-decides none e)
     one-fits (some p) e =
         sym
         (one-decides (some p) e ∙ and-true _
         ∙ ap fits
-        (one-moves (p .account) (p .side) owned ∙ ap (λ v. moved-by (p .account) (p .side) (held (p .account) (p .side) (l .orders)) (listed v)) (sym e)
-        ∙ here (p .account) (p .side) (held (p .account) (p .side) (l .orders)) p (own p)))
+        (one-moves (p .account) (p .side) owned ∙ ap (λ v. moved-by (p .account) (p .side) (held (l .fee) (p .account) (p .side) (l .orders)) (listed v)) (sym e)
+        ∙ here (p .account) (p .side) (held (l .fee) (p .account) (p .side) (l .orders)) p (own p)))
       where
         owned : Funded l (p .account)
         owned = subst (λ v. Each (λ q. Funded l (q .account)) (listed v)) (sym e) (listed-funded c l (find i (l .orders))) .0
@@ -153,35 +154,35 @@ module _ (l : Ledger) (rise : Rise 0 (l .orders)) (fit : holds-fit l ≡ true) w
       split-moves a z h [] qs = refl
       split-moves a z h (p ∷ ps) qs = split-moves a z (h +ℤ move a z p) ps qs
 
-      two-moves : (u v : Option Part) → u ≡ Option·map (part-of c) (paper-order i l) → v ≡ Option·map (part-of d) (paper-order j l) → (a : ℕ) (z : Side) → Funded l a →
-          held a z (after .orders) ≡ moved-by a z (held a z (l .orders)) (listed u ++ listed v)
+      two-moves : (u v : Option Part) → u ≡ Option·map (part-of (l .fee) c) (paper-order i l) → v ≡ Option·map (part-of (l .fee) d) (paper-order j l) → (a : ℕ) (z : Side) → Funded l a →
+          held (l .fee) a z (after .orders) ≡ moved-by a z (held (l .fee) a z (l .orders)) (listed u ++ listed v)
       two-moves u v e f a z w =
-          held-changed a z od (change c l) (rise-changed c l rise)
-          ∙ ap₂ (λ h x. h +ℤ hold-move a z d x) (one-moves a z w ∙ ap (λ y. moved-by a z (held a z (l .orders)) (listed y)) (sym e)) (find-changed i j ne of l)
-          ∙ move-is a z d l w (find j (l .orders)) (moved-by a z (held a z (l .orders)) (listed u))
-          ∙ ap (λ y. moved-by a z (moved-by a z (held a z (l .orders)) (listed u)) (listed y)) (sym f)
-          ∙ sym (split-moves a z (held a z (l .orders)) (listed u) (listed v))
+          held-changed (l .fee) a z od (change c l) (rise-changed c l rise)
+          ∙ ap₂ (λ h x. h +ℤ hold-move (l .fee) a z d x) (one-moves a z w ∙ ap (λ y. moved-by a z (held (l .fee) a z (l .orders)) (listed y)) (sym e)) (find-changed i j ne of l)
+          ∙ move-is a z d l w (find j (l .orders)) (moved-by a z (held (l .fee) a z (l .orders)) (listed u))
+          ∙ ap (λ y. moved-by a z (moved-by a z (held (l .fee) a z (l .orders)) (listed u)) (listed y)) (sym f)
+          ∙ sym (split-moves a z (held (l .fee) a z (l .orders)) (listed u) (listed v))
 
-      two-owned : (u v : Option Part) → u ≡ Option·map (part-of c) (paper-order i l) → v ≡ Option·map (part-of d) (paper-order j l) → Each (λ p. Funded l (p .account)) (listed u ++ listed v)
+      two-owned : (u v : Option Part) → u ≡ Option·map (part-of (l .fee) c) (paper-order i l) → v ≡ Option·map (part-of (l .fee) d) (paper-order j l) → Each (λ p. Funded l (p .account)) (listed u ++ listed v)
       two-owned u v e f =
           each-append (λ p. Funded l (p .account)) (listed u) (listed v) (subst (λ y. Each (λ q. Funded l (q .account)) (listed y)) (sym e) (listed-funded c l (find i (l .orders))))
           (subst (λ y. Each (λ q. Funded l (q .account)) (listed y)) (sym f) (listed-funded d l (find j (l .orders))))
 
-      two-decide : (u v : Option Part) → u ≡ Option·map (part-of c) (paper-order i l) → v ≡ Option·map (part-of d) (paper-order j l) → holds-fit after ≡ totals-fit (map key (listed u ++ listed v)) (after .orders)
+      two-decide : (u v : Option Part) → u ≡ Option·map (part-of (l .fee) c) (paper-order i l) → v ≡ Option·map (part-of (l .fee) d) (paper-order j l) → holds-fit after ≡ totals-fit (l .fee) (map key (listed u ++ listed v)) (after .orders)
       two-decide u v e f =
-          parts-fit l after (listed u ++ listed v) fit (λ a. wallets-changed d (change c l) a ∙ wallets-changed c l a) (two-owned u v e f) (two-moves u v e f)
+          parts-fit l after (listed u ++ listed v) (fees-stay (c ∷ d ∷ []) l) fit (λ a. wallets-changed d (change c l) a ∙ wallets-changed c l a) (two-owned u v e f) (two-moves u v e f)
 
       twice : (b : Bool) → b && (b && true) ≡ b
       twice true = refl
       twice false = refl
 
-      both-parts : (p q : Part) → some p ≡ Option·map (part-of c) (paper-order i l) → some q ≡ Option·map (part-of d) (paper-order j l) → both-fit (some p) (some q) l ≡ holds-fit after
+      both-parts : (p q : Part) → some p ≡ Option·map (part-of (l .fee) c) (paper-order i l) → some q ≡ Option·map (part-of (l .fee) d) (paper-order j l) → both-fit (some p) (some q) l ≡ holds-fit after
       both-parts p q e f =
           let o = two-owned (some p) (some q) e f in
           let at-p = two-moves (some p) (some q) e f (p .account) (p .side) (o .0) in
           let at-q = two-moves (some p) (some q) e f (q .account) (q .side) (o .1 .0) in
-          let hp = held (p .account) (p .side) (l .orders) in
-          let hq = held (q .account) (q .side) (l .orders) in
+          let hp = held (l .fee) (p .account) (p .side) (l .orders) in
+          let hq = held (l .fee) (q .account) (q .side) (l .orders) in
           let flip : (eqb (q .account) (p .account) && same-side (p .side) (q .side)) ≡ (eqb (p .account) (q .account) && same-side (p .side) (q .side)) = ap (λ b. b && same-side (p .side) (q .side)) (eqb-comm (q .account) (p .account)) in
           let turn : (eqb (p .account) (q .account) && same-side (q .side) (p .side)) ≡ (eqb (p .account) (q .account) && same-side (p .side) (q .side)) = ap (λ b. eqb (p .account) (q .account) && b) (side-comm (q .side) (p .side)) in
           split
@@ -189,10 +190,10 @@ module _ (l : Ledger) (rise : Rise 0 (l .orders)) (fit : holds-fit l ≡ true) w
           (eqb (p .account) (q .account) && same-side (p .side) (q .side))
           (λ _ s.
           let k = and-eq-true-iff (eqb (p .account) (q .account)) (same-side (p .side) (q .side)) .0 s in
-          let sum : held (p .account) (p .side) (after .orders) ≡ hp -ℤ p .old +ℤ p .new -ℤ q .old +ℤ q .new =
+          let sum : held (l .fee) (p .account) (p .side) (after .orders) ≡ hp -ℤ p .old +ℤ p .new -ℤ q .old +ℤ q .new =
           at-p ∙ ap (λ h. h +ℤ move (p .account) (p .side) q) (here (p .account) (p .side) hp p (own p)) ∙ here (p .account) (p .side) (hp -ℤ p .old +ℤ p .new) q (flip ∙ s) in
-          let one : held (q .account) (q .side) (after .orders) ≡ held (p .account) (p .side) (after .orders) =
-          sym (ap₂ (λ a z. held a z (after .orders)) (eqb-true (p .account) (q .account) (k .0)) (side-is (p .side) (q .side) (k .1))) in
+          let one : held (l .fee) (q .account) (q .side) (after .orders) ≡ held (l .fee) (p .account) (p .side) (after .orders) =
+          sym (ap₂ (λ a z. held (l .fee) a z (after .orders)) (eqb-true (p .account) (q .account) (k .0)) (side-is (p .side) (q .side) (k .1))) in
           sym
           (two-decide (some p) (some q) e f ∙ ap₂ (λ x y. fits x && (fits y && true)) sum (one ∙ sum) ∙ twice (fits (hp -ℤ p .old +ℤ p .new -ℤ q .old +ℤ q .new))))
           (λ _ s.
@@ -201,12 +202,12 @@ module _ (l : Ledger) (rise : Rise 0 (l .orders)) (fit : holds-fit l ≡ true) w
           sym (two-decide (some p) (some q) e f ∙ ap₂ (λ x y. fits x && (fits y && true)) first second ∙ ap (λ b. fits (hp -ℤ p .old +ℤ p .new) && b) (and-true (fits (hq -ℤ q .old +ℤ q .new)))))
           refl
 
-      pub two-fit : (u v : Option Part) → u ≡ Option·map (part-of c) (paper-order i l) → v ≡ Option·map (part-of d) (paper-order j l) → both-fit u v l ≡ holds-fit after
+      pub two-fit : (u v : Option Part) → u ≡ Option·map (part-of (l .fee) c) (paper-order i l) → v ≡ Option·map (part-of (l .fee) d) (paper-order j l) → both-fit u v l ≡ holds-fit after
       two-fit none none e f = sym (two-decide none none e f)
       two-fit none (some q) e f =
           let at-q = two-moves none (some q) e f (q .account) (q .side) (two-owned none (some q) e f .0) in
-          sym (two-decide none (some q) e f ∙ and-true _ ∙ ap fits (at-q ∙ here (q .account) (q .side) (held (q .account) (q .side) (l .orders)) q (own q)))
+          sym (two-decide none (some q) e f ∙ and-true _ ∙ ap fits (at-q ∙ here (q .account) (q .side) (held (l .fee) (q .account) (q .side) (l .orders)) q (own q)))
       two-fit (some p) none e f =
           let at-p = two-moves (some p) none e f (p .account) (p .side) (two-owned (some p) none e f .0) in
-          sym (two-decide (some p) none e f ∙ ap (λ x. fits x && true) (at-p ∙ here (p .account) (p .side) (held (p .account) (p .side) (l .orders)) p (own p)))
+          sym (two-decide (some p) none e f ∙ ap (λ x. fits x && true) (at-p ∙ here (p .account) (p .side) (held (l .fee) (p .account) (p .side) (l .orders)) p (own p)))
       two-fit (some p) (some q) e f = both-parts p q e f

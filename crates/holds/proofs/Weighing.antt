@@ -5,7 +5,7 @@ use mathlib.Core.Option.{Option, none, some, Option·map, Option·none-ne-some, 
 use mathlib.Core.List.{List, [], _∷_, _++_}
 use Prim.Native.Nat.{ℕ, _+_, _≤_, _<_}
 use native.Mathlib.Omega.{arith}
-use lib.IntN.{pos, _-ℤ_}
+use lib.IntN.{ℤ, pos, _-ℤ_}
 use lib.Dec.{eqb}
 use lib.ListN.{length}
 use Rattle.words.specs.Words.{int, modulus}
@@ -22,7 +22,7 @@ use Rattle.gateway.proofs.Base.{split}
 use Rattle.gateway.proofs.Moves.{Of, fills, sets, reprices, retires, names}
 use Rattle.store.specs.Cells as C
 use Rattle.store.specs.Layout.{cell}
-use Rattle.store.specs.View.{Row, Store, side, order, wallet, ledger, gateway, order-room}
+use Rattle.store.specs.View.{Row, Store, word, side, order, wallet, ledger, gateway, order-room}
 use Rattle.clients.proofs.Views.{wallet-at-row}
 use Rattle.orders.specs.declared.Live.{Live}
 use Rattle.orders.specs.Orders.{Sees, live-row}
@@ -71,32 +71,32 @@ row-weighed k new o s b n e q =
 abbrev pub settled : ℕ → Move → List ℕ
 settled a x = cond (eqb (settles x) 0) [] (a ∷ [])
 
-pub notices-are : (n : ℕ) (x : Move) (q : Order) → order-notices (change-of n x) q ≡ settled (q .account) x ++ Deliver.hold-notice (q .account) (order-hold q) (hold-after (change-of n x) q)
-notices-are n (Fill p q v) o = refl
-notices-are n (Leaves v) o = refl
-notices-are n (Reprice p v) o = refl
-notices-are n Retire o = refl
+pub notices-are : (fee : ℤ) (n : ℕ) (x : Move) (q : Order) → order-notices fee (change-of n x) q ≡ settled (q .account) x ++ Deliver.hold-notice (q .account) (order-hold fee q) (hold-after fee (change-of n x) q)
+notices-are fee n (Fill p q v) o = refl
+notices-are fee n (Leaves v) o = refl
+notices-are fee n (Reprice p v) o = refl
+notices-are fee n Retire o = refl
 
-counted : (n : ℕ) (x : Move) (q : Order) → length (order-notices (change-of n x) q) ≡ cond (is-zero (hold-after (change-of n x) q -ℤ order-hold q)) (settles x) (settles x + 1)
-counted n (Fill p m v) q = split (λ b. length (q .account ∷ cond b [] (q .account ∷ [])) ≡ cond b 1 2) (is-zero (hold (q .side) (q .price) v -ℤ order-hold q)) (λ _. refl) (λ _. refl)
-counted n (Leaves v) q = split (λ b. length (cond b [] (q .account ∷ [])) ≡ cond b 0 1) (is-zero (hold (q .side) (q .price) v -ℤ order-hold q)) (λ _. refl) (λ _. refl)
-counted n (Reprice p v) q = split (λ b. length (cond b [] (q .account ∷ [])) ≡ cond b 0 1) (is-zero (hold-after (change-of n (Reprice p v)) q -ℤ order-hold q)) (λ _. refl) (λ _. refl)
-counted n Retire q = split (λ b. length (cond b [] (q .account ∷ [])) ≡ cond b 0 1) (is-zero (pos 0 -ℤ order-hold q)) (λ _. refl) (λ _. refl)
+counted : (fee : ℤ) (n : ℕ) (x : Move) (q : Order) → length (order-notices fee (change-of n x) q) ≡ cond (is-zero (hold-after fee (change-of n x) q -ℤ order-hold fee q)) (settles x) (settles x + 1)
+counted fee n (Fill p m v) q = split (λ b. length (q .account ∷ cond b [] (q .account ∷ [])) ≡ cond b 1 2) (is-zero (hold fee (q .side) (q .price) v -ℤ order-hold fee q)) (λ _. refl) (λ _. refl)
+counted fee n (Leaves v) q = split (λ b. length (cond b [] (q .account ∷ [])) ≡ cond b 0 1) (is-zero (hold fee (q .side) (q .price) v -ℤ order-hold fee q)) (λ _. refl) (λ _. refl)
+counted fee n (Reprice p v) q = split (λ b. length (cond b [] (q .account ∷ [])) ≡ cond b 0 1) (is-zero (hold-after fee (change-of n (Reprice p v)) q -ℤ order-hold fee q)) (λ _. refl) (λ _. refl)
+counted fee n Retire q = split (λ b. length (cond b [] (q .account ∷ [])) ≡ cond b 0 1) (is-zero (pos 0 -ℤ order-hold fee q)) (λ _. refl) (λ _. refl)
 
-pub notices-two : (n : ℕ) (x : Move) (q : Order) → length (order-notices (change-of n x) q) ≤ 2
-notices-two n x q = rw (counted n x q) (split (λ b. cond b (settles x) (settles x + 1) ≤ 2) (is-zero (hold-after (change-of n x) q -ℤ order-hold q)) (λ _. omega (arith, settles-small x)) (λ _. omega (arith, settles-small x)))
+pub notices-two : (fee : ℤ) (n : ℕ) (x : Move) (q : Order) → length (order-notices fee (change-of n x) q) ≤ 2
+notices-two fee n x q = rw (counted fee n x q) (split (λ b. cond b (settles x) (settles x + 1) ≤ 2) (is-zero (hold-after fee (change-of n x) q -ℤ order-hold fee q)) (λ _. omega (arith, settles-small x)) (λ _. omega (arith, settles-small x)))
 
 pub notices-by : (n : ℕ) (x : Move) (l : Ledger) {w : Option Order} → find n (l .orders) ≡ w →
-    change-notices (change-of n x) l ≡ option [] (λ q. cond (is-some (wallet-of (l .wallets) q)) (order-notices (change-of n x) q) []) w
-notices-by n x l e = ap (option [] (λ q. cond (is-some (wallet-of (l .wallets) q)) (order-notices (change-of n x) q) [])) (names (of n x) (l .orders) ∙ e)
+    change-notices (change-of n x) l ≡ option [] (λ q. cond (is-some (wallet-of (l .wallets) q)) (order-notices (l .fee) (change-of n x) q) []) w
+notices-by n x l e = ap (option [] (λ q. cond (is-some (wallet-of (l .wallets) q)) (order-notices (l .fee) (change-of n x) q) [])) (names (of n x) (l .orders) ∙ e)
 
 -- ---- the order that x changes
 
-pub new-is : (n : ℕ) (x : Move) (r : Row) → int (hold-after-word x r) ≡ hold-after (change-of n x) (order r)
-new-is n (Fill p q v) r = hold-is (r C.order-side) (r C.order-priced) (r C.order-price) v
-new-is n (Leaves v) r = hold-is (r C.order-side) (r C.order-priced) (r C.order-price) v
-new-is n (Reprice p v) r = hold-is (r C.order-side) 1 p v
-new-is n Retire r = int-zero
+pub new-is : (fee n : ℕ) (x : Move) (r : Row) → int (hold-after-word fee x r) ≡ hold-after (int fee) (change-of n x) (order r)
+new-is fee n (Fill p q v) r = hold-is fee (r C.order-side) (r C.order-priced) (r C.order-price) v
+new-is fee n (Leaves v) r = hold-is fee (r C.order-side) (r C.order-priced) (r C.order-price) v
+new-is fee n (Reprice p v) r = hold-is fee (r C.order-side) 1 p v
+new-is fee n Retire r = int-zero
 
 module _ (xs : List ℕ) (st : State xs) (n : ℕ) (at : Found) (sees : Sees C.order-live order number-of (cell xs) n at) where
   abbrev s : Store
@@ -117,7 +117,7 @@ module _ (xs : List ℕ) (st : State xs) (n : ℕ) (at : Found) (sees : Sees C.o
         owned = record { inside = omega arith; has-wallet = λ q. absurd (false≢true q) };
         paper-is = ap (option false (λ o. is-some (wallet-of (ledger s .wallets) o))) gone;
         noticed = ap length (notices-by n x (ledger s) gone);
-        is = sym (ap (λ w. Option·map (part-of (change-of n x)) (option none (λ o. cond (is-some (wallet-of (ledger s .wallets) o)) (some o) none) w)) gone);
+        is = sym (ap (λ w. Option·map (part-of (ledger s .fee) (change-of n x)) (option none (λ o. cond (is-some (wallet-of (ledger s .wallets) o)) (some o) none) w)) gone);
         holds = holds-nothing x 0 absent;
       })
 
@@ -137,8 +137,8 @@ module _ (xs : List ℕ) (st : State xs) (n : ℕ) (at : Found) (sees : Sees C.o
     pub live-at : L.At i s
     live-at = record { inside = there .row .0; live = there .row .2 }
 
-    holds-row : (x : Move) (w : ℕ) → w ≡ hold-after-word x (s C.orders i) → NewHold n x w (ledger s)
-    holds-row x w e q f = ap int e ∙ new-is n x (s C.orders i) ∙ ap (hold-after (change-of n x)) (Option·some-injective was q (sym (there .order) ∙ f))
+    holds-row : (x : Move) (w : ℕ) → w ≡ hold-after-word (word s C.fee) x (s C.orders i) → NewHold n x w (ledger s)
+    holds-row x w e q f = ap int e ∙ new-is (word s C.fee) n x (s C.orders i) ∙ ap (hold-after (ledger s .fee) (change-of n x)) (Option·some-injective was q (sym (there .order) ∙ f))
 
     module _ (o : Live) (o-is : o ≡ live-row (s C.orders i)) where
       pub owner-small : o .account < owner-slots
@@ -152,14 +152,14 @@ module _ (xs : List ℕ) (st : State xs) (n : ℕ) (at : Found) (sees : Sees C.o
             owned = record { inside = small; has-wallet = λ q. wallet-is ∙ q };
             paper-is = ap (option false (λ q. is-some (wallet-of (ledger s .wallets) q))) (there .order) ∙ wallet-is;
             noticed =
-                ap length (notices-by n x (ledger s) (there .order) ∙ ap (λ c. cond c (order-notices (change-of n x) was) []) wallet-is)
-                ∙ split (λ c. length (cond c (order-notices (change-of n x) was) []) ≡ cond c (notice-count k (s C.orders i C.order-hold) new) 0) funded
-                (λ _. counted n x was ∙ (λ j. cond (is-zero (sym after-is j -ℤ sym old-is j)) (k-is j) (k-is j + 1))) (λ _. refl);
+                ap length (notices-by n x (ledger s) (there .order) ∙ ap (λ c. cond c (order-notices (ledger s .fee) (change-of n x) was) []) wallet-is)
+                ∙ split (λ c. length (cond c (order-notices (ledger s .fee) (change-of n x) was) []) ≡ cond c (notice-count k (s C.orders i C.order-hold) new) 0) funded
+                (λ _. counted (ledger s .fee) n x was ∙ (λ j. cond (is-zero (sym after-is j -ℤ sym old-is j)) (k-is j) (k-is j + 1))) (λ _. refl);
             is =
                 split (λ c. cond c (some (record { account = was .account; side = was .side; old = int (s C.orders i C.order-hold); new = int new })) none ≡
-                Option·map (part-of (change-of n x)) (cond c (some was) none)) funded
+                Option·map (part-of (ledger s .fee) (change-of n x)) (cond c (some was) none)) funded
                 (λ _ j. some (record { account = was .account; side = was .side; old = old-is j; new = after-is j })) (λ _. refl)
-                ∙ sym (ap (Option·map (part-of (change-of n x))) order-is);
+                ∙ sym (ap (Option·map (part-of (ledger s .fee) (change-of n x))) order-is);
             holds = new-is;
           })
         where
@@ -172,18 +172,18 @@ module _ (xs : List ℕ) (st : State xs) (n : ℕ) (at : Found) (sees : Sees C.o
           order-is : paper-order n (ledger s) ≡ cond funded (some was) none
           order-is = ap (option none (λ q. cond (is-some (wallet-of (ledger s .wallets) q)) (some q) none)) (there .order) ∙ ap (λ c. cond c (some was) none) wallet-is
 
-          old-is : int (s C.orders i C.order-hold) ≡ order-hold was
+          old-is : int (s C.orders i C.order-hold) ≡ order-hold (ledger s .fee) was
           old-is = st .sound .held .rows i (there .row .0) (there .row .2) .hold-is
 
-          after-is : int new ≡ hold-after (change-of n x) was
+          after-is : int new ≡ hold-after (ledger s .fee) (change-of n x) was
           after-is = new-is was (there .order)
 
       -- what it holds then, in words
-      pub left-holds : (b : Bool) (c q p v r : ℕ) → c ≡ cond b 1 (o .priced) → q ≡ cond b p (o .price) → r ≡ L.hold-word (o .side) c q v → NewHold n (leaving b p v) r (ledger s)
-      left-holds b c q p v r e f g =
+      pub left-holds : (b : Bool) (fee c q p v r : ℕ) → fee ≡ word s C.fee → c ≡ cond b 1 (o .priced) → q ≡ cond b p (o .price) → r ≡ L.hold-word fee (o .side) c q v → NewHold n (leaving b p v) r (ledger s)
+      left-holds b fee c q p v r k e f g =
           holds-row (leaving b p v) r
-          (g ∙ ap₂ (λ c q. L.hold-word (o .side) c q v) e f ∙ ap (λ (w : Live). L.hold-word (w .side) (cond b 1 (w .priced)) (cond b p (w .price)) v) o-is
-          ∙ split (λ b. L.hold-word (s C.orders i C.order-side) (cond b 1 (s C.orders i C.order-priced)) (cond b p (s C.orders i C.order-price)) v ≡ hold-after-word (leaving b p v) (s C.orders i)) b (λ _. refl) (λ _. refl))
+          (g ∙ (λ i. L.hold-word (k i) (o .side) (e i) (f i) v) ∙ ap (λ (w : Live). L.hold-word (word s C.fee) (w .side) (cond b 1 (w .priced)) (cond b p (w .price)) v) o-is
+          ∙ split (λ b. L.hold-word (word s C.fee) (s C.orders i C.order-side) (cond b 1 (s C.orders i C.order-priced)) (cond b p (s C.orders i C.order-price)) v ≡ hold-after-word (word s C.fee) (leaving b p v) (s C.orders i)) b (λ _. refl) (λ _. refl))
 
 -- ---- in the arms of a match
 

@@ -45,8 +45,8 @@ pub record Part : Type 0 where
   pub old : ℤ
   pub new : ℤ
 
-abbrev pub part-of : Change → Order → Part
-part-of x o = record { account = o .account; side = o .side; old = order-hold o; new = hold-after x o }
+abbrev pub part-of : ℤ → Change → Order → Part
+part-of fee x o = record { account = o .account; side = o .side; old = order-hold fee o; new = hold-after fee x o }
 
 -- the live order n, where its account has a wallet
 abbrev pub paper-order : ℕ → Ledger → Option Order
@@ -68,14 +68,14 @@ leaving false p v = Leaves v
 
 -- w is what the live order n holds after x
 abbrev pub NewHold : ℕ → Move → ℕ → Ledger → Type 0
-NewHold n x w l = (o : Order) → find n (l .orders) ≡ some o → int w ≡ hold-after (change-of n x) o
+NewHold n x w l = (o : Order) → find n (l .orders) ≡ some o → int w ≡ hold-after (l .fee) (change-of n x) o
 
 -- s is what x would do to the order n
 pub record Weighs (n : ℕ) (x : Move) (s : Shift) (g : Gateway) : Type 0 where
   pub owned : Owned s (g .core .ledger)
   pub paper-is : paper n (g .core .ledger) ≡ s .funded
   pub noticed : length (change-notices (change-of n x) (g .core .ledger)) ≡ s .notices
-  pub is : part s ≡ Option·map (part-of (change-of n x)) (paper-order n (g .core .ledger))
+  pub is : part s ≡ Option·map (part-of (g .core .ledger .fee) (change-of n x)) (paper-order n (g .core .ledger))
   pub holds : NewHold n x (s .new) (g .core .ledger)
 
 -- what is known of every shift that was weighed
@@ -87,7 +87,7 @@ pub record Weighed (h : Shift) (l : Ledger) : Type 0 where
 
 -- code 7 for the total that s is a part of
 abbrev pub shift-fits : Shift → Ledger → Bool
-shift-fits s l = cond (s .funded) (fits (held (s .account) (side (s .side)) (l .orders) -ℤ int (s .old) +ℤ int (s .new))) true
+shift-fits s l = cond (s .funded) (fits (held (l .fee) (s .account) (side (s .side)) (l .orders) -ℤ int (s .old) +ℤ int (s .new))) true
 
 -- code 5 for its notices
 abbrev pub few-notices : Shift → Gateway → Bool
@@ -101,7 +101,7 @@ is-one s t = s .funded && (t .funded && (eqb (s .account) (t .account) && same-s
 abbrev pub pair-fits : Shift → Shift → Ledger → Bool
 pair-fits s t l =
     cond (is-one s t)
-    (fits (held (s .account) (side (s .side)) (l .orders) -ℤ int (s .old) +ℤ int (s .new) -ℤ int (t .old) +ℤ int (t .new)))
+    (fits (held (l .fee) (s .account) (side (s .side)) (l .orders) -ℤ int (s .old) +ℤ int (s .new) -ℤ int (t .old) +ℤ int (t .new)))
     (shift-fits s l && shift-fits t l)
 
 -- ---- in words
@@ -109,12 +109,12 @@ pair-fits s t l =
 abbrev pub nothing : Shift
 nothing = record { account = 0; side = 0; old = 0; new = 0; notices = 0; funded = false }
 
--- what the order of a row holds after x
-abbrev pub hold-after-word : Move → Row → ℕ
-hold-after-word (Fill p q v) r = hold-left v r
-hold-after-word (Leaves v) r = hold-left v r
-hold-after-word (Reprice p v) r = hold-repriced p v r
-hold-after-word Retire r = 0
+-- what the order of a row holds after x, at this fee
+abbrev pub hold-after-word : ℕ → Move → Row → ℕ
+hold-after-word fee (Fill p q v) r = hold-left fee v r
+hold-after-word fee (Leaves v) r = hold-left fee v r
+hold-after-word fee (Reprice p v) r = hold-repriced fee p v r
+hold-after-word fee Retire r = 0
 
 -- 1 where money moves
 abbrev pub settles : Move → ℕ

@@ -49,7 +49,7 @@ pub fn left(m: &[u8], id: u64, at: Found, repriced: bool, price: u64, leaves: u6
         let o = orders::live_at(m, i);
         let flag = live::choose(repriced, 1, o.priced);
         let p = live::choose(repriced, price, o.price);
-        return live::hold_of(o.side, flag, p, leaves);
+        return live::hold_of(live::fee_of(m), o.side, flag, p, leaves);
     }
     0
 }
@@ -257,7 +257,7 @@ pub fn weigh_move(m: &[u8], id: u64, at: Found, x: Move) -> Shift
 }
 
 fn change_row(m: &mut [u8], i: usize, x: Move, new: u64)
-    requires { ⌜ State (now m) × At i (cell (now m)) × (new ≡ P.hold-after-word x (cell (now m) C.orders i)) ⌝ }
+    requires { ⌜ State (now m) × At i (cell (now m)) × (new ≡ P.hold-after-word (word (cell (now m)) C.fee) x (cell (now m) C.orders i)) ⌝ }
     ensures { λ r. ⌜ InPlace (now (m .entry)) (now (m .exit)) (with-ledger (change (P.change-of (number-at i (cell (now (m .entry)))) x)) (gateway (cell (now (m .entry))))) ⌝ }
 {
     match x {

@@ -2,7 +2,7 @@
 use mathlib.Core.Path.{_≡_, refl, ap, _∙_}
 use mathlib.Core.Bool.{true, false, true≢false}
 use mathlib.Core.List.{[], _∷_}
-use mathlib.Core.Option.{Option, none, some}
+use mathlib.Core.Option.{Option, none, some, Option·map}
 use Prim.Native.Nat.{ℕ, _+_, _-_, _<_}
 use native.Mathlib.Omega.{arith}
 use borrow.Author.Tests.{eq-eqb, ne-eqb}
@@ -40,7 +40,7 @@ unfolding used size
 tables-write a k v s d =
     tables-beside
     (record {
-      keeps = record { rows-are = refl; live-are = refl; resting-are = refl; cells = λ j k l m. refl; map-is = λ j l. refl };
+      keeps = record { rows-are = refl; live-are = refl; resting-are = refl; cells = λ j k l m. refl; map-is = λ j l. refl; fee-is = refl };
       sizes = sided (λ z. outline z (write C.accounts a k v s) ≡ outline z s) refl refl;
       levels-are = sided (λ z. (j : ℕ) → j < used z s → row z (write C.accounts a k v s) j ≡ row z s j) (λ j l. refl) (λ j l. refl);
     })
@@ -107,16 +107,16 @@ held-price z none v = int-zero-wraps
 held-price Buy (some p) v = fit-wraps (p *ℤ pos v) (pos 0) int-zero-wraps
 held-price Sell (some p) v = fit-wraps (pos v) (pos 0) int-zero-wraps
 
-pub hold-is : (z c p v : ℕ) → int (hold-word z c p v) ≡ hold (side z) (maybe-price c p) v
+pub hold-is : (fee z c p v : ℕ) → int (hold-word fee z c p v) ≡ hold (int fee) (side z) (maybe-price c p) v
 unfolding hold-word hold
-hold-is z c p v = held-price (side z) (price-option (maybe-price c p)) v
+hold-is fee z c p v = held-price (side z) (Option·map (W.charged (int fee) (side z)) (price-option (maybe-price c p))) v
 
 itself : (z : Side) → same-side z z ≡ true
 itself Buy = refl
 itself Sell = refl
 
-pub held-one : (o : Order) → held (o .account) (o .side) (o ∷ []) ≡ order-hold o
-held-one o = rw (eq-eqb (o .account) (o .account) refl, itself (o .side)) (+ℤ-idr (order-hold o))
+pub held-one : (fee : ℤ) (o : Order) → held fee (o .account) (o .side) (o ∷ []) ≡ order-hold fee o
+held-one fee o = rw (eq-eqb (o .account) (o .account) refl, itself (o .side)) (+ℤ-idr (order-hold fee o))
 
 pub open-one : (o : Order) → open-of (o .account) (o ∷ []) ≡ 1
 open-one o = rw (eq-eqb (o .account) (o .account) refl) refl

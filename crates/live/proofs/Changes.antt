@@ -49,8 +49,8 @@ row-fits st a = (st .holds, omega (arith, a .inside, st .sound .tables .ordered 
 
 -- what it holds with the flag c, the price p and v open, by its row and by what was read
 pub hold-as : {i : ℕ} {o : Live} {s : Store} → Reads i o s → (c p : Live → ℕ) (h v : ℕ) →
-    h ≡ hold-word (s C.orders i C.order-side) (c (live-row (s C.orders i))) (p (live-row (s C.orders i))) v → h ≡ hold-word (o .side) (c o) (p o) v
-hold-as a c p h v k = k ∙ sym (ap (λ (o : Live). hold-word (o .side) (c o) (p o) v) (a .is))
+    h ≡ hold-word (word s C.fee) (s C.orders i C.order-side) (c (live-row (s C.orders i))) (p (live-row (s C.orders i))) v → h ≡ hold-word (word s C.fee) (o .side) (c o) (p o) v
+hold-as {s = s} a c p h v k = k ∙ sym (ap (λ (o : Live). hold-word (word s C.fee) (o .side) (c o) (p o) v) (a .is))
 
 module _ {xs : List ℕ} (st : State xs) {i : ℕ} {o : Live} (a : Reads i o (cell xs)) where
   abbrev s : Store
@@ -112,7 +112,7 @@ module _ {xs : List ℕ} (st : State xs) {i : ℕ} {o : Live} (a : Reads i o (ce
   unfolding change
   reprice-becomes p v h = left-becomes 1 p v (with-price (int p)) refl h
 
-  pub pay-becomes : {ys : List ℕ} (p q : ℕ) → Is ys (pay (o .account) (side (o .side)) p q s) → InPlace xs ys (with-ledger (λ l. with-wallets (paid-to (int p) q (l .wallets) was) l) (gateway s))
+  pub pay-becomes : {ys : List ℕ} (p q : ℕ) → Is ys (pay (o .account) (side (o .side)) p q s) → InPlace xs ys (with-ledger (λ l. with-wallets (paid-to (l .fee) (int p) q (l .wallets) was) l) (gateway s))
   pay-becomes p q h =
       in-place st h (pay-sound (o .account) (side (o .side)) p q s owner-small d)
       (pay-view (o .account) (side (o .side)) p q s owner-small was (ap (λ x. x .account) (sym (a .is))) (ap (λ x. side (x .side)) (sym (a .is))))
@@ -131,6 +131,13 @@ module _ {xs : List ℕ} (st : State xs) {i : ℕ} {o : Live} (a : Reads i o (ce
     where
       row-is : Agree 16 (cell ys C.orders i) (s C.orders i)
       row-is k l = h .same C.orders i k (order-cell i k row-small l) ∙ pay-elsewhere (o .account) (side (o .side)) p q s owner-small C.orders i k (λ e. omega arith)
+
+  -- the fee is the same, and so is what it holds
+  pub hold-paid : {ys : List ℕ} (p q : ℕ) → Is ys (pay (o .account) (side (o .side)) p q s) → (c y h v : ℕ) → h ≡ hold-word (word s C.fee) (o .side) c y v → h ≡ hold-word (word (cell ys) C.fee) (o .side) c y v
+  hold-paid p q k c y h v e =
+      e
+      ∙ sym (ap (λ f. hold-word f (o .side) c y v)
+      (k .same C.header 0 C.fee (header-cell C.fee (omega arith)) ∙ pay-elsewhere (o .account) (side (o .side)) p q s owner-small C.header 0 C.fee (λ e. omega arith)))
 
   -- the side as the code reads it
   pub paid : {ys : List ℕ} (p q : ℕ) (w : Side) → w ≡ side (o .side) → Is ys (pay (o .account) w p q s) → Is ys (pay (o .account) (side (o .side)) p q s)
@@ -151,7 +158,7 @@ traded-becomes {xs} {ys} st {i} {o} a p q v h k =
             gateway-is =
                 e .becomes .gateway-is
                 ∙ ap₂ (λ m g. with-ledger (leaving m (λ x. x) v) g) (b .stays .numbers-are i (a .at .inside)) (b .becomes .gateway-is)
-                ∙ sym (ap (λ f. with-ledger (λ l. leaving (number-at i (cell xs)) (λ x. x) v (with-wallets (Ledger.pay (int p) q f (l .wallets)) l)) (gateway (cell xs)))
+                ∙ sym (ap (λ f. with-ledger (λ l. leaving (number-at i (cell xs)) (λ x. x) v (with-wallets (Ledger.pay (l .fee) (int p) q f (l .wallets)) l)) (gateway (cell xs)))
                 (find-at (cell xs) i (st .sound .tables .ordered) (a .at .inside) (a .at .live)));
           };
       stays = stays-then (b .stays) (e .stays);

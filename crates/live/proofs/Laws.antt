@@ -1,13 +1,13 @@
 -- What the functions write: one law for each way through the code. Assumes nothing.
 use mathlib.Core.Path.{_≡_, refl, sym, ap, ap₂, subst, _∙_}
 use mathlib.Core.Bool.{Bool, true, false, cond, not}
-use mathlib.Core.Option.{none, some}
+use mathlib.Core.Option.{none, some, Option·map}
 use mathlib.Core.List.{List}
 use Prim.Native.Nat.{ℕ, _+_, _-_, _<_}
 use native.Mathlib.Omega.{arith}
 use borrow.Author.Tests.{eq-eqb, ne-eqb}
 use lib.Dec.{eqb}
-use lib.IntN.{_+ℤ_, _-ℤ_}
+use lib.IntN.{ℤ, _+ℤ_, _-ℤ_}
 use Rattle.accounts.specs.declared.Funds.{Funds}
 use Rattle.orderbook.specs.declared.Side.{Side}
 use Rattle.orderbook.specs.declared.Side.the-variants.{Buy, Sell}
@@ -38,9 +38,9 @@ price-is : (b : Bool) (p : ℕ) → W.price-of b (int p) ≡ price-option (cond 
 price-is true p = refl
 price-is false p = refl
 
-pub hold-of-is : (z c p v r : ℕ) (w : Side) → r < modulus → w ≡ side z → int r ≡ W.held w (W.price-of (not (eqb c 0)) (int p)) v → r ≡ hold-word z c p v
+pub hold-of-is : (fee z c p v r : ℕ) (w : Side) → r < modulus → w ≡ side z → int r ≡ W.held w (Option·map (W.charged (int fee) w) (W.price-of (not (eqb c 0)) (int p))) v → r ≡ hold-word fee z c p v
 unfolding hold-word hold
-hold-of-is z c p v r w f e h = sym (wrap-int r f) ∙ ap wrap (h ∙ ap₂ (λ x y. W.held x y v) e (price-is (not (eqb c 0)) p))
+hold-of-is fee z c p v r w f e h = sym (wrap-int r f) ∙ ap wrap (h ∙ ap₂ (λ x y. W.held x (Option·map (W.charged (int fee) x) y) v) e (price-is (not (eqb c 0)) p))
 
 held-small : (z : Side) → held-cell z < 16
 held-small Buy = omega arith
@@ -64,7 +64,7 @@ then-shift {ys} {zs} {s} a z old new l p q =
           ∙ ap (λ v. write C.accounts a (held-cell z) (wrap (int v -ℤ int old +ℤ int new)) s d j k) e;
     }
 
-pub revise-is : (xs : List ℕ) {ys zs : List ℕ} (i : ℕ) (o : Live) (c p v h : ℕ) (w : Side) → o .account < owner-slots → h ≡ hold-word (o .side) c p v → w ≡ side (o .side) →
+pub revise-is : (xs : List ℕ) {ys zs : List ℕ} (i : ℕ) (o : Live) (c p v h : ℕ) (w : Side) → o .account < owner-slots → h ≡ hold-word (word (cell xs) C.fee) (o .side) c p v → w ≡ side (o .side) →
     Is ys (Orders.revise i c p v h (cell xs)) → Is zs (shift (o .account) w (o .hold) h (cell ys)) → Is zs (revise i o c p v (cell xs))
 unfolding revise
 revise-is xs i o c p v h w l e f p₁ p₂ = rw (← e, ← f) (then-shift (o .account) w (o .hold) h l p₁ p₂)
@@ -90,15 +90,18 @@ funded-is r =
     split (λ b. is-some (cond b (some f) none) ≡ b) (flag (r C.account-funded)) (λ e. refl) (λ e. refl)
 
 -- what is written is the settled wallet or, where there is none, what the cells have
-module _ (xs : List ℕ) (a : ℕ) (z : Side) (p q : ℕ) (w r : Wallet) (w-is : w ≡ Clients.wallet-words (cell xs C.accounts a)) where
+module _ (xs : List ℕ) (a : ℕ) (z : Side) (fee p q : ℕ) (w r : Wallet) (fee-is : fee ≡ word (cell xs) C.fee) (w-is : w ≡ Clients.wallet-words (cell xs C.accounts a)) where
+  abbrev price : ℤ
+  price = W.charged (int fee) z (int p)
+
   settle-is : {ys : List ℕ} → r .cash < modulus → r .position < modulus →
-      W.balance-of r ≡ W.settled z (int p) q (W.balance-of w) → Is ys (Clients.set-money a (r .cash) (r .position) (cell xs)) → Is ys (settle a z p q (cell xs))
+      W.balance-of r ≡ W.settled z price q (W.balance-of w) → Is ys (Clients.set-money a (r .cash) (r .position) (cell xs)) → Is ys (settle a z p q (cell xs))
   unfolding settle
   settle-is c d g s =
-      let b : W.settle z (int p) q (W.funds (W.balance-of w)) ≡ W.settle z (int p) q (funds a (cell xs)) = ap (λ x. W.settle z (int p) q (W.funds (W.balance-of x))) w-is in
-      let u : r .cash ≡ wrap (W.settle z (int p) q (funds a (cell xs)) .cash) = sym (wrap-int (r .cash) c) ∙ ap wrap (ap (λ (x : Balance). x .cash) g ∙ ap (λ x. x .cash) b) in
-      let v : r .position ≡ wrap (W.settle z (int p) q (funds a (cell xs)) .position) = sym (wrap-int (r .position) d) ∙ ap wrap (ap (λ (x : Balance). x .position) g ∙ ap (λ x. x .position) b) in
-      rw (← u, ← v) s
+      let b : W.settle z price q (W.funds (W.balance-of w)) ≡ W.settle z price q (funds a (cell xs)) = ap (λ x. W.settle z price q (W.funds (W.balance-of x))) w-is in
+      let u : r .cash ≡ wrap (W.settle z price q (funds a (cell xs)) .cash) = sym (wrap-int (r .cash) c) ∙ ap wrap (ap (λ (x : Balance). x .cash) g ∙ ap (λ x. x .cash) b) in
+      let v : r .position ≡ wrap (W.settle z price q (funds a (cell xs)) .position) = sym (wrap-int (r .position) d) ∙ ap wrap (ap (λ (x : Balance). x .position) g ∙ ap (λ x. x .position) b) in
+      rw (← fee-is, ← u, ← v) s
 
   unpaid : Clients.set-money a (w .cash) (w .position) (cell xs) ≡ cell xs
   unfolding Clients.put-cells
@@ -107,7 +110,7 @@ module _ (xs : List ℕ) (a : ℕ) (z : Side) (p q : ℕ) (w r : Wallet) (w-is :
       ∙ ap (write C.accounts a C.account-position (cell xs C.accounts a C.account-position)) (write-same C.accounts a C.account-cash (cell xs))
       ∙ write-same C.accounts a C.account-position (cell xs)
 
-  pub pay-is : {ys : List ℕ} (b : Bool) (c d : ℕ) → b ≡ is-some (wallet (cell xs C.accounts a)) → r .cash < modulus → r .position < modulus → W.balance-of r ≡ W.settled z (int p) q (W.balance-of w) →
+  pub pay-is : {ys : List ℕ} (b : Bool) (c d : ℕ) → b ≡ is-some (wallet (cell xs C.accounts a)) → r .cash < modulus → r .position < modulus → W.balance-of r ≡ W.settled z price q (W.balance-of w) →
       c ≡ cond b (r .cash) (w .cash) → d ≡ cond b (r .position) (w .position) → Is ys (Clients.set-money a c d (cell xs)) → Is ys (pay a z p q (cell xs))
   unfolding pay
   pay-is {ys} b c d e f g s u v h =
@@ -115,14 +118,14 @@ module _ (xs : List ℕ) (a : ℕ) (z : Side) (p q : ℕ) (w r : Wallet) (w-is :
       (split (λ t. Is ys (Clients.set-money a (cond t (r .cash) (w .cash)) (cond t (r .position) (w .position)) (cell xs)) → Is ys (cond t (settle a z p q (cell xs)) (cell xs))) b
       (λ _ k. settle-is f g s k) (λ _ k. subst (Is ys) unpaid k) (rw (← u, ← v) h))
 
-pub place-is : (xs : List ℕ) {ys zs us vs : List ℕ} (n : ℕ) (o : Live) (h c : ℕ) (w : Side) → o .account < owner-slots → h ≡ hold-word (o .side) (o .priced) (o .price) (o .leaves) →
+pub place-is : (xs : List ℕ) {ys zs us vs : List ℕ} (n : ℕ) (o : Live) (fee h c : ℕ) (w : Side) → o .account < owner-slots → fee ≡ word (cell xs) C.fee → h ≡ hold-word fee (o .side) (o .priced) (o .price) (o .leaves) →
     c ≡ cell xs C.accounts (o .account) C.account-open-orders → w ≡ side (o .side) → word (cell ys) C.order-rows < order-room → Is ys (Orders.make-room (cell xs)) →
     Is zs (Orders.append n (record { account = o .account; «client_ref» = o .«client_ref»; side = o .side; priced = o .priced; price = o .price; leaves = o .leaves; hold = h }) (cell ys)) →
     Set zs us C.accounts (o .account) C.account-open-orders (c + 1) → Is vs (shift (o .account) w 0 h (cell us)) → Is vs (place n o (cell xs))
 unfolding place
-place-is xs n o h c w l e f g m p q r t =
+place-is xs n o fee h c w l k e f g m p q r t =
     let o′ : Live = record { account = o .account; «client_ref» = o .«client_ref»; side = o .side; priced = o .priced; price = o .price; leaves = o .leaves; hold = h } in
-    rw (← e, ← f, ← g)
+    rw (← k, ← e, ← f, ← g)
     (then-shift (o .account) w 0 h l
     (then-set (then-append n o′ m p q)
     (account-cell (o .account) C.account-open-orders l (omega arith)) r) t)

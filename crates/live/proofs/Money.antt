@@ -27,7 +27,7 @@ use Rattle.sound.proofs.Clients.{money-sound}
 use Rattle.live.specs.Live.{with-ledger, funds, settle, pay}
 
 abbrev pub with-wallets : List (Option Funds) → Ledger → Ledger
-with-wallets ws l = record { last = l .last; wallets = ws; orders = l .orders; mark = l .mark }
+with-wallets ws l = record { last = l .last; wallets = ws; orders = l .orders; mark = l .mark; fee = l .fee }
 
 -- what a trade leaves is in range
 settled-wraps : (z : Side) (p : ℤ) (q : ℕ) (f : Funds) → record { cash = int (wrap (W.settle z p q f .cash)); position = int (wrap (W.settle z p q f .position)) } ≡ W.settle z p q f
@@ -35,8 +35,11 @@ settled-wraps Buy p q f = λ i. record { cash = clamp-wraps (f .cash -ℤ W.paid
 settled-wraps Sell p q f = λ i. record { cash = clamp-wraps (f .cash +ℤ W.paid p q) i; position = clamp-wraps (f .position -ℤ W.lots q) i }
 
 module _ (a : ℕ) (z : Side) (p q : ℕ) (s : Store) (l : a < owner-slots) where
+  abbrev fee : ℤ
+  fee = gateway s .core .ledger .fee
+
   abbrev after : Funds
-  after = W.settle z (int p) q (funds a s)
+  after = W.settle z (W.charged fee z (int p)) q (funds a s)
 
   abbrev paid : Store
   paid = Clients.set-money a (wrap (after .cash)) (wrap (after .position)) s
@@ -48,19 +51,19 @@ module _ (a : ℕ) (z : Side) (p q : ℕ) (s : Store) (l : a < owner-slots) wher
   paid-view : flag (s C.accounts a C.account-funded) ≡ true → gateway paid ≡ with-ledger (with-wallets (set wallets a (some after))) (gateway s)
   paid-view e =
       money-view a (wrap (after .cash)) (wrap (after .position)) s l e
-      ∙ ap (λ f. with-ledger (with-wallets (set wallets a (some f))) (gateway s)) (settled-wraps z (int p) q (funds a s))
+      ∙ ap (λ f. with-ledger (with-wallets (set wallets a (some f))) (gateway s)) (settled-wraps z (W.charged fee z (int p)) q (funds a s))
 
   module _ (o : Order) (at : o .account ≡ a) (on : o .side ≡ z) where
     wallet-is : wallet-of wallets o ≡ wallet (s C.accounts a)
     wallet-is = ap (λ k. getD wallets k none) at ∙ listed-at (λ i. wallet (s C.accounts i)) owner-slots a none l
 
-    paid-is : (w : Option Funds) → wallet (s C.accounts a) ≡ w → set wallets a (Option·map (W.settle z (int p) q) w) ≡ paid-to (int p) q wallets o
-    paid-is w e = sym (λ i. set wallets (at i) (Option·map (W.settle (on i) (int p) q) ((wallet-is ∙ e) i)))
+    paid-is : (w : Option Funds) → wallet (s C.accounts a) ≡ w → set wallets a (Option·map (W.settle z (W.charged fee z (int p)) q) w) ≡ paid-to fee (int p) q wallets o
+    paid-is w e = sym (λ i. set wallets (at i) (Option·map (W.settle (on i) (W.charged fee (on i) (int p)) q) ((wallet-is ∙ e) i)))
 
-    pub pay-view : gateway (pay a z p q s) ≡ with-ledger (λ l. with-wallets (paid-to (int p) q (l .wallets) o) l) (gateway s)
+    pub pay-view : gateway (pay a z p q s) ≡ with-ledger (λ l. with-wallets (paid-to (l .fee) (int p) q (l .wallets) o) l) (gateway s)
     unfolding pay settle
     pay-view =
-        split (λ b. (flag (s C.accounts a C.account-funded) ≡ b) → gateway (cond b paid s) ≡ with-ledger (λ l. with-wallets (paid-to (int p) q (l .wallets) o) l) (gateway s))
+        split (λ b. (flag (s C.accounts a C.account-funded) ≡ b) → gateway (cond b paid s) ≡ with-ledger (λ l. with-wallets (paid-to (l .fee) (int p) q (l .wallets) o) l) (gateway s))
         (flag (s C.accounts a C.account-funded))
         (λ _ e. paid-view e ∙ ap (λ ws. with-ledger (with-wallets ws) (gateway s)) (paid-is (some (funds a s)) (ap (λ b. cond b (some (funds a s)) none) e)))
         (λ _ e.

@@ -1,5 +1,5 @@
 -- A new order behind the others: the ledger has it, and the state stays sound. Assumes nothing.
-use mathlib.Core.Path.{_≡_, refl, sym, ap, _∙_}
+use mathlib.Core.Path.{_≡_, refl, sym, ap, _∙_, subst}
 use mathlib.Core.Logic.{⊎-elim}
 use mathlib.Core.List.{[], _∷_, _++_, append-nil}
 use Prim.Native.Nat.{ℕ, _+_, _≤_, _<_}
@@ -32,7 +32,7 @@ module _ (s : Store) (d : Sound s) (n : ℕ) (o : Live) (can : CanPlace n o s) w
   roomy = Orders.make-room s
 
   abbrev grown : Store
-  grown = Orders.append n (holding o) roomy
+  grown = Orders.append n (holding (word s C.fee) o) roomy
 
   made : Did s roomy (ledger s .orders) (depth s .resting)
   made = make-room-view s (d .tables .ordered)
@@ -50,8 +50,8 @@ module _ (s : Store) (d : Sound s) (n : ℕ) (o : Live) (can : CanPlace n o s) w
   above : (j : ℕ) → j < word roomy C.order-rows → roomy C.orders j C.order-number < n
   above = make-room-each s (d .tables .ordered) (λ r. r C.order-number < n) (can .above)
 
-  appended : Did roomy grown (ledger roomy .orders ++ (order-of n (holding o) ∷ [])) (depth roomy .resting)
-  appended = append-view roomy n (holding o) (made .ordered) room above
+  appended : Did roomy grown (ledger roomy .orders ++ (order-of n (holding (word s C.fee) o) ∷ [])) (depth roomy .resting)
+  appended = append-view roomy n (holding (word s C.fee) o) (made .ordered) room above
 
   orders-are : ledger grown .orders ≡ ledger s .orders ++ (order-of n o ∷ [])
   orders-are = ap (λ g. g .core .ledger .orders) (appended .view) ∙ ap (λ g. g .core .ledger .orders ++ (order-of n o ∷ [])) (made .view)
@@ -73,15 +73,15 @@ module _ (s : Store) (d : Sound s) (n : ℕ) (o : Live) (can : CanPlace n o s) w
   abbrev last-row : ℕ
   last-row = word roomy C.order-rows
 
-  touched : Touched last-row (new-row roomy n (holding o)) roomy grown
-  touched = append-touched roomy n (holding o)
+  touched : Touched last-row (new-row roomy n (holding (word s C.fee) o)) roomy grown
+  touched = append-touched roomy n (holding (word s C.fee) o)
 
   -- what is true of every row of s and of the new one is true of every row
-  each-row : (P : Row → Type 0) → ((j : ℕ) → j < word s C.order-rows → P (s C.orders j)) → P (new-row roomy n (holding o)) → (j : ℕ) → j < word grown C.order-rows → P (grown C.orders j)
+  each-row : (P : Row → Type 0) → ((j : ℕ) → j < word s C.order-rows → P (s C.orders j)) → P (new-row roomy n (holding (word s C.fee) o)) → (j : ℕ) → j < word grown C.order-rows → P (grown C.orders j)
   unfolding Orders.append fill
   each-row P h x j l =
       ⊎-elim
-      (λ (e : j ≡ last-row). let f : grown C.orders j ≡ new-row roomy n (holding o) = rw e (touched .here) in rw f x)
+      (λ (e : j ≡ last-row). let f : grown C.orders j ≡ new-row roomy n (holding (word s C.fee) o) = rw e (touched .here) in rw f x)
       (λ e. rw (touched .others j e) (make-room-each s (d .tables .ordered) P h j (omega (arith, e))))
       (same? j last-row)
 
@@ -126,27 +126,31 @@ module _ (s : Store) (d : Sound s) (n : ℕ) (o : Live) (can : CanPlace n o s) w
         chained = chained-grown;
       }
 
+  fee-grown : word grown C.fee ≡ word s C.fee
+  unfolding Orders.append fill
+  fee-grown = word-kept C.fee (λ e. omega arith)
+
   place-swapped : Swapped s (place n o s) (o .account) (side (o .side)) [] (order-of n o ∷ [])
   unfolding place shift
   place-swapped =
-      record { low = ledger s .orders; high = []; from = sym (append-nil (ledger s .orders)); to = orders-are; old-mine = tt; new-mine = ((refl, refl), tt) }
+      record { low = ledger s .orders; high = []; from = sym (append-nil (ledger s .orders)); to = orders-are; old-mine = tt; new-mine = ((refl, refl), tt); fee-is = fee-grown }
 
-  place-counts : Counts s (place n o s) (o .account) (side (o .side)) (int 0) (int (holding o .hold)) 0 1
+  place-counts : Counts s (place n o s) (o .account) (side (o .side)) (int 0) (int (holding (word s C.fee) o .hold)) 0 1
   unfolding place Orders.append fill
   place-counts =
       let a = o .account in
       let v = s C.accounts a C.account-open-orders in
-      let e = open-counts a (v + 1) grown (place n o s) (side (o .side)) (int 0) (int (holding o .hold)) 0 1 (omega (arith, account-kept a C.account-open-orders))
-      (shift-counts a 0 (holding o .hold) 0 (write C.accounts a C.account-open-orders (v + 1) grown) (side (o .side))) in
+      let e = open-counts a (v + 1) grown (place n o s) (side (o .side)) (int 0) (int (holding (word s C.fee) o .hold)) 0 1 (omega (arith, account-kept a C.account-open-orders))
+      (shift-counts a 0 (holding (word s C.fee) o .hold) 0 (write C.accounts a C.account-open-orders (v + 1) grown) (side (o .side))) in
       record {
         others = λ b ne. e .others b ne ∙ (λ i. (account-kept b C.account-cash-held i, account-kept b C.account-position-held i, account-kept b C.account-open-orders i));
         opposite = λ z ne. e .opposite z ne ∙ account-kept a (held-cell z);
-        total = e .total ∙ ap (λ x. wrap (int x -ℤ int 0 +ℤ int (holding o .hold))) (account-kept a (held-cell (side (o .side))));
+        total = e .total ∙ ap (λ x. wrap (int x -ℤ int 0 +ℤ int (holding (word s C.fee) o .hold))) (account-kept a (held-cell (side (o .side))));
         count = e .count ∙ ap (λ x. x + 1) (account-kept a C.account-open-orders);
       }
 
-  new-stored : Stored (new-row roomy n (holding o))
-  new-stored = record { hold-is = hold-is (o .side) (o .priced) (o .price) (o .leaves); owner-is = owner-is }
+  new-stored : Stored (ledger s .fee) (new-row roomy n (holding (word s C.fee) o))
+  new-stored = record { hold-is = hold-is (word s C.fee) (o .side) (o .priced) (o .price) (o .leaves); owner-is = owner-is }
 
   tables-placed : Tables (place n o s)
   unfolding place
@@ -167,8 +171,9 @@ module _ (s : Store) (d : Sound s) (n : ℕ) (o : Live) (can : CanPlace n o s) w
         tables = tables-placed;
         clients = clients-placed;
         held =
-            held-swapped place-swapped place-counts (d .held) int-zero (hold-is (o .side) (o .priced) (o .price) (o .leaves) ∙ sym (held-one (order-of n o))) refl (sym (open-one (order-of n o)))
-            (each-row (λ r. 0 < r C.order-live → Stored r) (d .held .rows) (λ _. new-stored));
+            held-swapped place-swapped place-counts (d .held) int-zero (hold-is (word s C.fee) (o .side) (o .priced) (o .price) (o .leaves) ∙ sym (held-one (ledger s .fee) (order-of n o))) refl (sym (open-one (order-of n o)))
+            (subst (λ f. (j : ℕ) → j < word grown C.order-rows → 0 < grown C.orders j C.order-live → Stored (int f) (grown C.orders j)) (sym fee-grown)
+            (each-row (λ r. 0 < r C.order-live → Stored (ledger s .fee) r) (d .held .rows) (λ _. new-stored)));
       }
 
   -- no row has a later number

@@ -68,17 +68,17 @@ module _ (s : Store) (d : Sound s) (i : ℕ) (l : i < word s C.order-rows) (m : 
   abbrev o : Live
   o = live-row was
 
-  stored : Stored was
+  stored : Stored (ledger s .fee) was
   stored = d .held .rows i l m
 
   picked : pick (was C.order-live) (order was) ≡ order was ∷ []
   picked = one-is (was C.order-live) (order was) (d .tables .ordered .sorted .flags i l .live-is) m
 
-  hold-one : int (was C.order-hold) ≡ held (was C.order-account) (side (was C.order-side)) (order was ∷ [])
-  hold-one = stored .hold-is ∙ sym (held-one (order was))
+  hold-one : int (was C.order-hold) ≡ held (ledger s .fee) (was C.order-account) (side (was C.order-side)) (order was ∷ [])
+  hold-one = stored .hold-is ∙ sym (held-one (ledger s .fee) (order was))
 
   -- every row but the changed one
-  rows-kept : {u : Store} (r : Row) → Touched i r s u → word u C.order-rows ≡ word s C.order-rows → (0 < r C.order-live → Stored r) → (j : ℕ) → j < word u C.order-rows → 0 < u C.orders j C.order-live → Stored (u C.orders j)
+  rows-kept : {u : Store} (r : Row) → Touched i r s u → word u C.order-rows ≡ word s C.order-rows → (0 < r C.order-live → Stored (ledger s .fee) r) → (j : ℕ) → j < word u C.order-rows → 0 < u C.orders j C.order-live → Stored (ledger s .fee) (u C.orders j)
   rows-kept {u} r c w h j q n =
       ⊎-elim
       (λ (e : j ≡ i). let f : u C.orders j ≡ r = rw e (c .here) in rw f (h (rw f at n)))
@@ -88,7 +88,7 @@ module _ (s : Store) (d : Sound s) (i : ℕ) (l : i < word s C.order-rows) (m : 
   -- ---- another price or another quantity
   module _ (c p v : ℕ) where
     abbrev h : ℕ
-    h = hold-word (was C.order-side) c p v
+    h = hold-word (word s C.fee) (was C.order-side) c p v
 
     abbrev now-row : Row
     now-row = put-cells C.order-priced (c ∷ p ∷ v ∷ h ∷ []) was
@@ -105,8 +105,8 @@ module _ (s : Store) (d : Sound s) (i : ℕ) (l : i < word s C.order-rows) (m : 
     does : (f : Order → Order) → f (order was) ≡ revised c p v (order was) → Did s u (update number-of (was C.order-number) f (ledger s .orders)) (depth s .resting)
     does f e = Lists.revise-view s i (d .tables .ordered) l c p v h f e m
 
-    now-stored : Stored now-row
-    now-stored = record { hold-is = hold-is (was C.order-side) c p v; owner-is = stored .owner-is }
+    now-stored : Stored (ledger s .fee) now-row
+    now-stored = record { hold-is = hold-is (word s C.fee) (was C.order-side) c p v; owner-is = stored .owner-is }
 
     swapped : Swapped s t (was C.order-account) (side (was C.order-side)) (order was ∷ []) (order now-row ∷ [])
     unfolding revise shift fill
@@ -119,6 +119,7 @@ module _ (s : Store) (d : Sound s) (i : ℕ) (l : i < word s C.order-rows) (m : 
           to = to ∙ ap (λ x. low ++ (x ++ high)) (one-is (was C.order-live) (order now-row) (d .tables .ordered .sorted .flags i l .live-is) m);
           old-mine = ((refl, refl), tt);
           new-mine = ((refl, refl), tt);
+          fee-is = refl;
         }
 
     counts : Counts s t (was C.order-account) (side (was C.order-side)) (int (was C.order-hold)) (int h) 1 1
@@ -149,7 +150,7 @@ module _ (s : Store) (d : Sound s) (i : ℕ) (l : i < word s C.order-rows) (m : 
           tables = tables-revised;
           clients = clients-revised;
           held =
-              held-swapped swapped counts (d .held) hold-one (now-stored .hold-is ∙ sym (held-one (order now-row))) (sym (open-one (order was))) (sym (open-one (order now-row)))
+              held-swapped swapped counts (d .held) hold-one (now-stored .hold-is ∙ sym (held-one (ledger s .fee) (order now-row))) (sym (open-one (order was))) (sym (open-one (order now-row)))
               (rows-kept now-row touched refl (λ _. now-stored));
         }
 
@@ -181,7 +182,7 @@ module _ (s : Store) (d : Sound s) (i : ℕ) (l : i < word s C.order-rows) (m : 
   unfolding retire shift strike
   retire-swapped =
       let (low, high, from, to) = live-parts s i (d .tables .ordered) l ended-row struck (retire-touched s i (d .tables .ordered) l) refl in
-      record { low = low; high = high; from = from ∙ ap (λ x. low ++ (x ++ high)) picked; to = to; old-mine = ((refl, refl), tt); new-mine = tt }
+      record { low = low; high = high; from = from ∙ ap (λ x. low ++ (x ++ high)) picked; to = to; old-mine = ((refl, refl), tt); new-mine = tt; fee-is = refl }
 
   retire-counts : Counts s ended (was C.order-account) (side (was C.order-side)) (int (was C.order-hold)) (int 0) 1 0
   unfolding retire strike

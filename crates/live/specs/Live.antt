@@ -35,16 +35,16 @@ with-ledger f g = record { core = record { ledger = f (g .core .ledger); flights
 abbrev pub with-notices : List ℕ → Gateway → Gateway
 with-notices ns g = record { core = g .core; rest = noticing ns (g .rest) }
 
--- what an order with these words holds
-unfoldable pub hold-word : ℕ → ℕ → ℕ → ℕ → ℕ
-hold-word z priced price leaves = wrap (hold (side z) (maybe-price priced price) leaves)
+-- what an order with these words holds, at this fee
+unfoldable pub hold-word : ℕ → ℕ → ℕ → ℕ → ℕ → ℕ
+hold-word fee z priced price leaves = wrap (hold (int fee) (side z) (maybe-price priced price) leaves)
 
 -- what the order of a row holds with this much open, and also at another price
-abbrev pub hold-left : ℕ → Row → ℕ
-hold-left leaves r = hold-word (r C.order-side) (r C.order-priced) (r C.order-price) leaves
+abbrev pub hold-left : ℕ → ℕ → Row → ℕ
+hold-left fee leaves r = hold-word fee (r C.order-side) (r C.order-priced) (r C.order-price) leaves
 
-abbrev pub hold-repriced : ℕ → ℕ → Row → ℕ
-hold-repriced price leaves r = hold-word (r C.order-side) 1 price leaves
+abbrev pub hold-repriced : ℕ → ℕ → ℕ → Row → ℕ
+hold-repriced fee price leaves r = hold-word fee (r C.order-side) 1 price leaves
 
 -- a part of what account a's orders of a side hold changes
 unfoldable pub shift : ℕ → Side → ℕ → ℕ → Store → Store
@@ -54,7 +54,7 @@ shift a z old new s =
 -- the order o in the row i has another price or another quantity open
 unfoldable pub revise : ℕ → Live → ℕ → ℕ → ℕ → Store → Store
 revise i o priced price leaves s =
-    let h = hold-word (o .side) priced price leaves in
+    let h = hold-word (word s C.fee) (o .side) priced price leaves in
     shift (o .account) (side (o .side)) (o .hold) h (Orders.revise i priced price leaves h s)
 
 -- it ends
@@ -68,8 +68,8 @@ unfoldable pub left : ℕ → Live → ℕ → ℕ → ℕ → Store → Store
 left i o priced price leaves s = cond (eqb leaves 0) (retire i o s) (revise i o priced price leaves s)
 
 -- an order comes, behind the others
-abbrev pub holding : Live → Live
-holding o =
+abbrev pub holding : ℕ → Live → Live
+holding fee o =
     record {
       account = o .account;
       «client_ref» = o .«client_ref»;
@@ -77,13 +77,13 @@ holding o =
       priced = o .priced;
       price = o .price;
       leaves = o .leaves;
-      hold = hold-word (o .side) (o .priced) (o .price) (o .leaves);
+      hold = hold-word fee (o .side) (o .priced) (o .price) (o .leaves);
     }
 
 unfoldable pub place : ℕ → Live → Store → Store
 place n o s =
-    shift (o .account) (side (o .side)) 0 (holding o .hold)
-    (write C.accounts (o .account) C.account-open-orders (s C.accounts (o .account) C.account-open-orders + 1) (Orders.append n (holding o) (Orders.make-room s)))
+    shift (o .account) (side (o .side)) 0 (holding (word s C.fee) o .hold)
+    (write C.accounts (o .account) C.account-open-orders (s C.accounts (o .account) C.account-open-orders + 1) (Orders.append n (holding (word s C.fee) o) (Orders.make-room s)))
 
 -- a trade moves the wallet of account a, where it has one
 abbrev pub funds : ℕ → Store → Funds
@@ -91,7 +91,7 @@ funds a s = record { cash = int (s C.accounts a C.account-cash); position = int 
 
 unfoldable pub settle : ℕ → Side → ℕ → ℕ → Store → Store
 settle a z price qty s =
-    let f = W.settle z (int price) qty (funds a s) in
+    let f = W.settle z (W.charged (int (word s C.fee)) z (int price)) qty (funds a s) in
     Clients.set-money a (wrap (f .cash)) (wrap (f .position)) s
 
 unfoldable pub pay : ℕ → Side → ℕ → ℕ → Store → Store

@@ -37,11 +37,19 @@ pub fn choose(b: bool, x: u64, y: u64) -> u64
     if b { x } else { y }
 }
 
-// What an order with these words holds: nothing without a price.
-pub fn hold_of(side: u64, priced: u64, price: u64, leaves: u64) -> u64
-    ensures { λ r. ⌜ r ≡ P.hold-word side priced price leaves ⌝ }
+// The fee for a seat.
+pub fn fee_of(m: &[u8]) -> u64
+    requires { ⌜ Holds (now m) ⌝ }
+    ensures { λ r. ⌜ r ≡ word (cell (now (m .entry))) C.fee ⌝ }
 {
-    wallet::held(store::side_of(side), priced != 0, price, leaves)
+    pending::header::word_at(m, cells::FEE)
+}
+
+// What an order with these words holds: nothing without a price.
+pub fn hold_of(fee: u64, side: u64, priced: u64, price: u64, leaves: u64) -> u64
+    ensures { λ r. ⌜ r ≡ P.hold-word fee side priced price leaves ⌝ }
+{
+    wallet::held(fee, store::side_of(side), priced != 0, price, leaves)
 }
 
 // What the account's orders of a side hold.
@@ -101,7 +109,7 @@ fn shift(m: &mut [u8], account: usize, side: Side, old: u64, new: u64)
 
 // The order has this price and this much open, and holds accordingly: what it holds then is given.
 fn revise(m: &mut [u8], i: usize, o: Live, priced: u64, price: u64, leaves: u64, hold: u64)
-    requires { ⌜ Holds (now m) × (i < order-room) × (o .account < owner-slots) × (hold ≡ P.hold-word (o .side) priced price leaves) ⌝ }
+    requires { ⌜ Holds (now m) × (i < order-room) × (o .account < owner-slots) × (hold ≡ P.hold-word (word (cell (now m)) C.fee) (o .side) priced price leaves) ⌝ }
     ensures { λ r. ⌜ Is (now (m .exit)) (P.revise i o priced price leaves (cell (now (m .entry)))) ⌝ }
 {
     orders::revise(m, i, priced, price, leaves, hold);
@@ -110,7 +118,7 @@ fn revise(m: &mut [u8], i: usize, o: Live, priced: u64, price: u64, leaves: u64,
 
 // The order's open quantity is now `leaves`: what it holds follows.
 pub fn set_leaves(m: &mut [u8], i: usize, leaves: u64, hold: u64)
-    requires { ⌜ State (now m) × P.At i (cell (now m)) × (hold ≡ P.hold-left leaves (cell (now m) C.orders i)) ⌝ }
+    requires { ⌜ State (now m) × P.At i (cell (now m)) × (hold ≡ P.hold-left (word (cell (now m)) C.fee) leaves (cell (now m) C.orders i)) ⌝ }
     ensures { λ r. ⌜ InPlace (now (m .entry)) (now (m .exit)) (P.with-ledger (Ledger.change (Ledger.set-leaves (number-at i (cell (now (m .entry)))) leaves)) (gateway (cell (now (m .entry))))) ⌝ }
 {
     let o = orders::live_at(m, i);
@@ -140,7 +148,7 @@ pub fn retire(m: &mut [u8], i: usize)
 
 // An order with nothing left is done.
 fn leave(m: &mut [u8], i: usize, o: Live, priced: u64, price: u64, leaves: u64, hold: u64)
-    requires { ⌜ Holds (now m) × (i < order-room) × (o .account < owner-slots) × (0 < word (cell (now m)) C.live-orders) × (0 < cell (now m) C.accounts (o .account) C.account-open-orders) × (cell (now m) C.orders i C.order-resting ≤ 1) × (hold ≡ P.hold-word (o .side) priced price leaves) ⌝ }
+    requires { ⌜ Holds (now m) × (i < order-room) × (o .account < owner-slots) × (0 < word (cell (now m)) C.live-orders) × (0 < cell (now m) C.accounts (o .account) C.account-open-orders) × (cell (now m) C.orders i C.order-resting ≤ 1) × (hold ≡ P.hold-word (word (cell (now m)) C.fee) (o .side) priced price leaves) ⌝ }
     ensures { λ r. ⌜ Is (now (m .exit)) (P.left i o priced price leaves (cell (now (m .entry)))) ⌝ }
 {
     if leaves == 0 {
@@ -152,7 +160,7 @@ fn leave(m: &mut [u8], i: usize, o: Live, priced: u64, price: u64, leaves: u64, 
 
 // A modify changed its price and its open quantity.
 pub fn reprice(m: &mut [u8], i: usize, price: u64, leaves: u64, hold: u64)
-    requires { ⌜ State (now m) × P.At i (cell (now m)) × (hold ≡ P.hold-repriced price leaves (cell (now m) C.orders i)) ⌝ }
+    requires { ⌜ State (now m) × P.At i (cell (now m)) × (hold ≡ P.hold-repriced (word (cell (now m)) C.fee) price leaves (cell (now m) C.orders i)) ⌝ }
     ensures { λ r. ⌜ InPlace (now (m .entry)) (now (m .exit)) (P.with-ledger (Ledger.change (Ledger.reprice (number-at i (cell (now (m .entry)))) (int price) leaves)) (gateway (cell (now (m .entry))))) ⌝ }
 {
     let o = orders::live_at(m, i);
@@ -166,7 +174,8 @@ fn pay(m: &mut [u8], account: usize, side: Side, price: u64, qty: u64)
 {
     let funded = clients::is_funded(m, account);
     let before = clients::wallet_at(m, account);
-    let after = before.settle(side, price, qty);
+    let fee = fee_of(m);
+    let after = before.settle(fee, side, price, qty);
     let cash = choose(funded, after.cash, before.cash);
     let position = choose(funded, after.position, before.position);
     clients::set_money(m, account, cash, position);
@@ -174,7 +183,7 @@ fn pay(m: &mut [u8], account: usize, side: Side, price: u64, qty: u64)
 
 // The order traded `qty` at `price`, and has `leaves` open.
 pub fn traded(m: &mut [u8], i: usize, price: u64, qty: u64, leaves: u64, hold: u64)
-    requires { ⌜ State (now m) × P.At i (cell (now m)) × (hold ≡ P.hold-left leaves (cell (now m) C.orders i)) ⌝ }
+    requires { ⌜ State (now m) × P.At i (cell (now m)) × (hold ≡ P.hold-left (word (cell (now m)) C.fee) leaves (cell (now m) C.orders i)) ⌝ }
     ensures { λ r. ⌜ InPlace (now (m .entry)) (now (m .exit)) (P.with-ledger (Ledger.change (Ledger.fill (number-at i (cell (now (m .entry)))) (int price) qty leaves)) (gateway (cell (now (m .entry))))) ⌝ }
 {
     let o = orders::live_at(m, i);
@@ -188,7 +197,7 @@ fn put(m: &mut [u8], number: u64, o: Live)
     ensures { λ r. ⌜ Is (now (m .exit)) (P.place number o (cell (now (m .entry)))) ⌝ }
 {
     let a = o.account as usize;
-    let hold = hold_of(o.side, o.priced, o.price, o.leaves);
+    let hold = hold_of(fee_of(m), o.side, o.priced, o.price, o.leaves);
     let open = store::get(m, store::ACCOUNTS, a, cells::ACCOUNT_OPEN_ORDERS);
     orders::make_room(m);
     orders::append(

@@ -59,7 +59,7 @@ module _ (s a : ℕ) (g : Gateway) where
   pub wallet-rows : length (balance-to s (balance a (g .core))) ≡ balance-rows a (g .core)
   wallet-rows = balance-length (balance a (g .core)) ∙ ap (λ (b : Bool). cond b 1 0) (mapped (wallet-at a (g .core)))
     where
-      mapped : (o : Option Funds) → is-some (Option·map (balance-with a (g .core .ledger .orders)) o) ≡ is-some o
+      mapped : (o : Option Funds) → is-some (Option·map (balance-with (g .core .ledger .fee) a (g .core .ledger .orders)) o) ≡ is-some o
       mapped none = refl
       mapped (some x) = refl
 

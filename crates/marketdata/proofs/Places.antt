@@ -1,5 +1,5 @@
 -- A row for an order that comes: one that bears its number, or a new one between the others. The gateway stays. Assumes nothing.
-use mathlib.Core.Path.{_≡_, refl, sym, ap, _∙_}
+use mathlib.Core.Path.{_≡_, refl, sym, ap, _∙_, subst}
 use mathlib.Core.Logic.{⊎-elim}
 use mathlib.Core.Bool.{Bool, true, false}
 use mathlib.Core.List.{List}
@@ -12,6 +12,7 @@ use Rattle.table.specs.declared.Found.{Found}
 use Rattle.table.specs.declared.Found.the-variants.{At}
 use Rattle.gateway.specs.Depth as D
 use Rattle.gateway.specs.Ledger.{number-of}
+use Rattle.words.specs.Words.{int}
 use Rattle.store.specs.Cells as C
 use Rattle.store.specs.Layout.{cell}
 use Rattle.store.specs.View.{Row, Store, Is, Ready, word, fill, order, ledger, depth, gateway, order-room}
@@ -110,7 +111,9 @@ module _ {xs : List ℕ} (s : State xs) (n : ℕ) (c : CanOpen n (cell xs)) (mis
   rows =
       record {
         numbers = rw (beyond .last-is) (each (λ r. r C.order-number ≤ word (cell xs) C.last) (was .tables .numbered) (omega (arith, here .1, c .at-most-last)));
-        stored = each (λ r. 0 < r C.order-live → Stored r) (was .held .rows) (λ m. absurd (omega (arith, here .3)));
+        stored =
+            subst (λ x. (j : ℕ) → j < word t C.order-rows → 0 < t C.orders j C.order-live → Stored (int x) (t C.orders j)) (sym (beyond .fee-is))
+            (each (λ r. 0 < r C.order-live → Stored (ledger (cell xs) .fee) r) (was .held .rows) (λ m. absurd (omega (arith, here .3))));
       }
 
   sound : Sound t

@@ -1,11 +1,12 @@
 -- What an operation does in steps: first a side's levels change, then the row of the order, then the list of changed levels. Between the first
 -- two the levels are those of the list of orders to come. Assumes nothing.
-use mathlib.Core.Path.{_≡_, refl, sym, ap, _∙_}
+use mathlib.Core.Path.{_≡_, refl, sym, ap, _∙_, subst}
 use mathlib.Core.Bool.{false, cond}
 use mathlib.Core.Logic.{inl}
 use mathlib.Core.List.{List, [], _∷_, _++_}
 use Prim.Native.Nat.{ℕ, _+_, _≤_, _<_}
 use native.Mathlib.Omega.{arith}
+use lib.IntN.{ℤ}
 use lib.ListN.{length, length-append}
 use Rattle.orderbook.specs.declared.Side.{Side}
 use Rattle.orderbook.specs.declared.Side.the-variants.{Buy, Sell}
@@ -86,6 +87,11 @@ not-count : (z : Side) {k : ℕ} → k < C.bid-levels → (k ≡ C.bid-rows → 
 not-count Buy h b a = (λ _ e. b e, λ _ e. omega arith)
 not-count Sell h b a = (λ _ e. a e, λ _ e. omega arith)
 
+-- the fee stands behind the counts
+fee-not-count : (z : Side) → L.Other z C.header C.fee
+fee-not-count Buy = (λ _ e. omega arith, λ _ e. omega arith)
+fee-not-count Sell = (λ _ e. omega arith, λ _ e. omega arith)
+
 not-block : (z : Side) {b : ℕ} → b < C.bids → b ≡ block z → ⊥
 not-block Buy h e = omega arith
 not-block Sell h e = omega arith
@@ -115,6 +121,7 @@ module _ (z : Side) {xs ys : List ℕ} {l : List LRow.Row} (d : L.Did z xs ys l)
         rows-are = word-kept C.order-rows (omega arith) (λ e. omega arith) (λ e. omega arith);
         live-are = word-kept C.live-orders (omega arith) (λ e. omega arith) (λ e. omega arith);
         resting-are = word-kept C.resting-orders (omega arith) (λ e. omega arith) (λ e. omega arith);
+        fee-is = d .kept C.header 0 C.fee (header-cell C.fee (omega arith)) (header-not-block z) (not-map z (omega arith)) (fee-not-count z);
         cells = λ j k h q. d .kept C.orders j k (order-cell j k (omega (arith, was .ordered .bounds .orders-fit)) q) (not-block z (omega arith)) (not-map z (omega arith)) (λ e. absurd (omega arith), λ e. absurd (omega arith));
         map-is = λ j h. d .kept C.order-map j C.map-bits (order-map-cell j C.map-bits h (omega arith)) (not-side z (omega arith)) (not-levels z) (λ e. absurd (omega arith), λ e. absurd (omega arith));
       }
@@ -197,10 +204,10 @@ module _ (z : Side) {xs ys : List ℕ} {l : List LRow.Row} (d : L.Did z xs ys l)
 abbrev pub half : Row → ℕ × ℕ × Live
 half r = (r C.order-number, r C.order-live, live-row r)
 
-stored-half : (q r : Row) → half r ≡ half q → Stored q → Stored r
-stored-half q r e d =
+stored-half : (fee : ℤ) (q r : Row) → half r ≡ half q → Stored fee q → Stored fee r
+stored-half fee q r e d =
     record {
-      hold-is = ap (λ h. int (h .2 .hold)) e ∙ d .hold-is ∙ sym (ap (λ h. order-hold (order-of (h .0) (h .2))) e);
+      hold-is = ap (λ h. int (h .2 .hold)) e ∙ d .hold-is ∙ sym (ap (λ h. order-hold fee (order-of (h .0) (h .2))) e);
       owner-is = rw (ap (λ h. h .2 .account) e) (d .owner-is);
     }
 
@@ -212,13 +219,14 @@ pub record Beyond (s t : Store) : Type 0 where
   pub sizes : (z : Side) → outline z t ≡ outline z s
   pub levels-are : (z : Side) (j : ℕ) → row z t j ≡ row z s j
   pub caches-are : (a : ℕ) → caches t a ≡ caches s a
+  pub fee-is : word t C.fee ≡ word s C.fee
   pub clients-are : Clients s → Clients t
   pub chained-are : Pending.Chained s → Pending.Chained t
 
 -- the words and rows of that
-abbrev pub outside : Store → ℕ × ℕ × ℕ × (ℕ × ℕ × List ℕ) × (ℕ × ℕ × List ℕ) × (ℕ → Row) × (ℕ → Row) × (ℕ → Row) × (ℕ → Row) × (ℕ → Row) × ℕ × (ℕ × (ℕ → Row) × (ℕ → Row))
+abbrev pub outside : Store → ℕ × ℕ × ℕ × (ℕ × ℕ × List ℕ) × (ℕ × ℕ × List ℕ) × (ℕ → Row) × (ℕ → Row) × (ℕ → Row) × (ℕ → Row) × (ℕ → Row) × ℕ × (ℕ × (ℕ → Row) × (ℕ → Row)) × ℕ
 outside s =
-    (word s C.live-orders, word s C.last, word s C.flying, (word s C.bid-rows, word s C.bid-levels, map-cells Buy s), (word s C.ask-rows, word s C.ask-levels, map-cells Sell s), s C.bids, s C.asks, s C.accounts, s C.sessions, s C.batch, word s C.waiting, chains s)
+    (word s C.live-orders, word s C.last, word s C.flying, (word s C.bid-rows, word s C.bid-levels, map-cells Buy s), (word s C.ask-rows, word s C.ask-levels, map-cells Sell s), s C.bids, s C.asks, s C.accounts, s C.sessions, s C.batch, word s C.waiting, chains s, word s C.fee)
 
 pub beyond-same : (s t : Store) → outside t ≡ outside s → Beyond s t
 unfolding used size
@@ -233,6 +241,7 @@ beyond-same s t e =
       clients-are =
           clients-kept (λ i l. ap (λ x. account-of (session (x .8 i))) e) (λ a l. ap (λ x. marks (x .7 a)) e) (ap (λ x. x .10) e) (λ j l. ap (λ x. x .9 j C.command-owner) e);
       chained-are = chained-same (ap (λ x. x .11) e);
+      fee-is = ap (λ x. x .12) e;
     }
   where
     level : Row → LRow.Row
@@ -241,14 +250,16 @@ beyond-same s t e =
 -- its numbers are at most the last, and its live rows store what they hold
 pub record Rows (t : Store) : Type 0 where
   pub numbers : (j : ℕ) → j < word t C.order-rows → t C.orders j C.order-number ≤ word t C.last
-  pub stored : (j : ℕ) → j < word t C.order-rows → 0 < t C.orders j C.order-live → Stored (t C.orders j)
+  pub stored : (j : ℕ) → j < word t C.order-rows → 0 < t C.orders j C.order-live → Stored (ledger t .fee) (t C.orders j)
 
 pub rows-touched : {s t : Store} {rs : List Resting} (i : ℕ) (r : Row) → Touched i r s t → half r ≡ half (s C.orders i) → word t C.order-rows ≡ word s C.order-rows → Beyond s t → Follows rs s → Rows t
 rows-touched {s} {t} i r c e w b f =
     let h : (j : ℕ) → half (t C.orders j) ≡ half (s C.orders j) = same-rows i r s t c half e in
     record {
       numbers = λ j l. rw (ap (λ x. x .0) (h j), b .last-is) (f .numbered j (rw w at l));
-      stored = λ j l m. stored-half (s C.orders j) (t C.orders j) (h j) (f .held .rows j (rw w at l) (rw (ap (λ x. x .1) (h j)) at m));
+      stored = λ j l m.
+          subst (λ x. Stored (int x) (t C.orders j)) (sym (b .fee-is))
+          (stored-half (ledger s .fee) (s C.orders j) (t C.orders j) (h j) (f .held .rows j (rw w at l) (rw (ap (λ x. x .1) (h j)) at m)));
     }
 
 module _ {rs : List Resting} {s t : Store} (f : Follows rs s) (d : Did s t (ledger s .orders) rs) (b : Beyond s t) (r : Rows t) (few : word t C.resting-orders ≤ most-orders) where
@@ -284,7 +295,7 @@ module _ {rs : List Resting} {s t : Store} (f : Follows rs s) (d : Did s t (ledg
         held =
             record {
               rows = r .stored;
-              totals = λ a l z. total-same t s a z (b .caches-are a) ∙ f .held .totals a l z ∙ sym (ap (λ os. wrap (held a z os)) live-same);
+              totals = λ a l z. total-same t s a z (b .caches-are a) ∙ f .held .totals a l z ∙ sym (λ i. wrap (held (int (b .fee-is i)) a z (live-same i)));
               counts = λ a l. ap (λ x. x .2) (b .caches-are a) ∙ f .held .counts a l ∙ sym (ap (open-of a) live-same);
             };
         clients = b .clients-are (f .clients);

@@ -5,6 +5,7 @@ use mathlib.Core.Path.{_≡_, refl, sym, ap, _∙_}
 use mathlib.Core.List.{List, [], _∷_, _++_}
 use native.Mathlib.Omega.{arith}
 use borrow.Author.Tests.{not-true}
+use lib.IntN.{ℤ}
 use lib.Dec.{eqb}
 use Rattle.orderbook.specs.declared.Listed.{Listed}
 use Rattle.accounts.specs.declared.Account.{Account}
@@ -32,11 +33,11 @@ pub order-codes : (limit last : ℕ) (os : List Order) → codes (order-tests li
 order-codes limit last [] = refl
 order-codes limit last (o ∷ os) = order-codes limit last os
 
-pub set-up-codes : (limit last : ℕ) (l : List Account) (xs : List Listed) → codes (set-up-tests limit last l xs) ≡ true
-set-up-codes limit last l xs = codes-append (entry-tests limit last l xs) (total-tests limit last l xs) (listed-codes limit last xs (listed-orders xs)) refl
+pub set-up-codes : (fee : ℤ) (limit last : ℕ) (l : List Account) (xs : List Listed) → codes (set-up-tests fee limit last l xs) ≡ true
+set-up-codes fee limit last l xs = codes-append (entry-tests limit last l xs) (total-tests fee limit last l xs) (listed-codes limit last xs (listed-orders xs)) refl
 
-pub restore-codes : (limit : ℕ) (l : List Account) (s : Saved) → codes (restore-tests limit l s) ≡ true
-restore-codes limit l s = codes-append (saved-tests limit l s) ((outside, holds-fit (restored-ledger (accounts-of limit l) s)) ∷ []) (order-codes limit (s .last) (s .orders)) refl
+pub restore-codes : (fee : ℤ) (limit : ℕ) (l : List Account) (s : Saved) → codes (restore-tests fee limit l s) ≡ true
+restore-codes fee limit l s = codes-append (saved-tests limit l s) ((outside, holds-fit (restored-ledger fee (accounts-of limit l) s)) ∷ []) (order-codes limit (s .last) (s .orders)) refl
 
 -- ---- a code that tests have is not 0
 

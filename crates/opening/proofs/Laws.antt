@@ -11,6 +11,7 @@ use lib.Dec.{ltb}
 use lib.ListN.{length, getD, length-set}
 use Rattle.accounts.specs.declared.Account.{Account}
 use Rattle.accounts.specs.declared.Timing.{Timing}
+use Rattle.words.specs.Words.{int}
 use Rattle.gateway.specs.Basics.{option}
 use Rattle.gateway.specs.Fits.{AccountFits, AccountsFit}
 use Rattle.gateway.specs.Limits.{owner-slots}
@@ -124,11 +125,11 @@ Below : ℕ → List Account → Type 0
 Below limit [] = Unit {0}
 Below limit (a ∷ l) = (a .id < limit) × Below limit l
 
-admitted-begun : (limit last : ℕ) (t : Timing) → limit ≤ owner-slots → (l m : List Account) → Below limit m → admitted m (begun limit last t l) ≡ begun limit last t (l ++ m)
+admitted-begun : (fee limit last : ℕ) (t : Timing) → limit ≤ owner-slots → (l m : List Account) → Below limit m → admitted m (begun (int fee) limit last t l) ≡ begun (int fee) limit last t (l ++ m)
 unfolding Below
-admitted-begun limit last t few l [] h = ap (begun limit last t) (sym (append-nil l))
-admitted-begun limit last t few l (a ∷ m) h =
-    ap (admitted m) (begun-more limit last t few l a (h .0)) ∙ admitted-begun limit last t few (l ++ (a ∷ [])) m (h .1) ∙ ap (begun limit last t) (append-assoc l (a ∷ []) m)
+admitted-begun fee limit last t few l [] h = ap (begun (int fee) limit last t) (sym (append-nil l))
+admitted-begun fee limit last t few l (a ∷ m) h =
+    ap (admitted m) (begun-more fee limit last t few l a (h .0)) ∙ admitted-begun fee limit last t few (l ++ (a ∷ [])) m (h .1) ∙ ap (begun (int fee) limit last t) (append-assoc l (a ∷ []) m)
 
 below-append : (limit : ℕ) (l m : List Account) → Below limit l → Below limit m → Below limit (l ++ m)
 unfolding Below
@@ -152,18 +153,18 @@ present-below limit r h (suc n) = below-append limit (present r n) (option [] (�
         go true t = let e = f t in (rw (e .0) (e .1), tt)
         go false t = tt
 
-pub all-stand : (limit last : ℕ) (t : Timing) (r : Roster) {xs ys : List ℕ} → limit ≤ owner-slots → Numbered limit r → Becomes xs (begun limit last t []) × (word (cell xs) C.order-rows ≡ 0) → Admits (present r owner-slots) xs ys →
-    Stands limit last t (present r owner-slots) ys
-all-stand limit last t r few n b a =
+pub all-stand : (fee limit last : ℕ) (t : Timing) (r : Roster) {xs ys : List ℕ} → limit ≤ owner-slots → Numbered limit r → Becomes xs (begun (int fee) limit last t []) × (word (cell xs) C.order-rows ≡ 0) → Admits (present r owner-slots) xs ys →
+    Stands (int fee) limit last t (present r owner-slots) ys
+all-stand fee limit last t r few n b a =
     let p = present-below limit r n owner-slots in
     record {
-      becomes = record { state = a .becomes .state; gateway-is = a .becomes .gateway-is ∙ ap (admitted (present r owner-slots)) (b .0 .gateway-is) ∙ admitted-begun limit last t few [] (present r owner-slots) p };
+      becomes = record { state = a .becomes .state; gateway-is = a .becomes .gateway-is ∙ ap (admitted (present r owner-slots)) (b .0 .gateway-is) ∙ admitted-begun fee limit last t few [] (present r owner-slots) p };
       fit = a .fit;
       below = all-of limit (present r owner-slots) p;
       no-rows = a .rows-are ∙ b .1;
     }
 
-pub start-limit : (limit last : ℕ) (t : Timing) (r : Roster) {xs : List ℕ} → Becomes xs (begun limit last t []) → Numbered limit r → Numbered (word (cell xs) C.owner-limit) r
-start-limit limit last t r b n = subst (λ k. Numbered k r) (sym (accounts-length limit []) ∙ limit-is b) n
+pub start-limit : (fee limit last : ℕ) (t : Timing) (r : Roster) {xs : List ℕ} → Becomes xs (begun (int fee) limit last t []) → Numbered limit r → Numbered (word (cell xs) C.owner-limit) r
+start-limit fee limit last t r b n = subst (λ k. Numbered k r) (sym (accounts-length limit []) ∙ limit-is b) n
 
 pub ruleset laws = (can-enter, enters-there, enters-none, none-admitted, slot-enters, more-admitted, all-stand, start-limit, arith)

@@ -10,6 +10,7 @@ use native.Mathlib.Omega.{arith}
 use borrow.Author.Tests.{lt-ltb, le-ltb}
 use lib.Dec.{ltb}
 use lib.ListN.{length, getD, set, replicate}
+use lib.IntN.{ℤ}
 use Rattle.accounts.specs.declared.Account.{Account}
 use Rattle.accounts.specs.declared.Timing.{Timing}
 use Rattle.le.proofs.Laws.{lt-or-le}
@@ -83,5 +84,5 @@ module _ (limit : ℕ) (l : List Account) (r : Roster) (h : Gathered limit l r) 
   pub gathered-table : accounts-of limit (present r owner-slots) ≡ accounts-of limit l
   gathered-table = present-table limit r (h .numbered) few ∙ h .table few
 
-  pub gathered-begun : (last : ℕ) (t : Timing) → begun limit last t (present r owner-slots) ≡ begun limit last t l
-  gathered-begun last t = ap (λ c. begin t (record { last = last; wallets = by-slot funds-in owner-slots c; orders = []; mark = None }) c (listed-depth []) []) gathered-table
+  pub gathered-begun : (fee : ℤ) (last : ℕ) (t : Timing) → begun fee limit last t (present r owner-slots) ≡ begun fee limit last t l
+  gathered-begun fee last t = ap (λ c. begin t (record { last = last; wallets = by-slot funds-in owner-slots c; orders = []; mark = None; fee = fee }) c (listed-depth []) []) gathered-table

@@ -3,6 +3,7 @@ use Prim.Native.Nat.{ℕ, zero, suc, _<_}
 use mathlib.Core.Path.{_≡_}
 use mathlib.Core.Bool.{true, cond}
 use mathlib.Core.List.{List, [], _∷_, _++_}
+use lib.IntN.{ℤ}
 use Rattle.accounts.specs.declared.Account.{Account}
 use Rattle.accounts.specs.declared.Timing.{Timing}
 use Rattle.gateway.specs.Basics.{option}
@@ -43,8 +44,8 @@ pub record Admits (l : List Account) (xs ys : List ℕ) : Type 0 where
   pub rows-are : word (cell ys) C.order-rows ≡ word (cell xs) C.order-rows
 
 -- ys holds the start with the accounts l, and no row of orders
-pub record Stands (limit last : ℕ) (timing : Timing) (l : List Account) (ys : List ℕ) : Type 0 where
-  pub becomes : Becomes ys (begun limit last timing l)
+pub record Stands (fee : ℤ) (limit last : ℕ) (timing : Timing) (l : List Account) (ys : List ℕ) : Type 0 where
+  pub becomes : Becomes ys (begun fee limit last timing l)
   pub fit : AccountsFit l
   pub below : all-below limit l ≡ true
   pub no-rows : word (cell ys) C.order-rows ≡ 0

@@ -5,6 +5,7 @@ use roster::Slot;
 use store::limits;
 ghost use mathlib.Core.Path.{_≡_};
 ghost use Prim.Native.Nat.{_≤_};
+ghost use Rattle.words.specs.Words.{int};
 ghost use Rattle.gateway.specs.Limits.{owner-slots};
 ghost use Rattle.store.specs.Cells as C;
 ghost use Rattle.store.specs.Layout.{cell, Holds};
@@ -38,10 +39,10 @@ fn enter_all(m: &mut [u8], accounts: Roster)
 }
 
 // The state that begins, with the accounts of a roster and no orders.
-pub fn open(m: &mut [u8], limit: u64, last: u64, timing: Timing, accounts: Roster)
+pub fn open(m: &mut [u8], fee: u64, limit: u64, last: u64, timing: Timing, accounts: Roster)
     requires { ⌜ Holds (now m) × (limit ≤ owner-slots) × Numbered limit accounts ⌝ }
-    ensures { λ x. ⌜ P.Stands limit last timing (P.present accounts owner-slots) (now (m .exit)) ⌝ }
+    ensures { λ x. ⌜ P.Stands (int fee) limit last timing (P.present accounts owner-slots) (now (m .exit)) ⌝ }
 {
-    start::start(m, limit, last, timing);
+    start::start(m, fee, limit, last, timing);
     enter_all(m, accounts);
 }

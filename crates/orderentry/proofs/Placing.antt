@@ -19,10 +19,10 @@ use Rattle.protocol.specs.declared.RejectCode.the-variants.{TooManyOrders, Thro
 use Rattle.protocol.specs.declared.codes.MaybeRejectCode as Why
 use Rattle.risk.specs.declared.Bucket.{Bucket}
 use Rattle.risk.specs.declared.Taken.{Taken}
-use Rattle.words.specs.Words.{int, modulus}
+use Rattle.words.specs.Words.{int, wrap, modulus}
 use Rattle.gateway.specs.Basics.{option}
 use Rattle.gateway.specs.Limits.{owner-slots, session-slots, most-orders, most-notices, most-in-flight, most-in-batch}
-use Rattle.gateway.specs.Ledger.{step, command, open-of}
+use Rattle.gateway.specs.Ledger.{step, command, hold, open-of}
 use Rattle.gateway.specs.Core.{Tests, account-at, fits-after}
 use Rattle.gateway.specs.Rest.{Rest, at-time}
 use Rattle.gateway.specs.Entry.{Plan, unless, reject, records, next, queued, noticing, new-notice, paper-tests, new-tests, most-open, wallet-at, command-of, taken, hear}
@@ -30,7 +30,7 @@ use Rattle.gateway.specs.Entry as Entry
 use Rattle.gateway.specs.Calls.{Gateway, call, receive-from}
 use Rattle.store.specs.Cells as C
 use Rattle.store.specs.Layout.{cell}
-use Rattle.store.specs.View.{word, gateway}
+use Rattle.store.specs.View.{word, side, maybe-price, gateway}
 use Rattle.store.proofs.Listed.{listed-length}
 use Rattle.clients.proofs.Laws.{plus-one}
 use Rattle.orders.specs.declared.Live.{Live}
@@ -99,7 +99,7 @@ module _ (xs : List ℕ) (s a : ℕ) (q : NewOrder) (o : Live) (room : has-room 
   few = ltb (length (g .core .ledger .orders)) most-orders
 
   abbrev told : Bool
-  told = leb (length (g .rest .notices ++ new-notice a q (wallet-at a (g .core)))) most-notices
+  told = leb (length (g .rest .notices ++ new-notice (g .core .ledger .fee) a q (wallet-at a (g .core)))) most-notices
 
   abbrev fine : Bool
   fine = fits-after (command (next (g .core)) (the-command a q (g .core))) (g .core)
@@ -107,8 +107,8 @@ module _ (xs : List ℕ) (s a : ℕ) (q : NewOrder) (o : Live) (room : has-room 
   place-room : (few ≡ true) × ((told && fine) ≡ true)
   place-room = and-eq-true-iff few (told && fine) .0 (and-eq-true-iff (Commands.can-number g) (has-place a q g) .0 room .1)
 
-  noticed : length (g .rest .notices ++ new-notice a q (wallet-at a (g .core))) ≤ most-notices
-  noticed = leb-true (length (g .rest .notices ++ new-notice a q (wallet-at a (g .core)))) most-notices (and-eq-true-iff told fine .0 (place-room .1) .0)
+  noticed : length (g .rest .notices ++ new-notice (g .core .ledger .fee) a q (wallet-at a (g .core))) ≤ most-notices
+  noticed = leb-true (length (g .rest .notices ++ new-notice (g .core .ledger .fee) a q (wallet-at a (g .core)))) most-notices (and-eq-true-iff told fine .0 (place-room .1) .0)
 
   pub number-fits : (m : ℕ) → m ≡ word (cell xs) C.last → m + 1 < modulus
   number-fits m e = omega (arith, e, Numbering.room xs can .number)
@@ -123,28 +123,35 @@ module _ (xs : List ℕ) (s a : ℕ) (q : NewOrder) (o : Live) (room : has-room 
         batched = subst Batched (sym f) (batched (m + 1) a (q .side) (q .qty) (q .kind));
       }
 
-  module _ {ys : List ℕ} (m h : ℕ) (k : Command) (m-is : m ≡ word (cell xs) C.last) (k-is : k ≡ command-of (m + 1) a (q .side) (q .qty) (q .kind))
-      (h-is : h ≡ hold-word (o .side) (o .priced) (o .price) (o .leaves)) (b : Becomes ys (in-book s (m + 1) o k g)) where
-    notice-is : hold-notice (o .account) (int 0) (int h) (cell ys) ≡ new-notice a q (wallet-at a (g .core))
+  module _ {ys : List ℕ} (m fee h : ℕ) (k : Command) (m-is : m ≡ word (cell xs) C.last) (k-is : k ≡ command-of (m + 1) a (q .side) (q .qty) (q .kind))
+      (fee-is : fee ≡ word (cell xs) C.fee) (h-at : h ≡ hold-word fee (o .side) (o .priced) (o .price) (o .leaves)) (b : Becomes ys (in-book s (m + 1) o k g)) where
+    fee-was : int fee ≡ int (word (cell ys) C.fee)
+    fee-was = ap int fee-is ∙ sym (ap (λ (x : Gateway). x .core .ledger .fee) (b .gateway-is))
+
+    h-is : h ≡ hold-word (word (cell ys) C.fee) (o .side) (o .priced) (o .price) (o .leaves)
+    unfolding hold-word
+    h-is = h-at ∙ ap (λ f. wrap (hold f (side (o .side)) (maybe-price (o .priced) (o .price)) (o .leaves))) fee-was
+
+    notice-is : hold-notice (o .account) (int 0) (int h) (cell ys) ≡ new-notice (g .core .ledger .fee) a q (wallet-at a (g .core))
     notice-is =
         ap (λ i. hold-notice i (int 0) (int h) (cell ys)) (account-stands w) ∙ sym (notice-stands w (cell ys) h l h-is)
-        ∙ ap (λ (x : Gateway). new-notice a q (wallet-at a (x .core))) (b .gateway-is)
+        ∙ ap (λ (x : Gateway). new-notice (x .core .ledger .fee) a q (wallet-at a (x .core))) (b .gateway-is)
 
     pub notice-needs : State ys × (o .account < owner-slots) × (length (hold-notice (o .account) (int 0) (int h) (cell ys)) + word (cell ys) C.notice-rows ≤ most-notices)
     notice-needs =
         let n = ap (λ (x : Gateway). length (x .rest .notices)) (b .gateway-is) in
         let t = listed-length (λ i. cell ys C.notices i C.notice-account) (word (cell ys) C.notice-rows) in
         let e = ap length notice-is in
-        (b .state, rw (account-stands w) l, omega (arith, noticed, n, t, e, length-append (g .rest .notices) (new-notice a q (wallet-at a (g .core)))))
+        (b .state, rw (account-stands w) l, omega (arith, noticed, n, t, e, length-append (g .rest .notices) (new-notice (g .core .ledger .fee) a q (wallet-at a (g .core)))))
 
-    book-is : with-notices (new-notice a q (wallet-at a (g .core))) (in-book s (m + 1) o k g) ≡ placed s a q g
+    book-is : with-notices (new-notice (g .core .ledger .fee) a q (wallet-at a (g .core))) (in-book s (m + 1) o k g) ≡ placed s a q g
     unfolding step
     book-is = rw (k-is, m-is, w .is (word (cell xs) C.last + 1), account-stands w, plus-one (s + 1) s refl, owner-is (word (cell xs) C.last + 1) a (q .side) (q .qty) (q .kind), order-is (word (cell xs) C.last + 1) a (q .side) (q .qty) (q .kind)) refl
 
     pub new-becomes : {zs : List ℕ} → Becomes zs (with-notices (hold-notice (o .account) (int 0) (int h) (cell ys)) (gateway (cell ys))) → Becomes zs (placed s a q g)
     new-becomes {zs} d =
-        let e : Becomes zs (with-notices (new-notice a q (wallet-at a (g .core))) (gateway (cell ys))) = subst (λ ns. Becomes zs (with-notices ns (gateway (cell ys)))) notice-is d in
-        let f = then-becomes (with-notices (new-notice a q (wallet-at a (g .core)))) b e in
+        let e : Becomes zs (with-notices (new-notice (g .core .ledger .fee) a q (wallet-at a (g .core))) (gateway (cell ys))) = subst (λ ns. Becomes zs (with-notices ns (gateway (cell ys)))) notice-is d in
+        let f = then-becomes (with-notices (new-notice (g .core .ledger .fee) a q (wallet-at a (g .core)))) b e in
         record { state = f .state; gateway-is = f .gateway-is ∙ book-is }
 
 module _ (xs : List ℕ) {ys : List ℕ} (s a : ℕ) (b : Bucket) (q : NewOrder) (t : ℕ) (d : Becomes ys (with-rest (after s a b t) (gateway (cell xs)))) where
@@ -182,7 +189,7 @@ module _ (xs out : List ℕ) (s a : ℕ) (q : NewOrder) (time : ℕ) where
   abbrev done : Plan
   done =
       records (record { client-ref = q .«client_ref»; session = some s }) (command (next (now .core)) (the-command a q (now .core))) []
-      (queued (the-command a q (now .core)) (noticing (new-notice a q (wallet-at a (now .core))) left))
+      (queued (the-command a q (now .core)) (noticing (new-notice (now .core .ledger .fee) a q (wallet-at a (now .core))) left))
 
   abbrev heard-plan : Plan
   heard-plan = hear s a (In.NewOrder q) (now .core) (heard s time (now .rest))
@@ -201,14 +208,14 @@ module _ (xs out : List ℕ) (s a : ℕ) (q : NewOrder) (time : ℕ) where
   judged =
       let ts = paper a (q .side) (q .qty) (q .kind) now in
       let us = Entry.can-number Unavailable (now .core) left ++ ((Unavailable, ltb (length (now .core .ledger .orders)) most-orders)
-      ∷ (Unavailable, leb (length (now .rest .notices ++ new-notice a q (wallet-at a (now .core)))) most-notices)
+      ∷ (Unavailable, leb (length (now .rest .notices ++ new-notice (now .core .ledger .fee) a q (wallet-at a (now .core)))) most-notices)
       ∷ (Unavailable, fits-after (command (next (now .core)) (the-command a q (now .core))) (now .core))
       ∷ []) in
       ap (λ v. cond (token .passed) (cond (ltb (open-of a (now .core .ledger .orders)) (most-open (account-at a (now .core)))) v (Why.the-variants.Some TooManyOrders)) (Why.the-variants.Some Throttled))
       (ap (λ vs. first (vs ++ us)) (paper-same (q .kind)) ∙ sym (or-append ts us)
       ∙ ap (or-else (first ts))
       (six (ltb (length (now .core .flights)) most-in-flight) (ltb (length (now .rest .batch)) most-in-batch) (ltb (next (now .core)) modulus) (ltb (length (now .core .ledger .orders)) most-orders)
-      (leb (length (now .rest .notices ++ new-notice a q (wallet-at a (now .core)))) most-notices) (fits-after (command (next (now .core)) (the-command a q (now .core))) (now .core)))
+      (leb (length (now .rest .notices ++ new-notice (now .core .ledger .fee) a q (wallet-at a (now .core)))) most-notices) (fits-after (command (next (now .core)) (the-command a q (now .core))) (now .core)))
       ∙ or-append ts ((Unavailable, has-room a q now) ∷ []))
 
   module _ (x : Taken) (v : Why.MaybeRejectCode) (x-is : x ≡ token) (v-is : v ≡ first (new-order-tests a q (x .passed) now)) where

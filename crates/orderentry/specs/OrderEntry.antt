@@ -58,7 +58,7 @@ placed s a o g =
     let k = the-command a o (g .core) in
     record {
       core = core-step (record { client-ref = o .«client_ref»; session = some s }) (command (next (g .core)) k) (g .core);
-      rest = queued k (noticing (new-notice a o (wallet-at a (g .core))) (g .rest));
+      rest = queued k (noticing (new-notice (g .core .ledger .fee) a o (wallet-at a (g .core))) (g .rest));
     }
 
 -- what a plan gives, within the places lent

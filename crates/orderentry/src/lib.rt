@@ -218,7 +218,7 @@ fn place_new(m: &mut [u8], s: usize, a: usize, order: NewOrder, o: Live)
     let side = order.side;
     let kind = order.kind;
     let k = command_of(number, a, side, order.qty, kind);
-    let hold = live::hold_of(o.side, o.priced, o.price, o.leaves);
+    let hold = live::hold_of(live::fee_of(m), o.side, o.priced, o.price, o.leaves);
     place(m, s, number, o, k);
     live::notice_hold(m, o.account, 0, hold);
 }

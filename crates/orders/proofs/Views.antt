@@ -182,6 +182,7 @@ pub record Keeps (s t : Store) : Type 0 where
   pub resting-are : word t C.resting-orders ≡ word s C.resting-orders
   pub cells : (j k : ℕ) → j < word s C.order-rows → k < 16 → t C.orders j k ≡ s C.orders j k
   pub map-is : (j : ℕ) → j < 32 → t C.order-map j C.map-bits ≡ s C.order-map j C.map-bits
+  pub fee-is : word t C.fee ≡ word s C.fee
 
 module _ {s t : Store} (e : Keeps s t) where
   marked-kept : {A : Type 0} (k : ℕ) (f : Row → A) → k < 16 → ((q r : Row) → Agree 16 q r → f q ≡ f r) → marked t k f ≡ marked s k f
@@ -241,6 +242,7 @@ module _ (s t : Store) (e : Same s t) (b : Bounds s) where
         resting-are = word-same C.resting-orders (omega arith);
         cells = λ j k h l. sym (e C.orders j k (order-cell j k (omega (arith, b .orders-fit)) l));
         map-is = λ j l. sym (e C.order-map j C.map-bits (order-map-cell j C.map-bits l (omega arith)));
+        fee-is = word-same C.fee (omega arith);
       }
 
   pub bounds-same : Bounds t

@@ -107,7 +107,7 @@ collar-view n s = refl
 abbrev pub with-mark : MaybePrice → Gateway → Gateway
 with-mark p g =
     let l = g .core .ledger in
-    record { core = record { ledger = record { last = l .last; wallets = l .wallets; orders = l .orders; mark = p }; flights = g .core .flights; accounts = g .core .accounts }; rest = g .rest }
+    record { core = record { ledger = record { last = l .last; wallets = l .wallets; orders = l .orders; mark = p; fee = l .fee }; flights = g .core .flights; accounts = g .core .accounts }; rest = g .rest }
 
 pub mark-view : (p : ℕ) (s : Store) → gateway (P.set-mark p s) ≡ with-mark (Some (int p)) (gateway s)
 unfolding fill
@@ -154,7 +154,7 @@ module _ (sender owner places : ℕ) (s : Store) (few : word s C.flying < most-i
       record {
         core =
             record {
-              ledger = record { last = next; wallets = g .core .ledger .wallets; orders = g .core .ledger .orders; mark = g .core .ledger .mark };
+              ledger = record { last = next; wallets = g .core .ledger .wallets; orders = g .core .ledger .orders; mark = g .core .ledger .mark; fee = g .core .ledger .fee };
               flights = g .core .flights ++ (new ∷ []);
               accounts = g .core .accounts;
             };

@@ -1,4 +1,5 @@
-// Plays the stored lists of calls on the proved entry points, and says the first difference from the Rust's answers, or how many calls agreed.
+// Plays the stored lists of calls on the proved entry points, and says the first difference from the stored answers, or how many calls agreed: the
+// Rust's answers, and the written rule's for lists with a fee.
 use stored::Tally;
 ghost use Rattle.edge.specs.Entering.{Lent};
 

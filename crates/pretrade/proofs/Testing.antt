@@ -84,14 +84,6 @@ module _ (xs : List ℕ) (p c : ℕ) (c-is : c ≡ word (cell xs) C.collar) wher
 
 -- ---- cover
 
--- signs of words
-not-negative : (h : ℕ) → h ≤ 9223372036854775807 → leZ (pos 0) (int h) ≡ true
-not-negative h l = ap (leZ (pos 0)) (low h (omega arith)) ∙ le-leb 0 h (omega arith)
-
-negative : (h : ℕ) → h < modulus → 9223372036854775807 < h → leZ (pos 0) (int h) ≡ false
-unfolding _⊖_
-negative h f l = ap (leZ (pos 0)) (high h f (omega arith)) ∙ rw (lt-ltb h modulus f) refl
-
 pub signed : (p : ℤ) → SFits w64 p → Signed p
 signed p f = word-fits (ofZ w64 p) p (ofZ-fits w64 p f .fits) (int-of p f)
 
@@ -108,23 +100,26 @@ module _ {a : ℕ} {xs : List ℕ} (h : Exists a xs) (w-is : is-some (wallet-at 
       let e = wallet-at-row a (cell xs) (slot h) in
       e ∙ there (flag (cell xs C.accounts a C.account-funded)) its-funds (ap is-some (sym e) ∙ w-is)
 
-  exact : (z : Side) → int (cell xs C.accounts a (held-cell z)) ≡ held a z (g .core .ledger .orders)
+  exact : (z : Side) → int (cell xs C.accounts a (held-cell z)) ≡ held (g .core .ledger .fee) a z (g .core .ledger .orders)
   exact = held-exact (cell xs) a (h .between .state .sound .held) (h .between .ok .core-is .holds) (slot h) w-is
 
-  balance-is : W.balance-of (Clients.wallet-words (cell xs C.accounts a)) ≡ balance-with a (g .core .ledger .orders) its-funds
+  balance-is : W.balance-of (Clients.wallet-words (cell xs C.accounts a)) ≡ balance-with (g .core .ledger .fee) a (g .core .ledger .orders) its-funds
   balance-is = λ i. record { cash = its-funds .cash; position = its-funds .position; «cash_held» = exact Buy i; «position_held» = exact Sell i }
 
-  pub free-is : (z : Side) (n : ℕ) (w : Wallet) (r : Bool) → n ≤ 9223372036854775807 → w ≡ Clients.wallet-words (cell xs C.accounts a) → r ≡ W.covers z (int n) (W.balance-of w) →
+  pub free-is : (z : Side) (n : ℕ) (b : Bool) (w : Wallet) (r : Bool) → b ≡ leZ (pos 0) (int n) → b ≡ true → w ≡ Clients.wallet-words (cell xs C.accounts a) → r ≡ W.covers z (int n) (W.balance-of w) →
       r ≡ option false (is-free (int n) z a (g .core)) (wallet-at a (g .core))
-  free-is z n w r l e f =
+  free-is z n b w r s t e f =
       f ∙ ap (λ (x : Wallet). W.covers z (int n) (W.balance-of x)) e ∙ ap (W.covers z (int n)) balance-is
-      ∙ sym (ap (option false (is-free (int n) z a (g .core))) wallet-is ∙ ap (λ b. b && W.covers z (int n) (balance-with a (g .core .ledger .orders) its-funds)) (not-negative n l))
+      ∙ sym (ap (option false (is-free (int n) z a (g .core))) wallet-is ∙ ap (λ b. b && W.covers z (int n) (balance-with (g .core .ledger .fee) a (g .core .ledger .orders) its-funds)) (sym s ∙ t))
 
-  pub not-free : (z : Side) (n : ℕ) → n < modulus → 9223372036854775807 < n → false ≡ option false (is-free (int n) z a (g .core)) (wallet-at a (g .core))
-  not-free z n f l =
-      sym (ap (option false (is-free (int n) z a (g .core))) wallet-is ∙ ap (λ b. b && W.covers z (int n) (balance-with a (g .core .ledger .orders) its-funds)) (negative n f l))
+  pub not-free : (z : Side) (n : ℕ) (b : Bool) → b ≡ leZ (pos 0) (int n) → b ≡ false → false ≡ option false (is-free (int n) z a (g .core)) (wallet-at a (g .core))
+  not-free z n b s e =
+      sym (ap (option false (is-free (int n) z a (g .core))) wallet-is ∙ ap (λ b. b && W.covers z (int n) (balance-with (g .core .ledger .fee) a (g .core .ledger .orders) its-funds)) (sym s ∙ e))
 
-  module _ (z : Side) (p q : ℕ) (m : Amount) (m-is : amount m ≡ W.hold-of z (int p) q) where
+  module _ (z : Side) (fee p q : ℕ) (fee-is : fee ≡ word (cell xs) C.fee) (m : Amount) (m-at : amount m ≡ W.hold-of z (W.charged (int fee) z (int p)) q) where
+    m-is : amount m ≡ W.hold-of z (W.charged (g .core .ledger .fee) z (int p)) q
+    m-is = m-at ∙ ap (λ f. W.hold-of z (W.charged (int f) z (int p)) q) fee-is
+
     pub covered-is : (n : ℕ) (r : Bool) → m ≡ Fits n → r ≡ option false (is-free (int n) z a (g .core)) (wallet-at a (g .core)) → r ≡ option false (is-covered z (int p) q a (g .core)) (wallet-at a (g .core))
     covered-is n r e f =
         f ∙ ap (λ (o : Option ℤ). option false (λ w. option false (λ x. is-free x z a (g .core) w) o) (wallet-at a (g .core))) (ap amount (sym e) ∙ m-is)
@@ -171,7 +166,7 @@ module _ {a : ℕ} {xs : List ℕ} (h : Exists a xs) (f : Bool) (f-is : f ≡ is
   pub total-is : (z : Side) (n : ℕ) (r : Bool) → f ≡ true → r ≡ fits (int (cell xs C.accounts a (held-cell z)) -ℤ int 0 +ℤ int n) → r ≡ hold-fits a z (int n) (gateway (cell xs))
   total-is z n r e r-is =
       r-is ∙ ap₂ (λ x y. fits (x -ℤ y +ℤ int n)) (exact h (funded ∙ e) z) int-zero
-      ∙ sym (ap (λ (c : Bool). cond c (fits (held a z (gateway (cell xs) .core .ledger .orders) -ℤ pos 0 +ℤ int n)) true) (funded ∙ e))
+      ∙ sym (ap (λ (c : Bool). cond c (fits (held (gateway (cell xs) .core .ledger .fee) a z (gateway (cell xs) .core .ledger .orders) -ℤ pos 0 +ℤ int n)) true) (funded ∙ e))
 
 -- ---- the notice
 
@@ -238,16 +233,16 @@ module _ {a : ℕ} {q : NewOrder} {o : Live} (w : Stands a q o) where
   pub account-stands : o .account ≡ a
   account-stands = ap (λ (x : Order). x .account) (w .is 0)
 
-  pub hold-stands : (n : ℕ) → n ≡ hold-word (o .side) (o .priced) (o .price) (o .leaves) → int n ≡ hold (q .side) (price-of (q .kind)) (q .qty)
-  hold-stands n e =
-      ap int e ∙ hold-is (o .side) (o .priced) (o .price) (o .leaves) ∙ ap (λ (x : Order). hold (x .side) (x .price) (x .leaves)) (w .is 0)
+  pub hold-stands : (fee n : ℕ) → n ≡ hold-word fee (o .side) (o .priced) (o .price) (o .leaves) → int n ≡ hold (int fee) (q .side) (price-of (q .kind)) (q .qty)
+  hold-stands fee n e =
+      ap int e ∙ hold-is fee (o .side) (o .priced) (o .price) (o .leaves) ∙ ap (λ (x : Order). hold (int fee) (x .side) (x .price) (x .leaves)) (w .is 0)
 
   -- its notice, by the words
-  pub notice-stands : (s : Store) (n : ℕ) → a < owner-slots → n ≡ hold-word (o .side) (o .priced) (o .price) (o .leaves) → new-notice a q (wallet-at a (gateway s .core)) ≡ hold-notice a (int 0) (int n) s
+  pub notice-stands : (s : Store) (n : ℕ) → a < owner-slots → n ≡ hold-word (word s C.fee) (o .side) (o .priced) (o .price) (o .leaves) → new-notice (gateway s .core .ledger .fee) a q (wallet-at a (gateway s .core)) ≡ hold-notice a (int 0) (int n) s
   notice-stands s n l e =
-      ap (new-notice a q) (wallet-at-row a s l) ∙ go (wallet (s C.accounts a)) (cond (is-zero (hold (q .side) (price-of (q .kind)) (q .qty))) [] (a ∷ []))
+      ap (new-notice (gateway s .core .ledger .fee) a q) (wallet-at-row a s l) ∙ go (wallet (s C.accounts a)) (cond (is-zero (hold (gateway s .core .ledger .fee) (q .side) (price-of (q .kind)) (q .qty))) [] (a ∷ []))
       ∙ ap (λ x. cond (is-some (wallet (s C.accounts a))) (cond (is-zero x) [] (a ∷ [])) [])
-      (sym (ap (λ z. int n -ℤ z) int-zero ∙ +ℤ-idr (int n) ∙ hold-stands n e))
+      (sym (ap (λ z. int n -ℤ z) int-zero ∙ +ℤ-idr (int n) ∙ hold-stands (word s C.fee) n e))
     where
       go : (x : Option Funds) (ns : List ℕ) → option [] (λ f. ns) x ≡ cond (is-some x) ns []
       go none ns = refl
@@ -275,10 +270,10 @@ placed-is q ref n a = ap₂ (placed ref n) (owner-is n a (q .side) (q .qty) (q .
 
 -- code 7 for any order that comes: the one total that it joins
 pub more-fits : (l : Ledger) (o : Order) → holds-fit l ≡ true →
-    holds-fit (with-orders (l .orders ++ (o ∷ [])) l) ≡ cond (is-some (wallet-of (l .wallets) o)) (fits (held (o .account) (o .side) (l .orders) -ℤ pos 0 +ℤ order-hold o)) true
+    holds-fit (with-orders (l .orders ++ (o ∷ [])) l) ≡ cond (is-some (wallet-of (l .wallets) o)) (fits (held (l .fee) (o .account) (o .side) (l .orders) -ℤ pos 0 +ℤ order-hold (l .fee) o)) true
 more-fits l o fine =
     holds-swap l swapped fine
-    ∙ ap (λ x. cond (is-some (wallet-of (l .wallets) o)) (fits (held (o .account) (o .side) (l .orders) -ℤ pos 0 +ℤ x)) true) (held-one o)
+    ∙ ap (λ x. cond (is-some (wallet-of (l .wallets) o)) (fits (held (l .fee) (o .account) (o .side) (l .orders) -ℤ pos 0 +ℤ x)) true) (held-one (l .fee) o)
   where
     swapped : Swap (o .account) (o .side) [] (o ∷ []) (l .orders) (l .orders ++ (o ∷ []))
     swapped = record { low = l .orders; high = []; from = sym (append-nil (l .orders)); to = refl; old-mine = tt; new-mine = ((refl, refl), tt) }
@@ -294,7 +289,7 @@ module _ (a : ℕ) (q : NewOrder) (g : Gateway) (fine : holds-fit (g .core .ledg
   unfolding step holds-fit
   step-is = rw (placed-is q 0 (next (g .core)) a) refl
 
-  pub fits-is : hold-fits a (q .side) (hold (q .side) (price-of (q .kind)) (q .qty)) g ≡ fits-after (command (next (g .core)) (the-command a q (g .core))) (g .core)
+  pub fits-is : hold-fits a (q .side) (hold (g .core .ledger .fee) (q .side) (price-of (q .kind)) (q .qty)) g ≡ fits-after (command (next (g .core)) (the-command a q (g .core))) (g .core)
   fits-is = sym (step-is ∙ more-fits l (the-order q 0 (next (g .core)) a) fine)
 
 -- ---- room for all of it
@@ -306,12 +301,15 @@ module _ {a : ℕ} {xs : List ℕ} {q : NewOrder} {o : Live} (h : Exists a xs) (
   orders-are : word (cell xs) C.live-orders ≡ length (gw .core .ledger .orders)
   orders-are = h .between .state .sound .tables .ordered .counted .live-count
 
-  module _ (n v : ℕ) (n-is : n ≡ hold-word (o .side) (o .priced) (o .price) (o .leaves)) (v-is : v ≡ word (cell xs) C.live-orders) where
-    notice-is : leb (length (hold-notice a (int 0) (int n) (cell xs)) + word (cell xs) C.notice-rows) most-notices ≡ leb (length (gw .rest .notices ++ new-notice a q (wallet-at a (gw .core)))) most-notices
+  module _ (fee n v : ℕ) (fee-is : fee ≡ word (cell xs) C.fee) (n-at : n ≡ hold-word fee (o .side) (o .priced) (o .price) (o .leaves)) (v-is : v ≡ word (cell xs) C.live-orders) where
+    n-is : n ≡ hold-word (word (cell xs) C.fee) (o .side) (o .priced) (o .price) (o .leaves)
+    n-is = n-at ∙ ap (λ f. hold-word f (o .side) (o .priced) (o .price) (o .leaves)) fee-is
+
+    notice-is : leb (length (hold-notice a (int 0) (int n) (cell xs)) + word (cell xs) C.notice-rows) most-notices ≡ leb (length (gw .rest .notices ++ new-notice (gw .core .ledger .fee) a q (wallet-at a (gw .core)))) most-notices
     notice-is =
         let e = ap length (notice-stands w (cell xs) n (slot h) n-is) in
-        let d : length (hold-notice a (int 0) (int n) (cell xs)) + word (cell xs) C.notice-rows ≡ length (gw .rest .notices ++ new-notice a q (wallet-at a (gw .core))) =
-        omega (arith, e, length-append (gw .rest .notices) (new-notice a q (wallet-at a (gw .core))), listed-length (λ i. cell xs C.notices i C.notice-account) (word (cell xs) C.notice-rows)) in
+        let d : length (hold-notice a (int 0) (int n) (cell xs)) + word (cell xs) C.notice-rows ≡ length (gw .rest .notices ++ new-notice (gw .core .ledger .fee) a q (wallet-at a (gw .core))) =
+        omega (arith, e, length-append (gw .rest .notices) (new-notice (gw .core .ledger .fee) a q (wallet-at a (gw .core))), listed-length (λ i. cell xs C.notices i C.notice-account) (word (cell xs) C.notice-rows)) in
         ap (λ x. leb x most-notices) d
 
     pub no-place : most-orders ≤ v → false ≡ has-place a q gw
@@ -323,7 +321,7 @@ module _ {a : ℕ} {xs : List ℕ} {q : NewOrder} {o : Live} (h : Exists a xs) (
 
       pub place-is : (r : Bool) → b ≡ true → r ≡ hold-fits a (q .side) (int n) gw → r ≡ has-place a q gw
       place-is r e f =
-          f ∙ ap (λ x. hold-fits a (q .side) x gw) (hold-stands w n n-is) ∙ fits-is a q gw (h .between .ok .core-is .holds)
+          f ∙ ap (λ x. hold-fits a (q .side) x gw) (hold-stands w (word (cell xs) C.fee) n n-is) ∙ fits-is a q gw (h .between .ok .core-is .holds)
           ∙ sym (rw (← orders-are, ← v-is, lt-ltb v most-orders l, ← notice-is, ← b-is, e) refl)
 
 pub room-is : (g : Gateway) (a : ℕ) (q : NewOrder) (c r : Bool) → c ≡ can-number g → c ≡ true → r ≡ has-place a q g → r ≡ has-room a q g

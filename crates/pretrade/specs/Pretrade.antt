@@ -56,10 +56,10 @@ other-tests passed allowed g = (Throttled, passed) ∷ (NotAllowed, allowed) ∷
 
 -- a hold of h more is not negative, and the free part of account a's wallet w covers it
 abbrev pub is-free : ℤ → Side → ℕ → Core → Funds → Bool
-is-free h s a c w = leZ (pos 0) h && W.covers s h (balance-with a (c .ledger .orders) w)
+is-free h s a c w = leZ (pos 0) h && W.covers s h (balance-with (c .ledger .fee) a (c .ledger .orders) w)
 
 abbrev pub is-covered : Side → ℤ → ℕ → ℕ → Core → Funds → Bool
-is-covered s p q a c w = covered (W.hold-of s p q) s a w (c .ledger .orders)
+is-covered s p q a c w = covered (c .ledger .fee) s p q a w (c .ledger .orders)
 
 -- what a wallet's account is asked of a limit order at p
 abbrev pub limit-tests : Side → ℤ → ℕ → ℕ → Gateway → Tests RejectCode
@@ -74,7 +74,7 @@ paper a s q k g = option [] (paper-tests a s q (g .core) (g .rest) k) (wallet-at
 
 -- what account a's orders of a side hold, with h more, is in range; an account without a wallet always passes
 abbrev pub hold-fits : ℕ → Side → ℤ → Gateway → Bool
-hold-fits a s h g = cond (is-some (wallet-at a (g .core))) (fits (held a s (g .core .ledger .orders) -ℤ pos 0 +ℤ h)) true
+hold-fits a s h g = cond (is-some (wallet-at a (g .core))) (fits (held (g .core .ledger .fee) a s (g .core .ledger .orders) -ℤ pos 0 +ℤ h)) true
 
 abbrev pub the-command : ℕ → NewOrder → Core → Command
 the-command a o c = command-of (next c) a (o .side) (o .qty) (o .kind)
@@ -83,7 +83,7 @@ the-command a o c = command-of (next c) a (o .side) (o .qty) (o .kind)
 abbrev pub has-place : ℕ → NewOrder → Gateway → Bool
 has-place a o g =
     ltb (length (g .core .ledger .orders)) most-orders
-    && (leb (length (g .rest .notices ++ new-notice a o (wallet-at a (g .core)))) most-notices && fits-after (command (next (g .core)) (the-command a o (g .core))) (g .core))
+    && (leb (length (g .rest .notices ++ new-notice (g .core .ledger .fee) a o (wallet-at a (g .core)))) most-notices && fits-after (command (next (g .core)) (the-command a o (g .core))) (g .core))
 
 abbrev pub has-room : ℕ → NewOrder → Gateway → Bool
 has-room a o g = Commands.can-number g && has-place a o g

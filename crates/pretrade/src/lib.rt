@@ -108,7 +108,7 @@ fn is_free(m: &[u8], a: usize, side: Side, hold: u64) -> bool
     requires { ⌜ P.Exists a (now m) × (is-some (wallet-at a (gateway (cell (now m)) .core)) ≡ true) ⌝ }
     ensures { λ r. ⌜ r ≡ option false (P.is-free (int hold) side a (gateway (cell (now (m .entry))) .core)) (wallet-at a (gateway (cell (now (m .entry))) .core)) ⌝ }
 {
-    if hold <= words::MOST {
+    if words::not_negative(hold) {
         let w = clients::wallet_at(m, a);
         return w.covers(side, hold);
     }
@@ -119,7 +119,7 @@ fn is_covered(m: &[u8], a: usize, side: Side, price: u64, qty: u64) -> bool
     requires { ⌜ P.Exists a (now m) × (is-some (wallet-at a (gateway (cell (now m)) .core)) ≡ true) ⌝ }
     ensures { λ r. ⌜ r ≡ option false (P.is-covered side (int price) qty a (gateway (cell (now (m .entry))) .core)) (wallet-at a (gateway (cell (now (m .entry))) .core)) ⌝ }
 {
-    match Wallet::hold_of(side, price, qty) {
+    match Wallet::hold_of(live::fee_of(m), side, price, qty) {
         Amount::Fits(hold) => is_free(m, a, side, hold),
         Amount::TooBig => false,
     }
@@ -226,7 +226,7 @@ fn has_place(m: &[u8], a: usize, order: NewOrder, o: Live) -> bool
     ensures { λ r. ⌜ r ≡ P.has-place a order (gateway (cell (now (m .entry)))) ⌝ }
 {
     let side = order.side;
-    let hold = live::hold_of(o.side, o.priced, o.price, o.leaves);
+    let hold = live::hold_of(live::fee_of(m), o.side, o.priced, o.price, o.leaves);
     let live = pending::header::word_at(m, cells::LIVE_ORDERS);
     if live < limits::MOST_ORDERS {
         if notice_room(m, a, hold) {

@@ -76,7 +76,7 @@ module _ (bytes xs : List ℕ) (emp : Empty (saved-of bytes) xs) where
             state = b .state;
             gateway-is =
                 b .gateway-is ∙ ap (noticed (s .orders)) so-far
-                ∙ ap (λ ws. noticed (s .orders) (with-ledger (λ l. record { last = l .last; wallets = ws; orders = s .orders; mark = s .mark }) g₀))
+                ∙ ap (λ ws. noticed (s .orders) (with-ledger (λ l. record { last = l .last; wallets = ws; orders = s .orders; mark = s .mark; fee = l .fee }) g₀))
                 (all-restored (s .wallets) (g₀ .core .ledger .wallets) (f .wallets-rise) (listed-length (λ i. wallet (cell xs C.accounts i)) owner-slots));
           }
 

@@ -6,7 +6,7 @@ use mathlib.Core.Option.{Option, none}
 use mathlib.Core.List.{List, [], _∷_, _++_, append-nil, append-assoc}
 use native.Mathlib.Numerals.{add-one}
 use native.Mathlib.Omega.{arith}
-use lib.IntN.{_-ℤ_, +ℤ-idr}
+use lib.IntN.{ℤ, _-ℤ_, +ℤ-idr}
 use lib.ListN.{length, getD, take, length-append}
 use lib.Seq.{take-suc, take-all, length-take-le}
 use Rattle.accounts.specs.declared.Funds.{Funds}
@@ -50,18 +50,21 @@ module _ (bytes : List ℕ) (j : ℕ) (o : Live) (r : Reads (order-at bytes j) o
       let i = each-at (Inside (saved-of bytes .last) owner-slots) (saved-of bytes .orders) j no-order (fits .inside) l in
       rw same-account (i .1)
 
-  module _ (xs : List ℕ) (h : ℕ) (h-is : h ≡ hold-word (o .side) (o .priced) (o .price) (o .leaves)) where
+  module _ (xs : List ℕ) (f h : ℕ) (f-is : f ≡ word (cell xs) C.fee) (h-is : h ≡ hold-word f (o .side) (o .priced) (o .price) (o .leaves)) where
+    abbrev fee : ℤ
+    fee = gateway (cell xs) .core .ledger .fee
+
     abbrev ws : List (Option Funds)
     ws = gateway (cell xs) .core .ledger .wallets
 
-    amount : int h -ℤ int 0 ≡ order-hold (order-of (order-at bytes j .number) o)
-    amount = ap (λ z. int h -ℤ z) int-zero ∙ +ℤ-idr (int h) ∙ ap int h-is ∙ hold-is (o .side) (o .priced) (o .price) (o .leaves)
+    amount : int h -ℤ int 0 ≡ order-hold fee (order-of (order-at bytes j .number) o)
+    amount = ap (λ z. int h -ℤ z) int-zero ∙ +ℤ-idr (int h) ∙ ap int (h-is ∙ ap (λ y. hold-word y (o .side) (o .priced) (o .price) (o .leaves)) f-is) ∙ hold-is (word (cell xs) C.fee) (o .side) (o .priced) (o .price) (o .leaves)
 
-    notice-is : hold-notice (o .account) (int 0) (int h) (cell xs) ≡ hold-notice-of ws (order-at bytes j)
+    notice-is : hold-notice (o .account) (int 0) (int h) (cell xs) ≡ hold-notice-of fee ws (order-at bytes j)
     notice-is =
         told (is-some (wallet (cell xs C.accounts (o .account)))) (is-zero (int h -ℤ int 0)) (o .account ∷ [])
         ∙ ap₂ (λ w z. cond (is-some w && not (is-zero z)) (o .account ∷ []) []) (sym (listed-at (λ i. wallet (cell xs C.accounts i)) owner-slots (o .account) none account-there)) amount
-        ∙ ap (hold-notice-of ws) (r .order-is)
+        ∙ ap (hold-notice-of fee ws) (r .order-is)
 
     pub notice-fits : length (gateway (cell xs) .rest .notices) < most-notices → length (hold-notice (o .account) (int 0) (int h) (cell xs)) + word (cell xs) C.notice-rows ≤ most-notices
     notice-fits k =
@@ -72,7 +75,7 @@ module _ (bytes : List ℕ) (j : ℕ) (o : Live) (r : Reads (order-at bytes j) o
         omega (arith, one, e, k)
 
     pub notice-becomes : {ys : List ℕ} → Becomes ys (with-notices (hold-notice (o .account) (int 0) (int h) (cell xs)) (gateway (cell xs))) →
-        Becomes ys (with-notices (hold-notice-of (gateway (cell xs) .core .ledger .wallets) (order-at bytes j)) (gateway (cell xs)))
+        Becomes ys (with-notices (hold-notice-of (gateway (cell xs) .core .ledger .fee) (gateway (cell xs) .core .ledger .wallets) (order-at bytes j)) (gateway (cell xs)))
     notice-becomes {ys} b = subst (λ ns. Becomes ys (with-notices ns (gateway (cell xs)))) notice-is b
 
 -- ---- all of them
@@ -98,20 +101,20 @@ with-all ns g =
           };
     }
 
-module _ (ws : List (Option Funds)) where
+module _ (fee : ℤ) (ws : List (Option Funds)) where
   abbrev notices : List Order → List ℕ
-  notices os = each (hold-notice-of ws) os
+  notices os = each (hold-notice-of fee ws) os
 
-  notices-more : (os : List Order) (o : Order) → notices (os ++ (o ∷ [])) ≡ notices os ++ hold-notice-of ws o
-  notices-more [] o = append-nil (hold-notice-of ws o)
-  notices-more (x ∷ os) o = ap (λ ns. hold-notice-of ws x ++ ns) (notices-more os o) ∙ sym (append-assoc (hold-notice-of ws x) (notices os) (hold-notice-of ws o))
+  notices-more : (os : List Order) (o : Order) → notices (os ++ (o ∷ [])) ≡ notices os ++ hold-notice-of fee ws o
+  notices-more [] o = append-nil (hold-notice-of fee ws o)
+  notices-more (x ∷ os) o = ap (λ ns. hold-notice-of fee ws x ++ ns) (notices-more os o) ∙ sym (append-assoc (hold-notice-of fee ws x) (notices os) (hold-notice-of fee ws o))
 
   notices-few : (os : List Order) → length (notices os) ≤ length os
   notices-few [] = omega arith
   notices-few (o ∷ os) =
-      let one : length (hold-notice-of ws o) ≤ 1 =
-      split (λ b. length (cond b (o .account ∷ []) []) ≤ 1) (is-some (getD ws (o .account) none) && not (is-zero (order-hold o))) (λ e. omega arith) (λ e. omega arith) in
-      omega (arith, length-append (hold-notice-of ws o) (notices os), notices-few os, one)
+      let one : length (hold-notice-of fee ws o) ≤ 1 =
+      split (λ b. length (cond b (o .account ∷ []) []) ≤ 1) (is-some (getD ws (o .account) none) && not (is-zero (order-hold fee o))) (λ e. omega arith) (λ e. omega arith) in
+      omega (arith, length-append (hold-notice-of fee ws o) (notices os), notices-few os, one)
 
 module _ (bytes xs : List ℕ) where
   abbrev os : List Order
@@ -131,18 +134,19 @@ module _ (bytes xs : List ℕ) where
     pub notice-room : length os ≤ most-orders → length (g .rest .notices) ≡ 0 → length (gateway (cell ys) .rest .notices) < most-notices
     notice-room few empty =
         let e = ap (λ (h : Gateway). length (h .rest .notices)) (a .gateway-is) in
-        omega (arith, e, length-append (g .rest .notices) (notices (g .core .ledger .wallets) (take j os)), notices-few (g .core .ledger .wallets) (take j os), length-take-le j os (omega arith), few, empty)
+        omega (arith, e, length-append (g .rest .notices) (notices (g .core .ledger .fee) (g .core .ledger .wallets) (take j os)), notices-few (g .core .ledger .fee) (g .core .ledger .wallets) (take j os), length-take-le j os (omega arith), few, empty)
 
-    pub more-noticed : (zs : List ℕ) → Becomes zs (with-notices (hold-notice-of (gateway (cell ys) .core .ledger .wallets) (order-at bytes j)) (gateway (cell ys))) → Noticed (j + 1) zs
+    pub more-noticed : (zs : List ℕ) → Becomes zs (with-notices (hold-notice-of (gateway (cell ys) .core .ledger .fee) (gateway (cell ys) .core .ledger .wallets) (order-at bytes j)) (gateway (cell ys))) → Noticed (j + 1) zs
     more-noticed zs b =
         let ws = g .core .ledger .wallets in
+        let fee = g .core .ledger .fee in
         record {
           state = b .state;
           gateway-is =
-              b .gateway-is ∙ ap (λ (h : Gateway). with-notices (hold-notice-of (h .core .ledger .wallets) (order-at bytes j)) h) (a .gateway-is)
+              b .gateway-is ∙ ap (λ (h : Gateway). with-notices (hold-notice-of (h .core .ledger .fee) (h .core .ledger .wallets) (order-at bytes j)) h) (a .gateway-is)
               ∙ ap (λ ns. with-all ns g)
-              (append-assoc (g .rest .notices) (notices ws (take j os)) (hold-notice-of ws (order-at bytes j))
-              ∙ ap (λ ns. g .rest .notices ++ ns) (sym (notices-more ws (take j os) (order-at bytes j)) ∙ ap (notices ws) (sym (take-suc os j no-order l) ∙ ap (λ k. take k os) (sym (add-one j)))));
+              (append-assoc (g .rest .notices) (notices fee ws (take j os)) (hold-notice-of fee ws (order-at bytes j))
+              ∙ ap (λ ns. g .rest .notices ++ ns) (sym (notices-more fee ws (take j os) (order-at bytes j)) ∙ ap (notices fee ws) (sym (take-suc os j no-order l) ∙ ap (λ k. take k os) (sym (add-one j)))));
         }
 
   pub all-noticed : (j : ℕ) (ys : List ℕ) → length os ≤ j → Noticed j ys → Becomes ys (noticed os g)

@@ -25,10 +25,10 @@ use Rattle.live.specs.Live.{with-ledger, with-notices}
 -- ---- the ledger with another part
 
 abbrev pub with-mark : MaybePrice → Ledger → Ledger
-with-mark p l = record { last = l .last; wallets = l .wallets; orders = l .orders; mark = p }
+with-mark p l = record { last = l .last; wallets = l .wallets; orders = l .orders; mark = p; fee = l .fee }
 
 abbrev pub with-wallets : List (Option Funds) → Ledger → Ledger
-with-wallets ws l = record { last = l .last; wallets = ws; orders = l .orders; mark = l .mark }
+with-wallets ws l = record { last = l .last; wallets = ws; orders = l .orders; mark = l .mark; fee = l .fee }
 
 -- ---- wallets
 
@@ -63,7 +63,7 @@ pub record Places (o : Order) (xs ys : List ℕ) : Type 0 where
 -- ---- notices
 
 abbrev pub noticed : List Order → Gateway → Gateway
-noticed os g = with-notices (each (hold-notice-of (g .core .ledger .wallets)) os) g
+noticed os g = with-notices (each (hold-notice-of (g .core .ledger .fee) (g .core .ledger .wallets)) os) g
 
 -- ---- the whole
 
@@ -86,7 +86,7 @@ pub record Empty (s : Saved) (xs : List ℕ) : Type 0 where
 -- the ledger of the contents: the wallets by the accounts' funds and the bytes' amounts
 abbrev pub filled : Saved → Ledger → Ledger
 filled s l =
-    record { last = l .last; wallets = restored-wallets (l .wallets) (slots owner-slots 0 (s .wallets)); orders = s .orders; mark = s .mark }
+    record { last = l .last; wallets = restored-wallets (l .wallets) (slots owner-slots 0 (s .wallets)); orders = s .orders; mark = s .mark; fee = l .fee }
 
 unfoldable pub refilled : Saved → Gateway → Gateway
 refilled s g = noticed (s .orders) (with-ledger (filled s) g)

@@ -93,10 +93,10 @@ fn own_all(m: &mut [u8], bytes: &[u8])
 // The account of the order j is told what it holds, where it has a wallet and that is not 0.
 fn notice_at(m: &mut [u8], bytes: &[u8], j: usize)
     requires { ⌜ State (now m) × (is-some (decode (now bytes)) ≡ true) × P.Fits (saved-of (now bytes)) × (j < length (saved-of (now bytes) .orders)) × (length (gateway (cell (now m)) .rest .notices) < most-notices) ⌝ }
-    ensures { λ x. ⌜ Becomes (now (m .exit)) (with-notices (hold-notice-of (gateway (cell (now (m .entry))) .core .ledger .wallets) (order-at (now (bytes .entry)) j)) (gateway (cell (now (m .entry))))) ⌝ }
+    ensures { λ x. ⌜ Becomes (now (m .exit)) (with-notices (hold-notice-of (gateway (cell (now (m .entry))) .core .ledger .fee) (gateway (cell (now (m .entry))) .core .ledger .wallets) (order-at (now (bytes .entry)) j)) (gateway (cell (now (m .entry))))) ⌝ }
 {
     let o = saved::order(bytes, j);
-    let hold = live::hold_of(o.side, o.priced, o.price, o.leaves);
+    let hold = live::hold_of(live::fee_of(m), o.side, o.priced, o.price, o.leaves);
     live::notice_hold(m, o.account, 0, hold);
 }
 

@@ -83,7 +83,7 @@ module _ {xs : List ℕ} (b : Between xs) (n : ℕ) (o : Live) where
   l = ledger (cell xs)
 
   abbrev total : ℤ
-  total = held (o .account) (side (o .side)) (l .orders) -ℤ pos 0 +ℤ order-hold (order-of n o)
+  total = held (l .fee) (o .account) (side (o .side)) (l .orders) -ℤ pos 0 +ℤ order-hold (l .fee) (order-of n o)
 
   by-wallet : (f : Bool) → is-some (getD (l .wallets) (o .account) none) ≡ f → cond f (fits total) true ≡ holds-fit (placing n o l)
   by-wallet f e = sym (more-fits l (order-of n o) (b .ok .core-is .holds) ∙ ap (λ (c : Bool). cond c (fits total) true) e)
@@ -99,14 +99,14 @@ module _ {xs : List ℕ} (b : Between xs) (n : ℕ) (o : Live) where
     pub fits-without : f ≡ false → true ≡ holds-fit (placing n o (ledger (cell xs)))
     fits-without e = by-wallet false (funded ∙ e)
 
-    pub fits-with : f ≡ true → (k : ℕ) → k ≡ hold-word (o .side) (o .priced) (o .price) (o .leaves) → (z : Side) → z ≡ side (o .side) → (r : Bool) →
+    pub fits-with : f ≡ true → (fee k : ℕ) → fee ≡ word (cell xs) C.fee → k ≡ hold-word fee (o .side) (o .priced) (o .price) (o .leaves) → (z : Side) → z ≡ side (o .side) → (r : Bool) →
         r ≡ fits (int (cell xs C.accounts (o .account) (held-cell z)) -ℤ int 0 +ℤ int k) → r ≡ holds-fit (placing n o (ledger (cell xs)))
-    fits-with e k k-is z z-is r r-is =
+    fits-with e fee k fee-is k-is z z-is r r-is =
         r-is
         ∙ (λ i.
         fits
-        ((held-exact (cell xs) (o .account) (b .state .sound .held) (b .ok .core-is .holds) h (funded ∙ e) z ∙ ap (λ y. held (o .account) y (l .orders)) z-is) i -ℤ int-zero i
-        +ℤ (ap int k-is ∙ hold-is (o .side) (o .priced) (o .price) (o .leaves)) i))
+        ((held-exact (cell xs) (o .account) (b .state .sound .held) (b .ok .core-is .holds) h (funded ∙ e) z ∙ ap (λ y. held (l .fee) (o .account) y (l .orders)) z-is) i -ℤ int-zero i
+        +ℤ (ap int (k-is ∙ ap (λ f. hold-word f (o .side) (o .priced) (o .price) (o .leaves)) fee-is) ∙ hold-is (word (cell xs) C.fee) (o .side) (o .priced) (o .price) (o .leaves)) i))
         ∙ by-wallet true (funded ∙ e)
 
 module _ {xs : List ℕ} (b : Between xs) (n : ℕ) (t : Terms) where

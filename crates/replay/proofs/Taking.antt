@@ -44,11 +44,11 @@ enter-is n o l false = ap (λ (os : List Order). with-orders os l) (sym (append-
 
 module _ (n : ℕ) (k : Command) (t : Terms) (r : Reads n k t) (g : Gateway) where
   -- the ledger, with any last number
-  entered : (m : ℕ) → enter n t (record { last = m; wallets = g .core .ledger .wallets; orders = g .core .ledger .orders; mark = g .core .ledger .mark })
-      ≡ record { last = m; wallets = g .core .ledger .wallets; orders = g .core .ledger .orders ++ placed 0 n (owner-of k) (Ledger.order-of k); mark = g .core .ledger .mark }
+  entered : (m : ℕ) → enter n t (record { last = m; wallets = g .core .ledger .wallets; orders = g .core .ledger .orders; mark = g .core .ledger .mark; fee = g .core .ledger .fee })
+      ≡ record { last = m; wallets = g .core .ledger .wallets; orders = g .core .ledger .orders ++ placed 0 n (owner-of k) (Ledger.order-of k); mark = g .core .ledger .mark; fee = g .core .ledger .fee }
   entered m =
-      enter-is n (t .order) (record { last = m; wallets = g .core .ledger .wallets; orders = g .core .ledger .orders; mark = g .core .ledger .mark }) (flag (t .places))
-      ∙ ap (λ (os : List Order). record { last = m; wallets = g .core .ledger .wallets; orders = g .core .ledger .orders ++ os; mark = g .core .ledger .mark }) (sym (r .order-is))
+      enter-is n (t .order) (record { last = m; wallets = g .core .ledger .wallets; orders = g .core .ledger .orders; mark = g .core .ledger .mark; fee = g .core .ledger .fee }) (flag (t .places))
+      ∙ ap (λ (os : List Order). record { last = m; wallets = g .core .ledger .wallets; orders = g .core .ledger .orders ++ os; mark = g .core .ledger .mark; fee = g .core .ledger .fee }) (sym (r .order-is))
 
   pub taken-is : n ≡ next (g .core) → taken n t g ≡ record { core = core-step system (command n k) (g .core); rest = g .rest }
   unfolding step
@@ -57,7 +57,7 @@ module _ (n : ℕ) (k : Command) (t : Terms) (r : Reads n k t) (g : Gateway) whe
       record {
         core =
             record {
-              ledger = (entered (next (g .core)) ∙ ap (λ m. record { last = m; wallets = g .core .ledger .wallets; orders = g .core .ledger .orders ++ placed 0 n (owner-of k) (Ledger.order-of k); mark = g .core .ledger .mark }) (sym e)) i;
+              ledger = (entered (next (g .core)) ∙ ap (λ m. record { last = m; wallets = g .core .ledger .wallets; orders = g .core .ledger .orders ++ placed 0 n (owner-of k) (Ledger.order-of k); mark = g .core .ledger .mark; fee = g .core .ledger .fee }) (sym e)) i;
               flights = g .core .flights ++ (record { number = sym e i; session = none; owner = sym (r .owner-is) i; places = sym (r .places-is) i } ∷ []);
               accounts = g .core .accounts;
             };

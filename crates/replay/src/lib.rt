@@ -193,7 +193,7 @@ fn order_fits(m: &[u8], n: u64, o: Live) -> bool
     let a = o.account as usize;
     if a < limits::OWNER_SLOTS {
         if clients::is_funded(m, a) {
-            let hold = live::hold_of(o.side, o.priced, o.price, o.leaves);
+            let hold = live::hold_of(live::fee_of(m), o.side, o.priced, o.price, o.leaves);
             return live::total_fits(m, a, store::side_of(o.side), 0, hold);
         }
     }

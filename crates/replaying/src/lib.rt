@@ -18,6 +18,7 @@ pub fn begin(m: &mut [u8])
         m,
         0,
         0,
+        0,
         Timing {
             heartbeat: 0,
             idle_timeout: 0,
@@ -34,10 +35,11 @@ pub fn start(m: &mut [u8], row: &[u8], accounts: &[u8], given: &[u8]) -> u64
     let last = word(row, 6);
     let heartbeat = word(row, 7);
     let idle = word(row, 8);
+    let fee = word(row, 9);
     if word(row, 0) == 0 {
-        return edge::rowanchess_set_up(m, limit, last, heartbeat, idle, accounts, given);
+        return edge::rowanchess_set_up(m, fee, limit, last, heartbeat, idle, accounts, given);
     }
-    edge::rowanchess_restore(m, limit, heartbeat, idle, accounts, given)
+    edge::rowanchess_restore(m, fee, limit, heartbeat, idle, accounts, given)
 }
 
 // ---- the engine

@@ -1,21 +1,23 @@
 -- An accepted set-up or restore begins with a gateway for which demand 3 holds. Assumes nothing.
 use Prim.Native.Nat.{ℕ}
-use mathlib.Core.Bool.{true, false, not, and-eq-true-iff}
+use mathlib.Core.Bool.{Bool, true, false, cond, not, and-eq-true-iff}
 use mathlib.Core.Path.{_≡_, refl, sym, ap}
 use mathlib.Core.Option.{Option, none, some}
 use mathlib.Core.List.{List, [], _∷_}
 use native.Mathlib.Omega.{arith}
+use lib.IntN.{ℤ, pos}
+use lib.Signed.{leZ}
 use lib.Dec.{eqb}
 use Rattle.accounts.specs.declared.Account.{Account}
 use Rattle.accounts.specs.declared.Timing.{Timing}
 use Rattle.orderbook.specs.declared.Listed.{Listed}
 use Rattle.gateway.specs.Basics.{option}
-use Rattle.gateway.specs.Limits.{malformed}
+use Rattle.gateway.specs.Limits.{malformed, bad-fee}
 use Rattle.gateway.specs.Core.{Tests}
 use Rattle.gateway.specs.Saved.{Saved}
 use Rattle.gateway.specs.Bytes.{decode}
 use Rattle.gateway.specs.Calls.{Gateway}
-use Rattle.gateway.specs.Start.{Started, not-started, started, start-unless, set-up-tests, restore-tests, set-up, restore, restore-saved}
+use Rattle.gateway.specs.Start.{Started, not-started, started, start-unless, charging, set-up-tests, restore-tests, set-up, restore, restore-saved}
 use Rattle.gateway.proofs.Restart.{Demand3, after-set-up, after-restore}
 use Rattle.store.specs.Layout.{cell}
 use Rattle.store.specs.View.{gateway}
@@ -38,14 +40,18 @@ refused-not-0 [] g c e = omega (arith, e)
 refused-not-0 ((k, true) ∷ ts) g c e = refused-not-0 ts g (and-eq-true-iff (not (eqb k 0)) (codes ts) .0 c .1) e
 refused-not-0 ((k, false) ∷ ts) g c e = code-not-0 k ts c e
 
-set-up-not-0 : (limit last : ℕ) (l : List Account) (xs : List Listed) (timing : Timing) → fails (set-up limit last l xs timing) ≡ 0 → ⊥
-unfolding set-up
-set-up-not-0 limit last l xs timing = refused-not-0 (set-up-tests limit last l xs) _ (set-up-codes limit last l xs)
+set-up-not-0 : (fee : ℤ) (limit last : ℕ) (l : List Account) (xs : List Listed) (timing : Timing) → fails (set-up fee limit last l xs timing) ≡ 0 → ⊥
+unfolding set-up charging start-unless
+set-up-not-0 fee limit last l xs timing = refused-not-0 ((bad-fee, leZ (pos 0) fee) ∷ set-up-tests fee limit last l xs) _ (set-up-codes fee limit last l xs)
 
-restore-not-0 : (limit : ℕ) (l : List Account) (timing : Timing) (s : Option Saved) → fails (option (not-started malformed) (restore-saved limit l timing) s) ≡ 0 → ⊥
-unfolding restore-saved
-restore-not-0 limit l timing none e = omega (arith, e)
-restore-not-0 limit l timing (some s) e = refused-not-0 (restore-tests limit l s) _ (restore-codes limit l s) e
+restore-not-0 : (fee : ℤ) (limit : ℕ) (l : List Account) (timing : Timing) (s : Option Saved) → fails (charging fee (option (not-started malformed) (restore-saved fee limit l timing) s)) ≡ 0 → ⊥
+unfolding restore-saved charging
+restore-not-0 fee limit l timing s = go (leZ (pos 0) fee) s
+  where
+    go : (b : Bool) (s : Option Saved) → fails (cond b (option (not-started malformed) (restore-saved fee limit l timing) s) (not-started bad-fee)) ≡ 0 → ⊥
+    go false s e = omega (arith, e)
+    go true none e = omega (arith, e)
+    go true (some s) e = refused-not-0 (restore-tests fee limit l s) _ (restore-codes fee limit l s) e
 
 -- what the contract says of a start that answers 0
 record Begins (s : Started) (ys : List ℕ) : Type 0 where
@@ -57,15 +63,15 @@ unfolding Starts
 begins (not-started k) xs ys n h = absurd (n (sym (h .code-is)))
 begins (started g) xs ys n h = record { is = ap started (sym (h .is-done .becomes .gateway-is)); between = h .between }
 
-module _ (limit : ℕ) (l : List Account) (ys : List ℕ) where
-  pub opened-between : Opened limit l ys → Between ys
+module _ (fee : ℤ) (limit : ℕ) (l : List Account) (ys : List ℕ) where
+  pub opened-between : Opened fee limit l ys → Between ys
   unfolding restore
-  opened-between (by-set-up last listing timing xs f a x h) = begins _ xs ys (set-up-not-0 limit last l listing timing) h .between
-  opened-between (by-restore timing bs xs a b h) = begins _ xs ys (restore-not-0 limit l timing (decode bs)) h .between
+  opened-between (by-set-up last listing timing xs f a x h) = begins _ xs ys (set-up-not-0 fee limit last l listing timing) h .between
+  opened-between (by-restore timing bs xs a b h) = begins _ xs ys (restore-not-0 fee limit l timing (decode bs)) h .between
 
-  pub opened-demand : Opened limit l ys → Demand3 limit l (gateway (cell ys))
+  pub opened-demand : Opened fee limit l ys → Demand3 fee limit l (gateway (cell ys))
   unfolding restore
   opened-demand (by-set-up last listing timing xs f a x h) =
-      after-set-up limit last l listing timing (gateway (cell ys)) f a x (begins _ xs ys (set-up-not-0 limit last l listing timing) h .is)
+      after-set-up fee limit last l listing timing (gateway (cell ys)) f a x (begins _ xs ys (set-up-not-0 fee limit last l listing timing) h .is)
   opened-demand (by-restore timing bs xs a b h) =
-      after-restore limit l timing bs (gateway (cell ys)) a b (begins _ xs ys (restore-not-0 limit l timing (decode bs)) h .is)
+      after-restore fee limit l timing bs (gateway (cell ys)) a b (begins _ xs ys (restore-not-0 fee limit l timing (decode bs)) h .is)

@@ -4,6 +4,7 @@ use mathlib.Core.Option.{Option, none, some, Option·map}
 use mathlib.Core.List.{List, [], _∷_, _++_, map, map-append}
 use Prim.Native.Nat.{ℕ, zero, suc, _<_}
 use native.Mathlib.Omega.{arith}
+use lib.IntN.{ℤ}
 use Rattle.orderbook.specs.declared.Side.{Side}
 use Rattle.protocol.specs.declared.Balance.{Balance}
 use Rattle.accounts.specs.declared.Funds.{Funds}
@@ -24,14 +25,14 @@ use Rattle.restart.specs.Chain.{Holding, holding, forget-ref, SameCells}
 
 -- ---- live orders
 
-abbrev with-hold : Order → Holding
-with-hold o = record { of = o; hold = order-hold o }
+abbrev with-hold : ℤ → Order → Holding
+with-hold fee o = record { of = o; hold = order-hold fee o }
 
 -- each live row stores what its order holds
 module _ (s : Store) where
-  rows-hold : (n : ℕ) → ((j : ℕ) → j < n → 0 < s C.orders j C.order-live → Stored (s C.orders j)) →
+  rows-hold : (n : ℕ) → ((j : ℕ) → j < n → 0 < s C.orders j C.order-live → Stored (ledger s .fee) (s C.orders j)) →
       map (λ (p : ℕ × Holding). p .1) (live (λ (p : ℕ × Holding). p .0) (λ i. (s C.orders i C.order-live, holding (s C.orders i))) n)
-      ≡ map with-hold (map (λ (p : ℕ × Order). p .1) (live (λ (p : ℕ × Order). p .0) (λ i. (s C.orders i C.order-live, order (s C.orders i))) n))
+      ≡ map (with-hold (ledger s .fee)) (map (λ (p : ℕ × Order). p .1) (live (λ (p : ℕ × Order). p .0) (λ i. (s C.orders i C.order-live, order (s C.orders i))) n))
   unfolding live
   rows-hold zero h = refl
   rows-hold (suc n) h =
@@ -39,23 +40,23 @@ module _ (s : Store) where
       (pick (s C.orders n C.order-live) (s C.orders n C.order-live, holding (s C.orders n)))
       ∙ ap₂ (λ (a b : List Holding). a ++ b) (rows-hold n (λ j l. h j (omega arith))) (row (s C.orders n C.order-live) (h n (omega arith)))
       ∙ sym
-      (ap (map with-hold)
+      (ap (map (with-hold (ledger s .fee)))
       (map-append (λ (p : ℕ × Order). p .1) (live (λ (p : ℕ × Order). p .0) (λ i. (s C.orders i C.order-live, order (s C.orders i))) n)
       (pick (s C.orders n C.order-live) (s C.orders n C.order-live, order (s C.orders n))))
-      ∙ map-append with-hold (map (λ (p : ℕ × Order). p .1) (live (λ (p : ℕ × Order). p .0) (λ i. (s C.orders i C.order-live, order (s C.orders i))) n))
+      ∙ map-append (with-hold (ledger s .fee)) (map (λ (p : ℕ × Order). p .1) (live (λ (p : ℕ × Order). p .0) (λ i. (s C.orders i C.order-live, order (s C.orders i))) n))
       (map (λ (p : ℕ × Order). p .1) (pick (s C.orders n C.order-live) (s C.orders n C.order-live, order (s C.orders n)))))
     where
-      row : (k : ℕ) → (0 < k → Stored (s C.orders n)) →
-          map (λ (p : ℕ × Holding). p .1) (pick k (k, holding (s C.orders n))) ≡ map with-hold (map (λ (p : ℕ × Order). p .1) (pick k (k, order (s C.orders n))))
+      row : (k : ℕ) → (0 < k → Stored (ledger s .fee) (s C.orders n)) →
+          map (λ (p : ℕ × Holding). p .1) (pick k (k, holding (s C.orders n))) ≡ map (with-hold (ledger s .fee)) (map (λ (p : ℕ × Order). p .1) (pick k (k, order (s C.orders n))))
       row zero t = refl
       row (suc k) t = ap (λ z. record { of = order (s C.orders n); hold = z } ∷ []) (t (omega arith) .hold-is)
 
-  pub orders-hold : Held s → marked s C.order-live holding ≡ map with-hold (ledger s .orders)
+  pub orders-hold : Held s → marked s C.order-live holding ≡ map (with-hold (ledger s .fee)) (ledger s .orders)
   orders-hold d = rows-hold (word s C.order-rows) (d .rows)
 
-forget-hold : (n : ℕ) (os : List Order) → map with-hold (map (forget n) os) ≡ map (forget-ref n) (map with-hold os)
-forget-hold n [] = refl
-forget-hold n (o ∷ os) = ap (λ l. with-hold (forget n o) ∷ l) (forget-hold n os)
+forget-hold : (fee : ℤ) (n : ℕ) (os : List Order) → map (with-hold fee) (map (forget n) os) ≡ map (forget-ref n) (map (with-hold fee) os)
+forget-hold fee n [] = refl
+forget-hold fee n (o ∷ os) = ap (λ l. with-hold fee (forget n o) ∷ l) (forget-hold fee n os)
 
 -- ---- wallets
 
@@ -63,13 +64,13 @@ forget-hold n (o ∷ os) = ap (λ l. with-hold (forget n o) ∷ l) (forget-hold 
 abbrev owned : Balance → Funds
 owned b = record { cash = b .cash; position = b .position }
 
-own-back : (a : ℕ) (os : List Order) (w : Option Funds) → Option·map owned (Option·map (balance-with a os) w) ≡ w
-own-back a os none = refl
-own-back a os (some f) = refl
+own-back : (fee : ℤ) (a : ℕ) (os : List Order) (w : Option Funds) → Option·map owned (Option·map (balance-with fee a os) w) ≡ w
+own-back fee a os none = refl
+own-back fee a os (some f) = refl
 
 same-wallet : (a : ℕ) (c d : Core) → balance a d ≡ balance a c → wallet-at a d ≡ wallet-at a c
 same-wallet a c d e =
-    sym (own-back a (d .ledger .orders) (wallet-at a d)) ∙ ap (Option·map owned) e ∙ own-back a (c .ledger .orders) (wallet-at a c)
+    sym (own-back (d .ledger .fee) a (d .ledger .orders) (wallet-at a d)) ∙ ap (Option·map owned) e ∙ own-back (c .ledger .fee) a (c .ledger .orders) (wallet-at a c)
 
 -- ---- the whole
 
@@ -78,10 +79,11 @@ cells-agree n s t p q e =
     record {
       last = e .last;
       mark = e .mark;
+      fee = e .fee;
       orders =
-          orders-hold t (q .held) ∙ ap (map with-hold) (e .orders) ∙ forget-hold n (ledger s .orders) ∙ sym (ap (map (forget-ref n)) (orders-hold s (p .held)));
+          orders-hold t (q .held) ∙ (λ i. map (with-hold (e .fee i)) (e .orders i)) ∙ forget-hold (ledger s .fee) n (ledger s .orders) ∙ sym (ap (map (forget-ref n)) (orders-hold s (p .held)));
       wallets = λ a l. sym (wallet-at-row a t l) ∙ same-wallet a (gateway s .core) (gateway t .core) (e .wallet a) ∙ wallet-at-row a s l;
       held = λ a l z.
-          q .held .totals a l z ∙ ap (λ os. wrap (held a z os)) (e .orders) ∙ ap wrap (held-forget n a z (ledger s .orders)) ∙ sym (p .held .totals a l z);
+          q .held .totals a l z ∙ (λ i. wrap (held (e .fee i) a z (e .orders i))) ∙ ap wrap (held-forget n (ledger s .fee) a z (ledger s .orders)) ∙ sym (p .held .totals a l z);
       open-counts = λ a l. q .held .counts a l ∙ e .open-count a ∙ sym (p .held .counts a l);
     }

@@ -13,6 +13,7 @@ use mathlib.Core.Path.{_≡_, refl, sym, ap, subst, _∙_}
 use mathlib.Core.Option.{some}
 use mathlib.Core.Logic.{inl, inr}
 use mathlib.Core.List.{List, [], _∷_, _++_, map}
+use lib.IntN.{ℤ}
 use lib.Dec.{eqb, leb}
 use lib.ListN.{length, take, drop}
 use lib.Seq.{take-append-seam}
@@ -80,7 +81,7 @@ final-append g [] ys = refl
 final-append g (x ∷ xs) ys = final-append (next-of g (call g x)) xs ys
 
 -- what a restart claims once the checkpoint's call and its bytes are known
-module _ (limit : ℕ) (l : List Account) (xs : List ℕ) (start : Opened limit l xs) (cs : List Call) (first : Chain xs cs) (ds : List Call)
+module _ (fee : ℤ) (limit : ℕ) (l : List Account) (xs : List ℕ) (start : Opened fee limit l xs) (cs : List Call) (first : Chain xs cs) (ds : List Call)
     (since : Chain (ends-at xs cs first) ds) (fits : CallsFit cs) (fits′ : CallsFit ds) where
   abbrev ms : List ℕ
   ms = ends-at xs cs first
@@ -94,18 +95,18 @@ module _ (limit : ℕ) (l : List Account) (xs : List ℕ) (start : Opened limit 
 
   module _ (room : ℕ) (bs : List ℕ) (taken : call (gateway (cell ms)) (checkpoint room) ≡ done (bytes bs) [] [] (gateway (cell ms))) (late : all-later (word (cell ms) C.last) items) where
     -- by the definitions
-    claimed : (timing : Timing) → Restarts limit present timing (word (cell ms) C.last) bs items (gateway (cell (ends-at ms ds since)))
+    claimed : (timing : Timing) → Restarts fee limit present timing (word (cell ms) C.last) bs items (gateway (cell (ends-at ms ds since)))
     claimed timing =
         let e : gateway (cell ms) ≡ final (gateway (cell xs)) cs = chain-final xs cs first in
         let t : call (final (gateway (cell xs)) cs) (checkpoint room) ≡ done (bytes bs) [] [] (gateway (cell ms)) = subst (λ g. call g (checkpoint room) ≡ done (bytes bs) [] [] (gateway (cell ms))) e taken in
-        let r = opened-demand limit l xs start .restarts timing cs ds room bs (gateway (cell ms)) fits fits′ t (subst (λ g. all-later (g .core .ledger .last) (record-of g ds)) e late) in
+        let r = opened-demand fee limit l xs start .restarts timing cs ds room bs (gateway (cell ms)) fits fits′ t (subst (λ g. all-later (g .core .ledger .last) (record-of g ds)) e late) in
         let f : final (gateway (cell xs)) (cs ++ (checkpoint room ∷ ds)) ≡ gateway (cell (ends-at ms ds since)) =
         final-append (gateway (cell xs)) cs (checkpoint room ∷ ds) ∙ ap (λ o. final (next-of (final (gateway (cell xs)) cs) o) ds) t ∙ sym (chain-final ms ds since) in
-        subst (λ g. Restarts limit present timing (g .core .ledger .last) bs (record-of g ds) (gateway (cell (ends-at ms ds since)))) (sym e)
-        (subst (Restarts limit present timing (final (gateway (cell xs)) cs .core .ledger .last) bs (record-of (final (gateway (cell xs)) cs) ds)) f r)
+        subst (λ g. Restarts fee limit present timing (g .core .ledger .last) bs (record-of g ds) (gateway (cell (ends-at ms ds since)))) (sym e)
+        (subst (Restarts fee limit present timing (final (gateway (cell xs)) cs .core .ledger .last) bs (record-of (final (gateway (cell xs)) cs) ds)) f r)
 
-    restarts : (timing : Timing) (k : ℕ) (ys zs : List ℕ) → Starts (restore limit present timing bs) k ys zs → (again : Chain zs (map as-call items)) →
-        Restarted (word (cell ms) C.last) bs items (ends-at ms ds since) k zs again
+    restarts : (timing : Timing) (k : ℕ) (ys zs : List ℕ) → Starts (restore fee limit present timing bs) k ys zs → (again : Chain zs (map as-call items)) →
+        Restarted fee (word (cell ms) C.last) bs items (ends-at ms ds since) k zs again
     unfolding Starts
     restarts timing k ys zs h again =
         let r = claimed timing in
@@ -117,22 +118,22 @@ module _ (limit : ℕ) (l : List Account) (xs : List ℕ) (start : Opened limit 
           replayed = f .accepted;
           same-cells =
               cells-agree (word (cell ms) C.last) (cell (ends-at ms ds since)) (cell (ends-at zs (map as-call items) again))
-              (chain-between ms ds since (chain-between xs cs first (opened-between limit l xs start)) .state .sound)
+              (chain-between ms ds since (chain-between xs cs first (opened-between fee limit l xs start)) .state .sound)
               (chain-between zs (map as-call items) again (b .between) .state .sound) same;
           same-books = same;
           counted = r .counted ∙ ap (λ (g : Gateway). some (g .core .ledger)) (sym (f .ends));
         }
 
 -- demand 3: the checkpoint was lent `out`, left `end` in it and answered r
-module _ (limit : ℕ) (l : List Account) (xs : List ℕ) (start : Opened limit l xs) (cs : List Call) (first : Chain xs cs) (ds : List Call)
+module _ (fee : ℤ) (limit : ℕ) (l : List Account) (xs : List ℕ) (start : Opened fee limit l xs) (cs : List Call) (first : Chain xs cs) (ds : List Call)
     (since : Chain (ends-at xs cs first) ds) (fits : CallsFit cs) (fits′ : CallsFit ds) where
   abbrev then : List ℕ
   then = ends-at xs cs first
 
   pub demand-3 : (out end : List ℕ) (r : Reply) → Writes (call (gateway (cell then)) (checkpoint (length out))) r then then out end → r .code ≡ 0 →
       all-later (word (cell then) C.last) (record-of (gateway (cell then)) ds) →
-      (timing : Timing) (k : ℕ) (ys zs : List ℕ) → Starts (restore limit (l ++ added (record-of (gateway (cell xs)) cs)) timing (written r end)) k ys zs →
+      (timing : Timing) (k : ℕ) (ys zs : List ℕ) → Starts (restore fee limit (l ++ added (record-of (gateway (cell xs)) cs)) timing (written r end)) k ys zs →
       (again : Chain zs (map as-call (record-of (gateway (cell then)) ds))) →
-      Restarted (word (cell then) C.last) (written r end) (record-of (gateway (cell then)) ds) (ends-at then ds since) k zs again
+      Restarted fee (word (cell then) C.last) (written r end) (record-of (gateway (cell then)) ds) (ends-at then ds since) k zs again
   demand-3 out end r w ok late timing k ys zs h again =
-      restarts limit l xs start cs first ds since fits fits′ (length out) (written r end) (checkpoint-taken then out end r w ok) late timing k ys zs h again
+      restarts fee limit l xs start cs first ds since fits fits′ (length out) (written r end) (checkpoint-taken then out end r w ok) late timing k ys zs h again

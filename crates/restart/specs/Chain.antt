@@ -49,11 +49,11 @@ abbrev pub Accepted : (xs : List ℕ) (cs : List Call) → Chain xs cs → Type 
 Accepted xs [] h = Unit {0}
 Accepted xs (x ∷ cs) (m, h) = (m .code ≡ 0) × Accepted (m .left) cs h
 
--- the bytes ys are what an accepted set-up or restore left, with this owner limit and these accounts
-pub data Opened (limit : ℕ) (l : List Account) (ys : List ℕ) : Type 0 where
+-- the bytes ys are what an accepted set-up or restore left, with this fee, this owner limit and these accounts
+pub data Opened (fee : ℤ) (limit : ℕ) (l : List Account) (ys : List ℕ) : Type 0 where
   by-set-up : (last : ℕ) (listing : List Listed) (timing : Timing) (xs : List ℕ) → Unsigned last → AccountsFit l → ListingFits listing →
-      Starts (set-up limit last l listing timing) 0 xs ys → Opened limit l ys
-  by-restore : (timing : Timing) (bs xs : List ℕ) → AccountsFit l → Bytes bs → Starts (restore limit l timing bs) 0 xs ys → Opened limit l ys
+      Starts (set-up fee limit last l listing timing) 0 xs ys → Opened fee limit l ys
+  by-restore : (timing : Timing) (bs xs : List ℕ) → AccountsFit l → Bytes bs → Starts (restore fee limit l timing bs) 0 xs ys → Opened fee limit l ys
 
 -- ---- what two states agree in
 
@@ -68,11 +68,12 @@ holding r = record { of = order r; hold = int (r C.order-hold) }
 abbrev pub forget-ref : ℕ → Holding → Holding
 forget-ref n h = record { of = forget n (h .of); hold = h .hold }
 
--- last number, reference price, live orders with their holds (client references of those numbered above n read 0), and for every account its wallet, cash
+-- last number, reference price, fee, live orders with their holds (client references of those numbered above n read 0), and for every account its wallet, cash
 -- held, seats held and open count
 pub record SameCells (n : ℕ) (s t : Store) : Type 0 where
   pub last : word t C.last ≡ word s C.last
   pub mark : ledger t .mark ≡ ledger s .mark
+  pub fee : ledger t .fee ≡ ledger s .fee
   pub orders : marked t C.order-live holding ≡ map (forget-ref n) (marked s C.order-live holding)
   pub wallets : (a : ℕ) → a < owner-slots → wallet (t C.accounts a) ≡ wallet (s C.accounts a)
   pub held : (a : ℕ) → a < owner-slots → (z : Side) → t C.accounts a (held-cell z) ≡ s C.accounts a (held-cell z)
@@ -80,12 +81,12 @@ pub record SameCells (n : ℕ) (s t : Store) : Type 0 where
 
 -- ---- the claim
 
--- of a checkpoint's bytes bs, taken at the number n, and the record `is` since; the first gateway's bytes are xs now. A second one was restored with the
+-- of the fee and a checkpoint's bytes bs, taken at the number n, and the record `is` since; the first gateway's bytes are xs now. A second one was restored with the
 -- code k and has the bytes zs, and replays the record by the calls of `again`. All were accepted; the two agree, in the cells and in what the definitions read
 -- from them (so that `wallet` and `last_seq` answer alike); and the second is the independent ledger's
-pub record Restarted (n : ℕ) (bs : List ℕ) (is : List Item) (xs : List ℕ) (k : ℕ) (zs : List ℕ) (again : Chain zs (map as-call is)) : Type 0 where
+pub record Restarted (fee : ℤ) (n : ℕ) (bs : List ℕ) (is : List Item) (xs : List ℕ) (k : ℕ) (zs : List ℕ) (again : Chain zs (map as-call is)) : Type 0 where
   pub restored : k ≡ 0
   pub replayed : Accepted zs (map as-call is) again
   pub same-cells : SameCells n (cell xs) (cell (ends-at zs (map as-call is) again))
   pub same-books : SameBooks n (gateway (cell xs) .core) (gateway (cell (ends-at zs (map as-call is) again)) .core)
-  pub counted : ledger-of bs is ≡ some (ledger (cell (ends-at zs (map as-call is) again)))
+  pub counted : ledger-of fee bs is ≡ some (ledger (cell (ends-at zs (map as-call is) again)))

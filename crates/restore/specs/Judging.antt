@@ -3,6 +3,8 @@ use Prim.Native.Nat.{ℕ}
 use mathlib.Core.Path.{_≡_}
 use mathlib.Core.Bool.{Bool, true, cond}
 use mathlib.Core.List.{List, [], _∷_, _++_}
+use lib.IntN.{ℤ, pos}
+use lib.Signed.{leZ}
 use lib.Dec.{ltb, leb}
 use Rattle.accounts.specs.declared.Account.{Account}
 use Rattle.accounts.specs.declared.Timing.{Timing}
@@ -10,7 +12,7 @@ use Rattle.gateway.specs.Basics.{each, is-some}
 use Rattle.gateway.specs.Bytes.{decode}
 use Rattle.gateway.specs.Core.{Tests}
 use Rattle.gateway.specs.Fits.{AccountsFit}
-use Rattle.gateway.specs.Limits.{owner-slots, out-of-range, foreign, full, outside, malformed}
+use Rattle.gateway.specs.Limits.{bad-fee, owner-slots, out-of-range, foreign, full, outside, malformed}
 use Rattle.gateway.specs.Ledger.{Order}
 use Rattle.gateway.specs.Calls.{Gateway}
 use Rattle.gateway.specs.Saved.{Saved}
@@ -37,21 +39,25 @@ entry-tests limit below s =
     ∷ (out-of-range, wallets-below limit (s .wallets))
     ∷ order-tests limit (s .last) (s .orders)
 
-abbrev pub roster-tests : ℕ → Roster → Saved → Tests ℕ
-roster-tests limit r s = entry-tests limit (r .below) s ++ ((outside, wallets-fit r 0 (s .orders)) ∷ [])
+abbrev pub roster-tests : ℤ → ℕ → Roster → Saved → Tests ℕ
+roster-tests fee limit r s = entry-tests limit (r .below) s ++ ((outside, wallets-fit fee r 0 (s .orders)) ∷ [])
 
 -- 11 where the bytes are no checkpoint
-unfoldable pub code-of : ℕ → Roster → List ℕ → ℕ
-code-of limit r xs = cond (is-some (decode xs)) (verdict (roster-tests limit r (saved-of xs))) malformed
+unfoldable pub code-of : ℤ → ℕ → Roster → List ℕ → ℕ
+code-of fee limit r xs = cond (is-some (decode xs)) (verdict (roster-tests fee limit r (saved-of xs))) malformed
+
+-- 15 where the fee is below 0, before all others
+unfoldable pub all-code : ℤ → ℕ → Roster → List ℕ → ℕ
+all-code fee limit r xs = cond (leZ (pos 0) fee) (code-of fee limit r xs) bad-fee
 
 -- the gateway of `restore-saved`
-unfoldable pub restored : ℕ → Timing → List Account → Saved → Gateway
-restored limit timing l s =
-    let led = restored-ledger (accounts-of limit l) s in
-    begin timing led (accounts-of limit l) empty-depth (each (hold-notice-of (led .wallets)) (led .orders))
+unfoldable pub restored : ℤ → ℕ → Timing → List Account → Saved → Gateway
+restored fee limit timing l s =
+    let led = restored-ledger fee (accounts-of limit l) s in
+    begin timing led (accounts-of limit l) empty-depth (each (hold-notice-of fee (led .wallets)) (led .orders))
 
 -- ys holds it, of the roster's accounts
-pub record Restored (limit : ℕ) (timing : Timing) (r : Roster) (s : Saved) (ys : List ℕ) : Type 0 where
-  pub becomes : Becomes ys (restored limit timing (present r owner-slots) s)
+pub record Restored (fee : ℤ) (limit : ℕ) (timing : Timing) (r : Roster) (s : Saved) (ys : List ℕ) : Type 0 where
+  pub becomes : Becomes ys (restored fee limit timing (present r owner-slots) s)
   pub fit : AccountsFit (present r owner-slots)
   pub below : all-below limit (present r owner-slots) ≡ true

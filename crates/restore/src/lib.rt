@@ -7,6 +7,7 @@ ghost use mathlib.Core.Path.{_≡_};
 ghost use mathlib.Core.Bool.{true};
 ghost use Prim.Native.Nat.{_≤_, _<_};
 ghost use lib.ListN.{length};
+ghost use Rattle.words.specs.Words.{int};
 ghost use Rattle.gateway.specs.Basics.{is-some};
 ghost use Rattle.gateway.specs.Bytes.{decode};
 ghost use Rattle.gateway.specs.Limits.{owner-slots};
@@ -97,8 +98,8 @@ fn judge_entries(limit: u64, below: bool, bytes: &[u8]) -> u64
 }
 
 // The code of the first test that fails, or 0.
-fn judge(limit: u64, accounts: Roster, bytes: &[u8]) -> u64
-    ensures { λ r. ⌜ r ≡ P.code-of limit accounts (now (bytes .entry)) ⌝ }
+fn judge(fee: u64, limit: u64, accounts: Roster, bytes: &[u8]) -> u64
+    ensures { λ r. ⌜ r ≡ P.code-of (int fee) limit accounts (now (bytes .entry)) ⌝ }
 {
     if !saved::is_whole(bytes) {
         return outcome::MALFORMED;
@@ -107,32 +108,49 @@ fn judge(limit: u64, accounts: Roster, bytes: &[u8]) -> u64
     if code != 0 {
         return code;
     }
-    let fits = totals::all_fit(Source::Saved, bytes, accounts);
+    let fits = totals::all_fit(fee, Source::Saved, bytes, accounts);
     if !fits {
         return outcome::OUTSIDE;
     }
     0
 }
 
+// The fee first.
+fn judge_all(fee: u64, limit: u64, accounts: Roster, bytes: &[u8]) -> u64
+    ensures { λ r. ⌜ r ≡ P.all-code (int fee) limit accounts (now (bytes .entry)) ⌝ }
+{
+    if words::not_negative(fee) {
+        return judge(fee, limit, accounts, bytes);
+    }
+    outcome::BAD_FEE
+}
+
 // ---- starting
 
-fn begin(m: &mut [u8], limit: u64, timing: Timing, accounts: Roster, bytes: &[u8])
+fn begin(m: &mut [u8], fee: u64, limit: u64, timing: Timing, accounts: Roster, bytes: &[u8])
     requires { ⌜ Holds (now m) × (limit ≤ owner-slots) × Numbered limit accounts × (is-some (decode (now bytes)) ≡ true) × Fits (saved-of (now bytes)) ⌝ }
-    ensures { λ x. ⌜ P.Restored limit timing accounts (saved-of (now (bytes .entry))) (now (m .exit)) ⌝ }
+    ensures { λ x. ⌜ P.Restored (int fee) limit timing accounts (saved-of (now (bytes .entry))) (now (m .exit)) ⌝ }
 {
     let last = saved::last(bytes);
-    opening::open(m, limit, last, timing, accounts);
+    opening::open(m, fee, limit, last, timing, accounts);
     refill::refill(m, bytes);
 }
 
 // m: any bytes of the state's length.
-pub fn restore(m: &mut [u8], limit: u64, timing: Timing, accounts: Roster, bytes: &[u8]) -> u64
+pub fn restore(
+    m: &mut [u8],
+    fee: u64,
+    limit: u64,
+    timing: Timing,
+    accounts: Roster,
+    bytes: &[u8],
+) -> u64
     requires { ⌜ Holds (now m) × Numbered limit accounts ⌝ }
-    ensures { λ k. ⌜ Begins limit accounts (λ l. restore limit l timing (now (bytes .entry))) k (now (m .entry)) (now (m .exit)) ⌝ }
+    ensures { λ k. ⌜ Begins limit accounts (λ l. restore (int fee) limit l timing (now (bytes .entry))) k (now (m .entry)) (now (m .exit)) ⌝ }
 {
-    let code = judge(limit, accounts, bytes);
+    let code = judge_all(fee, limit, accounts, bytes);
     if code == 0 {
-        begin(m, limit, timing, accounts, bytes);
+        begin(m, fee, limit, timing, accounts, bytes);
         return 0;
     }
     code

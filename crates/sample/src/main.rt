@@ -31,7 +31,13 @@ fn copy_four(row: &[u8], out: &mut [u8]) {
 
 // Each call answers its code, and leaves the other results in `out`.
 fn hold_of(row: &[u8], out: &mut [u8]) -> u32 {
-    comparison::entry_hold_of(small(row, 8), word(row, 16), word(row, 24), out)
+    comparison::entry_hold_of(
+        word(row, 32),
+        small(row, 8),
+        word(row, 16),
+        word(row, 24),
+        out,
+    )
 }
 
 fn covers(row: &[u8], out: &mut [u8]) -> u32
@@ -47,7 +53,13 @@ fn hold(row: &[u8], out: &mut [u8]) -> u32 {
 
 fn settle(row: &[u8], out: &mut [u8]) -> u32 {
     copy_four(row, out);
-    comparison::entry_settle(small(row, 8), word(row, 16), word(row, 24), out)
+    comparison::entry_settle(
+        word(row, 64),
+        small(row, 8),
+        word(row, 16),
+        word(row, 24),
+        out,
+    )
 }
 
 fn near(row: &[u8], out: &mut [u8]) -> u32 {

@@ -49,6 +49,7 @@ module _ {s t : Store} (e : Elsewhere s t) (d : Sound s) where
               resting-are = words C.resting-orders;
               cells = λ j k l m. e C.orders j k (λ q. omega arith) (λ q. omega arith);
               map-is = λ j l. e C.order-map j C.map-bits (λ q. omega arith) (λ q. omega arith);
+              fee-is = words C.fee;
             };
         sizes = sided (λ z. outline z t ≡ outline z s) (λ i. (words C.bid-rows i, words C.bid-levels i, maps-same s t Buy (λ j l. e C.bid-map j C.map-bits (λ q. omega arith) (λ q. omega arith)) i))
             (λ i. (words C.ask-rows i, words C.ask-levels i, maps-same s t Sell (λ j l. e C.ask-map j C.map-bits (λ q. omega arith) (λ q. omega arith)) i));

@@ -1,13 +1,14 @@
 -- What leaves a part of the state alone keeps the part of the invariant that speaks of it. Assumes nothing.
-use mathlib.Core.Path.{_≡_, refl, sym, ap, _∙_}
+use mathlib.Core.Path.{_≡_, refl, sym, ap, _∙_, subst}
 use mathlib.Core.List.{List}
 use mathlib.Core.Logic.{inl}
 use Prim.Native.Nat.{ℕ, _/_, _≤_, _<_}
 use native.Mathlib.Omega.{arith}
+use lib.IntN.{ℤ}
 use lib.ListN.{length, getD}
 use Rattle.orderbook.specs.declared.Side.{Side}
 use Rattle.orderbook.specs.declared.Side.the-variants.{Buy, Sell}
-use Rattle.words.specs.Words.{wrap}
+use Rattle.words.specs.Words.{int, wrap}
 use Rattle.table.specs.declared.Found.{Found}
 use Rattle.table.proofs.Live.{live-ext, ascends-ext}
 use Rattle.gateway.specs.Limits.{owner-slots, session-slots, most-levels}
@@ -52,10 +53,10 @@ pub total-same : (t s : Store) (a : ℕ) (z : Side) → caches t a ≡ caches s 
 total-same t s a Buy e = ap (λ c. c .0) e
 total-same t s a Sell e = ap (λ c. c .1) e
 
-pub stored-kept : (q r : Row) → Agree 16 q r → Stored q → Stored r
-stored-kept q r h d =
+pub stored-kept : (fee : ℤ) (q r : Row) → Agree 16 q r → Stored fee q → Stored fee r
+stored-kept fee q r h d =
     record {
-      hold-is = rw (← h C.order-hold (omega arith)) (d .hold-is ∙ ap order-hold (order-same q r h));
+      hold-is = rw (← h C.order-hold (omega arith)) (d .hold-is ∙ ap (order-hold fee) (order-same q r h));
       owner-is = rw (← h C.order-account (omega arith)) (d .owner-is);
     }
 
@@ -64,8 +65,9 @@ held-kept {s} {t} e c d =
     record {
       rows = λ j l m.
           let h : j < word s C.order-rows = rw (e .rows-are) at l in
-          stored-kept (s C.orders j) (t C.orders j) (λ k q. sym (e .cells j k h q)) (d .rows j h (rw (e .cells j C.order-live h (omega arith)) at m));
-      totals = λ a l z. total-same t s a z (c a l) ∙ d .totals a l z ∙ sym (ap (λ os. wrap (held a z os)) (live-kept e));
+          subst (λ f. Stored (int f) (t C.orders j)) (sym (e .fee-is))
+          (stored-kept (ledger s .fee) (s C.orders j) (t C.orders j) (λ k q. sym (e .cells j k h q)) (d .rows j h (rw (e .cells j C.order-live h (omega arith)) at m)));
+      totals = λ a l z. total-same t s a z (c a l) ∙ d .totals a l z ∙ sym (λ i. wrap (held (int (e .fee-is i)) a z (live-kept e i)));
       counts = λ a l. ap (λ x. x .2) (c a l) ∙ d .counts a l ∙ sym (ap (open-of a) (live-kept e));
     }
 

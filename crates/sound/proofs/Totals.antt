@@ -53,11 +53,11 @@ module _ (a : ℕ) where
       ∙ ⊖-add (p + (u + s) + v) (q + (v + t) + u) m n)
 
   -- a part of a list changes
-  pub held-parts : (z : Side) (l x y h : List Order) → held a z (l ++ (y ++ h)) ≡ held a z (l ++ (x ++ h)) -ℤ held a z x +ℤ held a z y
-  held-parts z l x y h =
-      held-append a z l (y ++ h) ∙ ap (λ n. held a z l +ℤ n) (held-append a z y h)
-      ∙ swapped (held a z l) (held a z x) (held a z y) (held a z h)
-      ∙ sym (ap (λ n. n -ℤ held a z x +ℤ held a z y) (held-append a z l (x ++ h) ∙ ap (λ n. held a z l +ℤ n) (held-append a z x h)))
+  pub held-parts : (fee : ℤ) (z : Side) (l x y h : List Order) → held fee a z (l ++ (y ++ h)) ≡ held fee a z (l ++ (x ++ h)) -ℤ held fee a z x +ℤ held fee a z y
+  held-parts fee z l x y h =
+      held-append fee a z l (y ++ h) ∙ ap (λ n. held fee a z l +ℤ n) (held-append fee a z y h)
+      ∙ swapped (held fee a z l) (held fee a z x) (held fee a z y) (held fee a z h)
+      ∙ sym (ap (λ n. n -ℤ held fee a z x +ℤ held fee a z y) (held-append fee a z l (x ++ h) ∙ ap (λ n. held fee a z l +ℤ n) (held-append fee a z x h)))
 
   pub open-parts : (l x y h : List Order) → open-of a (l ++ (y ++ h)) + open-of a x ≡ open-of a (l ++ (x ++ h)) + open-of a y
   open-parts l x y h =
@@ -68,18 +68,18 @@ module _ (a : ℕ) where
   open-few (o ∷ l) = split (λ b. cond b (suc (open-of a l)) (open-of a l) ≤ suc (length l)) (eqb (o .account) a) (λ e. let t = open-few l in omega arith) (λ e. let t = open-few l in omega arith)
 
   -- orders of another account, and of the other side
-  pub held-foreign : (z : Side) (l : List Order) → Each (λ o. o .account ≡ a → ⊥) l → held a z l ≡ pos 0
-  held-foreign z [] e = refl
-  held-foreign z (o ∷ l) e = rw (ne-eqb (o .account) a (e .0), held-foreign z l (e .1)) refl
+  pub held-foreign : (fee : ℤ) (z : Side) (l : List Order) → Each (λ o. o .account ≡ a → ⊥) l → held fee a z l ≡ pos 0
+  held-foreign fee z [] e = refl
+  held-foreign fee z (o ∷ l) e = rw (ne-eqb (o .account) a (e .0), held-foreign fee z l (e .1)) refl
 
   pub open-foreign : (l : List Order) → Each (λ o. o .account ≡ a → ⊥) l → open-of a l ≡ 0
   open-foreign [] e = refl
   open-foreign (o ∷ l) e = rw (ne-eqb (o .account) a (e .0)) (open-foreign l (e .1))
 
-  pub held-opposite : (z : Side) (l : List Order) → Each (λ o. same-side z (o .side) ≡ false) l → held a z l ≡ pos 0
-  held-opposite z [] e = refl
-  held-opposite z (o ∷ l) e =
-      rw (e .0, held-opposite z l (e .1)) (split (λ b. cond (b && false) (order-hold o) (pos 0) +ℤ pos 0 ≡ pos 0) (eqb (o .account) a) (λ e. refl) (λ e. refl))
+  pub held-opposite : (fee : ℤ) (z : Side) (l : List Order) → Each (λ o. same-side z (o .side) ≡ false) l → held fee a z l ≡ pos 0
+  held-opposite fee z [] e = refl
+  held-opposite fee z (o ∷ l) e =
+      rw (e .0, held-opposite fee z l (e .1)) (split (λ b. cond (b && false) (order-hold fee o) (pos 0) +ℤ pos 0 ≡ pos 0) (eqb (o .account) a) (λ e. refl) (λ e. refl))
 
 -- ---- a total that fits is exact: what code 7 judges
 
@@ -87,10 +87,10 @@ some-not-none : {A : Type 0} (o : Option A) → is-some o ≡ true → o ≡ non
 some-not-none none t e = let z : _≡_ {A = ℕ} 0 1 = cc in omega (arith, z)
 some-not-none (some a) t e = let z : _≡_ {A = ℕ} 0 1 = cc in omega (arith, z)
 
-pub total-exact : (s : Store) (a : ℕ) (z : Side) → Held s → a < owner-slots → fits (held a z (ledger s .orders)) ≡ true →
-    int (s C.accounts a (held-cell z)) ≡ held a z (ledger s .orders)
+pub total-exact : (s : Store) (a : ℕ) (z : Side) → Held s → a < owner-slots → fits (held (ledger s .fee) a z (ledger s .orders)) ≡ true →
+    int (s C.accounts a (held-cell z)) ≡ held (ledger s .fee) a z (ledger s .orders)
 unfolding fits
-total-exact s a z d l f = ap int (d .totals a l z) ∙ int-wrap (held a z (ledger s .orders)) (some-not-none (fit (held a z (ledger s .orders))) f)
+total-exact s a z d l f = ap int (d .totals a l z) ∙ int-wrap (held (ledger s .fee) a z (ledger s .orders)) (some-not-none (fit (held (ledger s .fee) a z (ledger s .orders))) f)
 
 -- ---- one order comes, changes or goes
 
@@ -102,6 +102,7 @@ pub record Swapped (s t : Store) (c : ℕ) (w : Side) (old new : List Order) : T
   pub to : ledger t .orders ≡ low ++ (new ++ high)
   pub old-mine : Each (λ o. (o .account ≡ c) × (o .side ≡ w)) old
   pub new-mine : Each (λ o. (o .account ≡ c) × (o .side ≡ w)) new
+  pub fee-is : word t C.fee ≡ word s C.fee
 
 -- the cells that follow them
 pub record Counts (s t : Store) (c : ℕ) (w : Side) (h k : ℤ) (m n : ℕ) : Type 0 where
@@ -114,41 +115,44 @@ no-change : (v : ℤ) {x y : ℤ} → x ≡ pos 0 → y ≡ pos 0 → v -ℤ x +
 no-change v p q = (λ i. v -ℤ p i +ℤ q i) ∙ +ℤ-idr (v +ℤ pos 0) ∙ +ℤ-idr v
 
 module _ {s t : Store} {c : ℕ} {w : Side} {x y : ℤ} {m k : ℕ} {old new : List Order} (p : Swapped s t c w old new) (n : Counts s t c w x y m k) (d : Held s)
-    (xe : x ≡ held c w old) (ye : y ≡ held c w new) (me : m ≡ open-of c old) (ke : k ≡ open-of c new) where
+    (xe : x ≡ held (ledger s .fee) c w old) (ye : y ≡ held (ledger s .fee) c w new) (me : m ≡ open-of c old) (ke : k ≡ open-of c new) where
   foreign : (a : ℕ) → (a ≡ c → ⊥) → (l : List Order) → Each (λ o. (o .account ≡ c) × (o .side ≡ w)) l → Each (λ o. o .account ≡ a → ⊥) l
   foreign a n l e = each-map (λ o q r. n (sym r ∙ q .0)) l e
 
   opposed : (z : Side) → same-side z w ≡ false → (l : List Order) → Each (λ o. (o .account ≡ c) × (o .side ≡ w)) l → Each (λ o. same-side z (o .side) ≡ false) l
   opposed z n l e = each-map (λ o q. ap (same-side z) (q .1) ∙ n) l e
 
-  held-is : (a : ℕ) (z : Side) → held a z (ledger t .orders) ≡ held a z (ledger s .orders) -ℤ held a z old +ℤ held a z new
-  held-is a z = rw (p .from, p .to) (held-parts a z (p .low) old new (p .high))
+  held-is : (a : ℕ) (z : Side) → held (ledger s .fee) a z (ledger t .orders) ≡ held (ledger s .fee) a z (ledger s .orders) -ℤ held (ledger s .fee) a z old +ℤ held (ledger s .fee) a z new
+  held-is a z = rw (p .from, p .to) (held-parts a (ledger s .fee) z (p .low) old new (p .high))
 
   open-is : (a : ℕ) → open-of a (ledger t .orders) + open-of a old ≡ open-of a (ledger s .orders) + open-of a new
   open-is a = rw (p .from, p .to) (open-parts a (p .low) old new (p .high))
 
-  stays : (a : ℕ) (z : Side) → held a z old ≡ pos 0 → held a z new ≡ pos 0 → wrap (held a z (ledger s .orders)) ≡ wrap (held a z (ledger t .orders))
-  stays a z x y = sym (ap wrap (held-is a z ∙ no-change (held a z (ledger s .orders)) x y))
+  stays : (a : ℕ) (z : Side) → held (ledger s .fee) a z old ≡ pos 0 → held (ledger s .fee) a z new ≡ pos 0 → wrap (held (ledger s .fee) a z (ledger s .orders)) ≡ wrap (held (ledger s .fee) a z (ledger t .orders))
+  stays a z x y = sym (ap wrap (held-is a z ∙ no-change (held (ledger s .fee) a z (ledger s .orders)) x y))
 
-  totals-swapped : (a : ℕ) → a < owner-slots → (z : Side) → t C.accounts a (held-cell z) ≡ wrap (held a z (ledger t .orders))
-  totals-swapped a l z =
+  totals-before : (a : ℕ) → a < owner-slots → (z : Side) → t C.accounts a (held-cell z) ≡ wrap (held (ledger s .fee) a z (ledger t .orders))
+  totals-before a l z =
       ⊎-elim
       (λ (e : a ≡ c).
-      split (λ b. (same-side z w ≡ b) → t C.accounts a (held-cell z) ≡ wrap (held a z (ledger t .orders))) (same-side z w)
+      split (λ b. (same-side z w ≡ b) → t C.accounts a (held-cell z) ≡ wrap (held (ledger s .fee) a z (ledger t .orders))) (same-side z w)
       (λ _ q.
       let i = side-is z w q in
       rw (e, i)
       (n .total ∙ (λ i. wrap (int (d .totals c (rw (← e) l) w i) -ℤ xe i +ℤ ye i))
-      ∙ wrap-shift (held c w (ledger s .orders)) (held c w old) (held c w new) ∙ sym (ap wrap (held-is c w))))
+      ∙ wrap-shift (held (ledger s .fee) c w (ledger s .orders)) (held (ledger s .fee) c w old) (held (ledger s .fee) c w new) ∙ sym (ap wrap (held-is c w))))
       (λ _ q.
       rw e
       (n .opposite z q ∙ d .totals c (rw (← e) l) z
-      ∙ stays c z (held-opposite c z old (opposed z q old (p .old-mine))) (held-opposite c z new (opposed z q new (p .new-mine)))))
+      ∙ stays c z (held-opposite c (ledger s .fee) z old (opposed z q old (p .old-mine))) (held-opposite c (ledger s .fee) z new (opposed z q new (p .new-mine)))))
       refl)
       (λ e.
       total-same t s a z (n .others a e) ∙ d .totals a l z
-      ∙ stays a z (held-foreign a z old (foreign a e old (p .old-mine))) (held-foreign a z new (foreign a e new (p .new-mine))))
+      ∙ stays a z (held-foreign a (ledger s .fee) z old (foreign a e old (p .old-mine))) (held-foreign a (ledger s .fee) z new (foreign a e new (p .new-mine))))
       (same? a c)
+
+  totals-swapped : (a : ℕ) → a < owner-slots → (z : Side) → t C.accounts a (held-cell z) ≡ wrap (held (ledger t .fee) a z (ledger t .orders))
+  totals-swapped a l z = totals-before a l z ∙ ap (λ f. wrap (held (int f) a z (ledger t .orders))) (sym (p .fee-is))
 
   counts-swapped : (a : ℕ) → a < owner-slots → t C.accounts a C.account-open-orders ≡ open-of a (ledger t .orders)
   counts-swapped a l =
@@ -159,5 +163,5 @@ module _ {s t : Store} {c : ℕ} {w : Side} {x y : ℤ} {m k : ℕ} {old new : L
       ∙ omega (arith, d .counts a l, open-is a, open-foreign a old (foreign a e old (p .old-mine)), open-foreign a new (foreign a e new (p .new-mine))))
       (same? a c)
 
-  pub held-swapped : ((j : ℕ) → j < word t C.order-rows → 0 < t C.orders j C.order-live → Stored (t C.orders j)) → Held t
+  pub held-swapped : ((j : ℕ) → j < word t C.order-rows → 0 < t C.orders j C.order-live → Stored (ledger t .fee) (t C.orders j)) → Held t
   held-swapped r = record { rows = r; totals = totals-swapped; counts = counts-swapped }

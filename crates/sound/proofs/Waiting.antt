@@ -35,6 +35,7 @@ pub record Untouched (s t : Store) : Type 0 where
   pub ask-rows-are : word t C.ask-rows ≡ word s C.ask-rows
   pub bid-levels-are : word t C.bid-levels ≡ word s C.bid-levels
   pub ask-levels-are : word t C.ask-levels ≡ word s C.ask-levels
+  pub fee-is : word t C.fee ≡ word s C.fee
 
 module _ {s t : Store} (e : Untouched s t) (g : Grown s t) (f : P.BatchFits t) where
   clients-there : Clients s → Clients t
@@ -50,7 +51,7 @@ module _ {s t : Store} (e : Untouched s t) (g : Grown s t) (f : P.BatchFits t) w
   sound-untouched =
       sound-beside
       (record {
-        keeps = record { rows-are = e .rows-are; live-are = e .live-are; resting-are = e .resting-are; cells = λ j k l m. e .orders j k; map-is = λ j l. e .order-map j C.map-bits };
+        keeps = record { rows-are = e .rows-are; live-are = e .live-are; resting-are = e .resting-are; cells = λ j k l m. e .orders j k; map-is = λ j l. e .order-map j C.map-bits; fee-is = e .fee-is };
         sizes = sided (λ z. outline z t ≡ outline z s) (λ i. (e .bid-rows-are i, e .bid-levels-are i, maps-same s t Buy (λ j l. e .bid-map j C.map-bits) i))
             (λ i. (e .ask-rows-are i, e .ask-levels-are i, maps-same s t Sell (λ j l. e .ask-map j C.map-bits) i));
         levels-are =
@@ -121,6 +122,7 @@ module _ (s : Store) (d : Sound s) where
         ask-rows-are = words C.ask-rows;
         bid-levels-are = words C.bid-levels;
         ask-levels-are = words C.ask-levels;
+        fee-is = words C.fee;
       })
       (record {
         bounds =

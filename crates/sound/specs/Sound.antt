@@ -2,6 +2,7 @@
 use Prim.Native.Nat.{ℕ, _≤_, _<_}
 use mathlib.Core.Path.{_≡_}
 use mathlib.Core.List.{List}
+use lib.IntN.{ℤ}
 use lib.ListN.{length}
 use Rattle.orderbook.specs.declared.Side.{Side}
 use Rattle.orderbook.specs.declared.Side.the-variants.{Buy, Sell}
@@ -23,8 +24,8 @@ use Rattle.levels.specs.Levels.{key, map-block, row, used, size, is-level, entr
 -- ---- what is counted from the live orders
 
 -- the row of a live order stores what the order holds, and its account has a row
-pub record Stored (r : Row) : Type 0 where
-  pub hold-is : int (r C.order-hold) ≡ order-hold (order r)
+pub record Stored (fee : ℤ) (r : Row) : Type 0 where
+  pub hold-is : int (r C.order-hold) ≡ order-hold fee (order r)
   pub owner-is : r C.order-account < owner-slots
 
 -- what an account's orders of a side hold: cash for buys, seats for sells
@@ -34,8 +35,8 @@ held-cell Sell = C.account-position-held
 
 -- a total is kept modulo 2^64: it is exact where it fits, which code 7 judges (`total-exact` in proofs/Totals.antt)
 pub record Held (s : Store) : Type 0 where
-  pub rows : (j : ℕ) → j < word s C.order-rows → 0 < s C.orders j C.order-live → Stored (s C.orders j)
-  pub totals : (a : ℕ) → a < owner-slots → (z : Side) → s C.accounts a (held-cell z) ≡ wrap (held a z (ledger s .orders))
+  pub rows : (j : ℕ) → j < word s C.order-rows → 0 < s C.orders j C.order-live → Stored (ledger s .fee) (s C.orders j)
+  pub totals : (a : ℕ) → a < owner-slots → (z : Side) → s C.accounts a (held-cell z) ≡ wrap (held (ledger s .fee) a z (ledger s .orders))
   pub counts : (a : ℕ) → a < owner-slots → s C.accounts a C.account-open-orders ≡ open-of a (ledger s .orders)
 
 -- ---- what is counted from the resting orders: each level's quantity and number of orders, and the number of levels; and which rows are levels

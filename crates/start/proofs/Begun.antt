@@ -7,6 +7,8 @@ use Prim.Native.Nat.{ℕ, zero, suc, _+_, _^_, _≤_, _<_}
 use native.Mathlib.Nat.{not-suc-le-zero}
 use native.Mathlib.Omega.{arith}
 use borrow.Author.Tests.{le-leb, le-ltb}
+use lib.IntN.{pos}
+use lib.Signed.{leZ}
 use lib.ListN.{length, set, replicate}
 use Rattle.accounts.specs.declared.Account.{Account}
 use Rattle.accounts.specs.declared.Funds.{Funds}
@@ -16,13 +18,13 @@ use Rattle.orderbook.specs.declared.Side.{Side}
 use Rattle.orderbook.specs.declared.Side.the-variants.{Buy, Sell}
 use Rattle.risk.specs.declared.Bucket.{Bucket}
 use Rattle.risk.specs.Throttle as Throttle
-use Rattle.words.specs.Words.{place-of, wrap}
+use Rattle.words.specs.Words.{int, place-of, wrap}
 use Rattle.gateway.specs.Limits.{owner-slots, session-slots}
 use Rattle.gateway.specs.Ledger.{step, held, holds-fit, wallets-fit, fits}
 use Rattle.gateway.specs.Depth.{levels-few, levels-fit}
 use Rattle.gateway.specs.Fits.{MaybeFundsFit}
 use Rattle.gateway.specs.Calls.{Gateway}
-use Rattle.gateway.specs.Start.{entered, accounts-of, all-below, by-slot, bucket-of, funds-in, set-up, start-unless, started}
+use Rattle.gateway.specs.Start.{entered, accounts-of, all-below, by-slot, bucket-of, funds-in, charging, set-up, start-unless, started}
 use Rattle.gateway.proofs.Begin.{accounts-length}
 use Rattle.store.specs.Cells as C
 use Rattle.store.specs.Layout.{cell}
@@ -61,15 +63,15 @@ by-slot-nobody f zero (suc m) = refl
 by-slot-nobody f (suc n) zero = ap (λ l. f none ∷ l) (by-slot-nobody f n zero)
 by-slot-nobody f (suc n) (suc m) = ap (λ l. f none ∷ l) (by-slot-nobody f n m)
 
-module _ (limit last : ℕ) (t : Timing) (few : limit ≤ owner-slots) where
+module _ (fee limit last : ℕ) (t : Timing) (few : limit ≤ owner-slots) where
   abbrev s : Store
-  s = begun-store limit last t
+  s = begun-store fee limit last t
 
   -- by its wallets, buckets and accounts
   abbrev shape : List (Option Funds) → List Bucket → List (Option Account) → Gateway
   shape ws bs cs =
       record {
-        core = record { ledger = record { last = last; wallets = ws; orders = []; mark = None }; flights = []; accounts = cs };
+        core = record { ledger = record { last = last; wallets = ws; orders = []; mark = None; fee = int fee }; flights = []; accounts = cs };
         rest =
             record {
               timing = t;
@@ -93,7 +95,7 @@ module _ (limit last : ℕ) (t : Timing) (few : limit ≤ owner-slots) where
   unfolding fill listed live
   cells-view = refl
 
-  pub begun-view : gateway s ≡ begun limit last t []
+  pub begun-view : gateway s ≡ begun (int fee) limit last t []
   begun-view = cells-view ∙ (λ z. shape (nobody funds-in z) (nobody bucket-of z) (listed-same {A = Option Account} none limit z))
 
   pub begun-sound : Sound s
@@ -121,7 +123,7 @@ module _ (limit last : ℕ) (t : Timing) (few : limit ≤ owner-slots) where
         clients = record { linked = linked-ext zeros s (λ i l. refl) (λ a l. refl) linked-zeros; limited = limited-ext zeros s (λ a l. refl) (λ a l. refl) limited-zeros; batch = λ j l. absurd (not-suc-le-zero l) };
       }
     where
-      no-total : (a : ℕ) (z : Side) → s C.accounts a (held-cell z) ≡ wrap (held a z [])
+      no-total : (a : ℕ) (z : Side) → s C.accounts a (held-cell z) ≡ wrap (held (int fee) a z [])
       no-total a Buy = refl
       no-total a Sell = refl
 
@@ -137,13 +139,13 @@ by-slot-set f (suc n) [] i x h l = absurd (not-suc-le-zero l)
 by-slot-set f (suc n) (y ∷ t) zero x h l = refl
 by-slot-set f (suc n) (y ∷ t) (suc i) x h l = ap (λ r. f y ∷ r) (by-slot-set f n t i x (omega arith) (omega arith))
 
-module _ (limit last : ℕ) (t : Timing) (few : limit ≤ owner-slots) (l : List Account) where
-  pub begun-more : (a : Account) → a .id < limit → entering a (begun limit last t l) ≡ begun limit last t (l ++ (a ∷ []))
+module _ (fee limit last : ℕ) (t : Timing) (few : limit ≤ owner-slots) (l : List Account) where
+  pub begun-more : (a : Account) → a .id < limit → entering a (begun (int fee) limit last t l) ≡ begun (int fee) limit last t (l ++ (a ∷ []))
   unfolding step
   begun-more a h =
       sym
       (λ z.
-      shape limit last t few
+      shape fee limit last t few
       ((ap (by-slot funds-in owner-slots) more ∙ slot funds-in) z)
       ((ap (by-slot bucket-of owner-slots) more ∙ slot bucket-of) z)
       (more z))
@@ -155,24 +157,24 @@ module _ (limit last : ℕ) (t : Timing) (few : limit ≤ owner-slots) (l : List
       slot f = by-slot-set f owner-slots (accounts-of limit l) (a .id) (some a) (omega arith) (rw (accounts-length limit l) h)
 
   -- nothing is held
-  nothing-held : (a : ℕ) (ws : List (Option Funds)) → wallets-fit a ws [] ≡ true
+  nothing-held : (a : ℕ) (ws : List (Option Funds)) → wallets-fit (int fee) a ws [] ≡ true
   unfolding fits place-of
   nothing-held a [] = refl
   nothing-held a (none ∷ ws) = nothing-held (suc a) ws
   nothing-held a (some w ∷ ws) = nothing-held (suc a) ws
 
   -- it is what set-up gives for these accounts and no orders
-  pub begun-started : all-below limit l ≡ true → set-up limit last l [] t ≡ started (begun limit last t l)
-  unfolding set-up start-unless levels-few levels-fit holds-fit
-  begun-started h = rw (le-leb limit owner-slots few, h, nothing-held 0 (by-slot funds-in owner-slots (accounts-of limit l))) refl
+  pub begun-started : leZ (pos 0) (int fee) ≡ true → all-below limit l ≡ true → set-up (int fee) limit last l [] t ≡ started (begun (int fee) limit last t l)
+  unfolding set-up charging start-unless levels-few levels-fit holds-fit
+  begun-started c h = rw (c, le-leb limit owner-slots few, h, nothing-held 0 (by-slot funds-in owner-slots (accounts-of limit l))) refl
 
 -- ---- in the bytes
 
-pub start-becomes : {a b c : List ℕ} (limit last : ℕ) (t : Timing) → limit ≤ owner-slots → Is a zeros → Is b (fill C.header 0 C.last (last ∷ last ∷ last ∷ []) (cell a)) →
-    Is c (fill C.header 0 C.owner-limit (limit ∷ t .heartbeat ∷ t .«idle_timeout» ∷ []) (cell b)) → Becomes c (begun limit last t [])
-start-becomes limit last t few p q r =
-    becomes (then-fill C.header 0 C.owner-limit (limit ∷ t .heartbeat ∷ t .«idle_timeout» ∷ []) (then-fill C.header 0 C.last (last ∷ last ∷ last ∷ []) p q) r)
-    (begun-sound limit last t few) (begun-view limit last t few)
+pub start-becomes : {a b c d : List ℕ} (fee limit last : ℕ) (t : Timing) → limit ≤ owner-slots → Is a zeros → Is b (fill C.header 0 C.last (last ∷ last ∷ last ∷ []) (cell a)) →
+    Is c (fill C.header 0 C.owner-limit (limit ∷ t .heartbeat ∷ t .«idle_timeout» ∷ []) (cell b)) → Is d (fill C.header 0 C.fee (fee ∷ []) (cell c)) → Becomes d (begun (int fee) limit last t [])
+start-becomes fee limit last t few p q r u =
+    becomes (then-fill C.header 0 C.fee (fee ∷ []) (then-fill C.header 0 C.owner-limit (limit ∷ t .heartbeat ∷ t .«idle_timeout» ∷ []) (then-fill C.header 0 C.last (last ∷ last ∷ last ∷ []) p q) r) u)
+    (begun-sound fee limit last t few) (begun-view fee limit last t few)
 
 pub enter-becomes : {xs ys : List ℕ} → State xs → (a : Account) → a .id < word (cell xs) C.owner-limit → a .«max_open_orders» < 2 ^ 32 → a .«messages_per_second» < 2 ^ 32 → MaybeFundsFit (a .funds) →
     Is ys (Clients.add-account a (cell xs)) → Becomes ys (entering a (gateway (cell xs)))
@@ -180,11 +182,11 @@ enter-becomes {xs} st a l m r f h =
     becomes h (add-account-sound (cell xs) (st .sound) a m r) (add-account-view a (cell xs) f l (st .sound .tables .ordered .bounds .accounts-fit))
 
 -- no row of orders
-pub start-rows : {a b c : List ℕ} (limit last : ℕ) (t : Timing) → Is a zeros → Is b (fill C.header 0 C.last (last ∷ last ∷ last ∷ []) (cell a)) →
-    Is c (fill C.header 0 C.owner-limit (limit ∷ t .heartbeat ∷ t .«idle_timeout» ∷ []) (cell b)) → word (cell c) C.order-rows ≡ 0
+pub start-rows : {a b c d : List ℕ} (fee limit last : ℕ) (t : Timing) → Is a zeros → Is b (fill C.header 0 C.last (last ∷ last ∷ last ∷ []) (cell a)) →
+    Is c (fill C.header 0 C.owner-limit (limit ∷ t .heartbeat ∷ t .«idle_timeout» ∷ []) (cell b)) → Is d (fill C.header 0 C.fee (fee ∷ []) (cell c)) → word (cell d) C.order-rows ≡ 0
 unfolding fill
-start-rows limit last t p q r =
-    then-fill C.header 0 C.owner-limit (limit ∷ t .heartbeat ∷ t .«idle_timeout» ∷ []) (then-fill C.header 0 C.last (last ∷ last ∷ last ∷ []) p q) r .same C.header 0 C.order-rows (header-cell C.order-rows (omega arith))
+start-rows fee limit last t p q r u =
+    then-fill C.header 0 C.fee (fee ∷ []) (then-fill C.header 0 C.owner-limit (limit ∷ t .heartbeat ∷ t .«idle_timeout» ∷ []) (then-fill C.header 0 C.last (last ∷ last ∷ last ∷ []) p q) r) u .same C.header 0 C.order-rows (header-cell C.order-rows (omega arith))
 
 -- an account's cells are none of the header's
 pub enter-rows : (xs : List ℕ) {ys : List ℕ} (a : Account) → Is ys (Clients.add-account a (cell xs)) → word (cell ys) C.order-rows ≡ word (cell xs) C.order-rows

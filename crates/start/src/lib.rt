@@ -1,10 +1,11 @@
-// The start without orders, and without a row of them: the last number, the owner limit and the timing; then the accounts, one by one.
+// The start without orders, and without a row of them: the fee, the last number, the owner limit and the timing; then the accounts, one by one.
 use accounts::Account;
 use accounts::Timing;
 use store::cells;
 ghost use mathlib.Core.Path.{_≡_};
 ghost use mathlib.Core.List.{[]};
 ghost use Prim.Native.Nat.{_≤_, _<_};
+ghost use Rattle.words.specs.Words.{int};
 ghost use Rattle.gateway.specs.Fits.{AccountFits};
 ghost use Rattle.gateway.specs.Limits.{owner-slots};
 ghost use Rattle.store.specs.Cells as C;
@@ -13,9 +14,9 @@ ghost use Rattle.store.specs.View.{word, gateway};
 ghost use Rattle.sound.specs.Sound.{State, Becomes};
 ghost use Rattle.start.specs.Start as P;
 
-pub fn start(m: &mut [u8], limit: u64, last: u64, timing: Timing)
+pub fn start(m: &mut [u8], fee: u64, limit: u64, last: u64, timing: Timing)
     requires { ⌜ Holds (now m) × (limit ≤ owner-slots) ⌝ }
-    ensures { λ r. ⌜ Becomes (now (m .exit)) (P.begun limit last timing []) × (word (cell (now (m .exit))) C.order-rows ≡ 0) ⌝ }
+    ensures { λ r. ⌜ Becomes (now (m .exit)) (P.begun (int fee) limit last timing []) × (word (cell (now (m .exit))) C.order-rows ≡ 0) ⌝ }
 {
     store::clear(m);
     store::fill(m, store::HEADER, 0, cells::LAST, &[last, last, last]);
@@ -26,6 +27,7 @@ pub fn start(m: &mut [u8], limit: u64, last: u64, timing: Timing)
         cells::OWNER_LIMIT,
         &[limit, timing.heartbeat, timing.idle_timeout],
     );
+    store::fill(m, store::HEADER, 0, cells::FEE, &[fee]);
 }
 
 // An account is added; one that was there before is replaced. That its funds fit comes of their type.

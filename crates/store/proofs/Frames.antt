@@ -5,6 +5,7 @@ use Prim.Native.Nat.{ℕ, _+_, _-_, _%_, _≤_, _<_}
 use native.Mathlib.Omega.{arith}
 use Rattle.table.specs.Live.{live}
 use Rattle.table.proofs.Live.{live-ext}
+use Rattle.words.specs.Words.{int}
 use Rattle.gateway.specs.Limits.{owner-slots, session-slots, most-in-flight}
 use Rattle.store.specs.Layout.{blocks, rows, width}
 use Rattle.store.specs.Cells as C
@@ -95,6 +96,7 @@ module _ (s t : Store) (b : Bounds s) (e : Same s t) where
                     wallets = rows-same C.accounts 16 owner-slots (λ i r. wallet r) (λ i. wallet-same) (omega arith) (omega arith) (omega arith) z;
                     orders = marked-same C.order-live order (omega arith) order-same z;
                     mark = ap₂ (λ x y. maybe-price x y) (w C.marked (omega arith)) (w C.mark (omega arith)) z;
+                    fee = ap int (w C.fee (omega arith)) z;
                   };
               flights = flights-same z;
               accounts = counted-same C.accounts 16 C.owner-limit account account-same (omega arith) (b .accounts-fit) (omega arith) (omega arith) z;

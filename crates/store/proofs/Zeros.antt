@@ -6,9 +6,11 @@ use Prim.Native.Nat.{ℕ, _+_, _*_, _<_}
 use native.Mathlib.Nat.{not-suc-le-zero, eq-or-lt-of-le, le-of-suc-le-suc}
 use native.Mathlib.Numerals.{add-one}
 use native.Mathlib.Omega.{arith}
+use lib.IntN.{pos}
+use Rattle.words.specs.Words.{int}
 use Rattle.le.specs.Le.{le, put}
 use Rattle.le.proofs.Laws.{length-put, le-put, le-put-other}
-use Rattle.gateway.specs.Start.{started, set-up, start-unless}
+use Rattle.gateway.specs.Start.{started, charging, set-up, start-unless}
 use Rattle.gateway.specs.Depth.{levels-few, levels-fit}
 use Rattle.gateway.specs.Ledger.{holds-fit}
 use Rattle.table.specs.Live.{live}
@@ -40,6 +42,6 @@ unfolding cell
 cleared-all c = record { holds = c .holds; same = λ b i k p. c .none-left (spot b i k) (spot-below p) }
 
 -- the gateway of all zeros is what set-up gives for no accounts, no orders and last number 0
-pub zeros-begin : set-up 0 0 [] [] (record { heartbeat = 0; «idle_timeout» = 0 }) ≡ started (gateway zeros)
-unfolding set-up start-unless levels-few levels-fit holds-fit listed live
+pub zeros-begin : set-up (pos 0) 0 0 [] [] (record { heartbeat = 0; «idle_timeout» = 0 }) ≡ started (gateway zeros)
+unfolding set-up charging start-unless levels-few levels-fit holds-fit listed live int
 zeros-begin = refl

@@ -71,6 +71,9 @@ bid-levels = 20
 abbrev pub ask-levels : ℕ
 ask-levels = 21
 
+abbrev pub fee : ℕ
+fee = 22
+
 -- ---- by account number
 abbrev pub accounts : ℕ
 accounts = 1

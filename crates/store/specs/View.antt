@@ -193,6 +193,7 @@ module _ (s : Store) where
         wallets = listed (λ i. wallet (s C.accounts i)) owner-slots;
         orders = marked C.order-live order;
         mark = maybe-price (word C.marked) (word C.mark);
+        fee = int (word C.fee);
       }
 
   -- the run of commands in flight ends at the last number; each has the slot of its number modulo 256

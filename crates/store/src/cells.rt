@@ -45,6 +45,8 @@ pub const BID_LEVELS: usize = 20;
 
 pub const ASK_LEVELS: usize = 21;
 
+pub const FEE: usize = 22;
+
 // by account number
 pub const ACCOUNT_EXISTS: usize = 0;
 

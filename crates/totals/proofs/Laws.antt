@@ -122,24 +122,24 @@ module _ (o : Live) (a z : ℕ) where
   other-account e = rw (ne-eqb (o .account) a e) refl
 
   module _ (b : Bool) (is : b ≡ is-of a (side z) (order-of 0 o)) where
-    pub held-own : (r : ℕ) → b ≡ true → r ≡ hold-word (o .side) (o .priced) (o .price) (o .leaves) → int r ≡ held-by a (side z) (order-of 0 o)
-    held-own r t e = rw (sym is ∙ t) (ap int e ∙ hold-is (o .side) (o .priced) (o .price) (o .leaves))
+    pub held-own : (fee r : ℕ) → b ≡ true → r ≡ hold-word fee (o .side) (o .priced) (o .price) (o .leaves) → int r ≡ held-by (int fee) a (side z) (order-of 0 o)
+    held-own fee r t e = rw (sym is ∙ t) (ap int e ∙ hold-is fee (o .side) (o .priced) (o .price) (o .leaves))
 
-    pub held-none : b ≡ false → int 0 ≡ held-by a (side z) (order-of 0 o)
-    held-none t = rw (sym is ∙ t) int-zero
+    pub held-none : (fee : ℕ) → b ≡ false → int 0 ≡ held-by (int fee) a (side z) (order-of 0 o)
+    held-none fee t = rw (sym is ∙ t) int-zero
 
 -- ---- one total
 
-module _ (a z : ℕ) (os : List Order) (n : ℕ) (size : n ≡ length os) (few : n ≤ most-orders) where
+module _ (fee a z : ℕ) (os : List Order) (n : ℕ) (size : n ≡ length os) (few : n ≤ most-orders) where
   -- the orders from j on are summed
   pub record Summed (j : ℕ) (s : Sum) : Type 0 where
-    pub sums : Sums (n - j) (held a (side z) (drop j os)) s
+    pub sums : Sums (n - j) (held (int fee) a (side z) (drop j os)) s
     pub inside : j ≤ n
 
   pub none-summed : (s : Sum) → Sums 0 (pos 0) s → Summed n s
   none-summed s h =
       record {
-        sums = subst (λ k. Sums k (held a (side z) (drop n os)) s) (let e : 0 ≡ n - n = omega arith in e) (rw (ap (λ k. drop k os) size ∙ drop-length os) h);
+        sums = subst (λ k. Sums k (held (int fee) a (side z) (drop n os)) s) (let e : 0 ≡ n - n = omega arith in e) (rw (ap (λ k. drop k os) size ∙ drop-length os) h);
         inside = omega arith;
       }
 
@@ -150,83 +150,83 @@ module _ (a z : ℕ) (os : List Order) (n : ℕ) (size : n ≡ length os) (few :
     pub order-inside : 0 < j → j - 1 < length os
     order-inside l = omega (arith, size, h .inside)
 
-    pub more-summed : (o : Live) (w : ℕ) (r : Sum) → 0 < j → Reads (getD os (j - 1) no-order) o → int w ≡ held-by a (side z) (order-of 0 o) → Adds s (int w) r → Summed (j - 1) r
+    pub more-summed : (o : Live) (w : ℕ) (r : Sum) → 0 < j → Reads (getD os (j - 1) no-order) o → int w ≡ held-by (int fee) a (side z) (order-of 0 o) → Adds s (int w) r → Summed (j - 1) r
     more-summed o w r l q e d =
         let one : (j - 1) + 1 ≡ j = omega (arith, l) in
         let t : drop (j - 1) os ≡ getD os (j - 1) no-order ∷ drop j os = drop-cons os (j - 1) no-order (order-inside l) ∙ ap (λ k. getD os (j - 1) no-order ∷ drop k os) (sym (add-one (j - 1)) ∙ one) in
-        let v : int w ≡ held-by a (side z) (getD os (j - 1) no-order) = e ∙ ap (held-by a (side z)) (q .order-is) in
+        let v : int w ≡ held-by (int fee) a (side z) (getD os (j - 1) no-order) = e ∙ ap (held-by (int fee) a (side z)) (q .order-is) in
         record {
           sums =
-              subst (λ k. Sums k (held a (side z) (drop (j - 1) os)) r) (let f : (n - j) + 1 ≡ n - (j - 1) = omega (arith, l, h .inside) in f)
-              (subst (λ y. Sums ((n - j) + 1) y r) (ap (λ y. y +ℤ held a (side z) (drop j os)) v ∙ sym (ap (held a (side z)) t))
-              (more-sums (n - j) (held a (side z) (drop j os)) (int w) s r (h .sums) d));
+              subst (λ k. Sums k (held (int fee) a (side z) (drop (j - 1) os)) r) (let f : (n - j) + 1 ≡ n - (j - 1) = omega (arith, l, h .inside) in f)
+              (subst (λ y. Sums ((n - j) + 1) y r) (ap (λ y. y +ℤ held (int fee) a (side z) (drop j os)) v ∙ sym (ap (held (int fee) a (side z)) t))
+              (more-sums (n - j) (held (int fee) a (side z) (drop j os)) (int w) s r (h .sums) d));
           inside = omega (arith, h .inside);
         }
 
-    all-in : j ≤ 0 → Sums n (held a (side z) os) s
+    all-in : j ≤ 0 → Sums n (held (int fee) a (side z) os) s
     all-in l =
         let e : j ≡ 0 = omega (arith, l) in
-        subst (λ k. Sums k (held a (side z) os) s) (let f : n - 0 ≡ n = omega arith in f) (subst (λ i. Sums (n - i) (held a (side z) (drop i os)) s) e (h .sums))
+        subst (λ k. Sums k (held (int fee) a (side z) os) s) (let f : n - 0 ≡ n = omega arith in f) (subst (λ i. Sums (n - i) (held (int fee) a (side z) (drop i os)) s) e (h .sums))
 
     pub sum-small : j ≤ 0 → Small n s
     sum-small l = let t = all-in l in record { few = omega (arith, few); high-small = omega (arith, t .high-few, few); low-small = omega (arith, t .low-few, few) }
 
-    pub total-is : (b : Bool) → j ≤ 0 → Judges n s b → b ≡ fits (held a (side z) os)
-    total-is b l d = d .is (held a (side z) os) (all-in l)
+    pub total-is : (b : Bool) → j ≤ 0 → Judges n s b → b ≡ fits (held (int fee) a (side z) os)
+    total-is b l d = d .is (held (int fee) a (side z) os) (all-in l)
 
 -- ---- the wallets
 
-pub sells-decide : (a : ℕ) (os : List Order) (c d : Bool) → c ≡ fits (held a (side 0) os) → c ≡ true → d ≡ fits (held a (side 1) os) → d ≡ both-fit a os
-sells-decide a os c d e t f = rw (sym e ∙ t) f
+pub sells-decide : (fee : ℤ) (a : ℕ) (os : List Order) (c d : Bool) → c ≡ fits (held fee a (side 0) os) → c ≡ true → d ≡ fits (held fee a (side 1) os) → d ≡ both-fit fee a os
+sells-decide fee a os c d e t f = rw (sym e ∙ t) f
 
-pub buys-fail : (a : ℕ) (os : List Order) (c : Bool) → c ≡ fits (held a (side 0) os) → c ≡ false → false ≡ both-fit a os
-buys-fail a os c e t = rw (sym e ∙ t) refl
+pub buys-fail : (fee : ℤ) (a : ℕ) (os : List Order) (c : Bool) → c ≡ fits (held fee a (side 0) os) → c ≡ false → false ≡ both-fit fee a os
+buys-fail fee a os c e t = rw (sym e ∙ t) refl
 
-module _ (a : ℕ) (s : Slot) (os : List Order) (b : Bool) (is : b ≡ is-some (funds-in (account-in s))) where
-  pub unfunded-fits : b ≡ false → true ≡ wallet-fits a (funds-in (account-in s)) os
+module _ (fee : ℤ) (a : ℕ) (s : Slot) (os : List Order) (b : Bool) (is : b ≡ is-some (funds-in (account-in s))) where
+  pub unfunded-fits : b ≡ false → true ≡ wallet-fits fee a (funds-in (account-in s)) os
   unfunded-fits t = go (funds-in (account-in s)) (sym is ∙ t)
     where
-      go : (w : Option Funds) → is-some w ≡ false → true ≡ wallet-fits a w os
+      go : (w : Option Funds) → is-some w ≡ false → true ≡ wallet-fits fee a w os
       go none e = refl
       go (some f) e = absurd (false≢true (sym e))
 
-  pub funded-fits : (c : Bool) → b ≡ true → c ≡ both-fit a os → c ≡ wallet-fits a (funds-in (account-in s)) os
+  pub funded-fits : (c : Bool) → b ≡ true → c ≡ both-fit fee a os → c ≡ wallet-fits fee a (funds-in (account-in s)) os
   funded-fits c t h = h ∙ go (funds-in (account-in s)) (sym is ∙ t)
     where
-      go : (w : Option Funds) → is-some w ≡ true → both-fit a os ≡ wallet-fits a w os
+      go : (w : Option Funds) → is-some w ≡ true → both-fit fee a os ≡ wallet-fits fee a w os
       go none e = absurd (false≢true e)
       go (some f) e = refl
 
-module _ (r : Roster) (os : List Order) where
-  pub none-left : wallets-fit r owner-slots os ≡ true
-  none-left = ap (λ l. Ledger.wallets-fit owner-slots l os) (ap (λ n. drop n (funds r)) (sym size) ∙ drop-length (funds r))
+module _ (fee : ℤ) (r : Roster) (os : List Order) where
+  pub none-left : wallets-fit fee r owner-slots os ≡ true
+  none-left = ap (λ l. Ledger.wallets-fit fee owner-slots l os) (ap (λ n. drop n (funds r)) (sym size) ∙ drop-length (funds r))
     where
       size : length (funds r) ≡ owner-slots
       size = listed-length (λ a. funds-in (account-of r a)) owner-slots
 
   -- one wallet more
-  slot-more : (i : ℕ) → i < owner-slots → wallets-fit r i os ≡ (wallet-fits i (funds-in (account-of r i)) os && wallets-fit r (i + 1) os)
+  slot-more : (i : ℕ) → i < owner-slots → wallets-fit fee r i os ≡ (wallet-fits fee i (funds-in (account-of r i)) os && wallets-fit fee r (i + 1) os)
   slot-more i h =
-      ap (λ l. Ledger.wallets-fit i l os) (drop-cons (funds r) i none (rw (listed-length (λ a. funds-in (account-of r a)) owner-slots) h))
-      ∙ ap (λ w. wallet-fits i w os && Ledger.wallets-fit (suc i) (drop (suc i) (funds r)) os) (listed-at (λ a. funds-in (account-of r a)) owner-slots i none h)
-      ∙ ap (λ n. wallet-fits i (funds-in (account-of r i)) os && wallets-fit r n os) (sym (add-one i))
+      ap (λ l. Ledger.wallets-fit fee i l os) (drop-cons (funds r) i none (rw (listed-length (λ a. funds-in (account-of r a)) owner-slots) h))
+      ∙ ap (λ w. wallet-fits fee i w os && Ledger.wallets-fit fee (suc i) (drop (suc i) (funds r)) os) (listed-at (λ a. funds-in (account-of r a)) owner-slots i none h)
+      ∙ ap (λ n. wallet-fits fee i (funds-in (account-of r i)) os && wallets-fit fee r n os) (sym (add-one i))
 
-  module _ (i : ℕ) (l : 0 < i) (m : i ≤ owner-slots) (h : wallets-fit r i os ≡ true) (b : Bool) (is : b ≡ wallet-fits (i - 1) (funds-in (account-of r (i - 1))) os) where
-    step : wallets-fit r (i - 1) os ≡ b
+  module _ (i : ℕ) (l : 0 < i) (m : i ≤ owner-slots) (h : wallets-fit fee r i os ≡ true) (b : Bool) (is : b ≡ wallet-fits fee (i - 1) (funds-in (account-of r (i - 1))) os) where
+    step : wallets-fit fee r (i - 1) os ≡ b
     step =
         let one : (i - 1) + 1 ≡ i = omega (arith, l) in
-        slot-more (i - 1) (omega (arith, l, m)) ∙ ap (λ n. wallet-fits (i - 1) (funds-in (account-of r (i - 1))) os && wallets-fit r n os) one
+        slot-more (i - 1) (omega (arith, l, m)) ∙ ap (λ n. wallet-fits fee (i - 1) (funds-in (account-of r (i - 1))) os && wallets-fit fee r n os) one
         ∙ rw (h, ← is) (and-true b)
 
-    pub slot-fine : b ≡ true → wallets-fit r (i - 1) os ≡ true
+    pub slot-fine : b ≡ true → wallets-fit fee r (i - 1) os ≡ true
     slot-fine t = step ∙ t
 
     -- one that does not fit decides
-    pub slot-fails : b ≡ false → false ≡ wallets-fit r 0 os
+    pub slot-fails : b ≡ false → false ≡ wallets-fit fee r 0 os
     slot-fails t = go (i - 1) (omega (arith, m)) (step ∙ t)
       where
-        go : (n : ℕ) → n ≤ owner-slots → wallets-fit r n os ≡ false → false ≡ wallets-fit r 0 os
+        go : (n : ℕ) → n ≤ owner-slots → wallets-fit fee r n os ≡ false → false ≡ wallets-fit fee r 0 os
         go zero k e = sym e
-        go (suc n) k e = go n (omega arith) (slot-more n k ∙ ap (λ p. wallet-fits n (funds-in (account-of r n)) os && wallets-fit r p os) (add-one n) ∙ ap (λ c. wallet-fits n (funds-in (account-of r n)) os && c) e ∙ and-false (wallet-fits n (funds-in (account-of r n)) os))
+        go (suc n) k e = go n (omega arith) (slot-more n k ∙ ap (λ p. wallet-fits fee n (funds-in (account-of r n)) os && wallets-fit fee r p os) (add-one n) ∙ ap (λ c. wallet-fits fee n (funds-in (account-of r n)) os && c) e ∙ and-false (wallet-fits fee n (funds-in (account-of r n)) os))
 
 pub ruleset laws = (priced-order, priced-stop, listed-reads, in-listing, in-saved, reads-listing, reads-saved, whole, listing-count, listing-few, saved-count, same-account, other-account, held-own, held-none, sells-decide, buys-fail, unfunded-fits, funded-fits, arith)

@@ -4,6 +4,7 @@ use mathlib.Core.Path.{_≡_}
 use mathlib.Core.Bool.{Bool, true, cond, _&&_}
 use mathlib.Core.Option.{Option}
 use mathlib.Core.List.{List, map}
+use lib.IntN.{ℤ}
 use lib.Dec.{eqb}
 use lib.ListN.{drop}
 use Rattle.orderbook.specs.declared.Side.{Side}
@@ -41,13 +42,13 @@ priced kind limited = cond (eqb kind 0) 1 limited
 abbrev pub is-of : ℕ → Side → Order → Bool
 is-of a z o = eqb (o .account) a && same-side z (o .side)
 
-abbrev pub both-fit : ℕ → List Order → Bool
-both-fit a os = fits (held a Buy os) && fits (held a Sell os)
+abbrev pub both-fit : ℤ → ℕ → List Order → Bool
+both-fit fee a os = fits (held fee a Buy os) && fits (held fee a Sell os)
 
 -- the wallets that a roster's accounts bring, by number
 abbrev pub funds : Roster → List (Option Funds)
 funds r = listed (λ a. funds-in (account-of r a)) owner-slots
 
 -- code 7 for those numbered from a on
-abbrev pub wallets-fit : Roster → ℕ → List Order → Bool
-wallets-fit r a os = Ledger.wallets-fit a (drop a (funds r)) os
+abbrev pub wallets-fit : ℤ → Roster → ℕ → List Order → Bool
+wallets-fit fee r a os = Ledger.wallets-fit fee a (drop a (funds r)) os

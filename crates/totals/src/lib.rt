@@ -82,11 +82,11 @@ fn is_of(o: Live, account: u64, side: u64) -> bool
 }
 
 // What the order holds of the account's wallet on a side.
-fn held_by(o: Live, account: u64, side: u64) -> u64
-    ensures { λ r. ⌜ int r ≡ Ledger.held-by account (View.side side) (order-of 0 o) ⌝ }
+fn held_by(fee: u64, o: Live, account: u64, side: u64) -> u64
+    ensures { λ r. ⌜ int r ≡ Ledger.held-by (int fee) account (View.side side) (order-of 0 o) ⌝ }
 {
     if is_of(o, account, side) {
-        return live::hold_of(o.side, o.priced, o.price, o.leaves);
+        return live::hold_of(fee, o.side, o.priced, o.price, o.leaves);
     }
     0
 }
@@ -97,9 +97,9 @@ const BUY: u64 = 0;
 
 const SELL: u64 = 1;
 
-fn total_fits(from: Source, list: &[u8], account: u64, side: u64) -> bool
+fn total_fits(fee: u64, from: Source, list: &[u8], account: u64, side: u64) -> bool
     requires { ⌜ P.Readable from (now list) ⌝ }
-    ensures { λ r. ⌜ r ≡ Ledger.fits (Ledger.held account (View.side side) (P.orders-in from (now (list .entry)))) ⌝ }
+    ensures { λ r. ⌜ r ≡ Ledger.fits (Ledger.held (int fee) account (View.side side) (P.orders-in from (now (list .entry)))) ⌝ }
 {
     let n = count(from, list);
     let mut s = sums::nothing();
@@ -107,7 +107,7 @@ fn total_fits(from: Source, list: &[u8], account: u64, side: u64) -> bool
     while 0 < j {
         j -= 1;
         let o = order_at(from, list, j);
-        s = sums::add(s, held_by(o, account, side));
+        s = sums::add(s, held_by(fee, o, account, side));
     }
     sums::is_fit(s, n as u64)
 }
@@ -115,37 +115,37 @@ fn total_fits(from: Source, list: &[u8], account: u64, side: u64) -> bool
 // ---- every wallet
 
 // What an account's orders hold, on both sides.
-fn both_fit(from: Source, list: &[u8], account: u64) -> bool
+fn both_fit(fee: u64, from: Source, list: &[u8], account: u64) -> bool
     requires { ⌜ P.Readable from (now list) ⌝ }
-    ensures { λ r. ⌜ r ≡ P.both-fit account (P.orders-in from (now (list .entry))) ⌝ }
+    ensures { λ r. ⌜ r ≡ P.both-fit (int fee) account (P.orders-in from (now (list .entry))) ⌝ }
 {
-    if total_fits(from, list, account, BUY) {
-        return total_fits(from, list, account, SELL);
+    if total_fits(fee, from, list, account, BUY) {
+        return total_fits(fee, from, list, account, SELL);
     }
     false
 }
 
 // The wallet of a slot's account, where it has one.
-fn slot_fits(from: Source, list: &[u8], s: Slot, account: u64) -> bool
+fn slot_fits(fee: u64, from: Source, list: &[u8], s: Slot, account: u64) -> bool
     requires { ⌜ P.Readable from (now list) ⌝ }
-    ensures { λ r. ⌜ r ≡ Ledger.wallet-fits account (funds-in (account-in s)) (P.orders-in from (now (list .entry))) ⌝ }
+    ensures { λ r. ⌜ r ≡ Ledger.wallet-fits (int fee) account (funds-in (account-in s)) (P.orders-in from (now (list .entry))) ⌝ }
 {
     if roster::is_funded(s) {
-        return both_fit(from, list, account);
+        return both_fit(fee, from, list, account);
     }
     true
 }
 
 // Every wallet.
-pub fn all_fit(from: Source, list: &[u8], accounts: Roster) -> bool
+pub fn all_fit(fee: u64, from: Source, list: &[u8], accounts: Roster) -> bool
     requires { ⌜ P.Readable from (now list) ⌝ }
-    ensures { λ r. ⌜ r ≡ P.wallets-fit accounts 0 (P.orders-in from (now (list .entry))) ⌝ }
+    ensures { λ r. ⌜ r ≡ P.wallets-fit (int fee) accounts 0 (P.orders-in from (now (list .entry))) ⌝ }
 {
     let mut i = limits::OWNER_SLOTS;
     while 0 < i {
         i -= 1;
         let s = accounts.slots[i];
-        let fits = slot_fits(from, list, s, i as u64);
+        let fits = slot_fits(fee, from, list, s, i as u64);
         if !fits {
             return false;
         }

@@ -112,7 +112,7 @@ settled d g = moved (change-of (d .maker) (maker-fill d)) (moved (change-of (d .
 
 -- the reference price, unless both are paper accounts
 abbrev pub with-mark : Bool → ℕ → Ledger → Ledger
-with-mark both p l = record { last = l .last; wallets = l .wallets; orders = l .orders; mark = cond both (l .mark) (Some (int p)) }
+with-mark both p l = record { last = l .last; wallets = l .wallets; orders = l .orders; mark = cond both (l .mark) (Some (int p)); fee = l .fee }
 
 abbrev pub marked : Bool → ℕ → Gateway → Gateway
 marked both p g = with-ledger (with-mark both p) g

@@ -25,6 +25,11 @@ abbrev pub pick : Side → ℕ → ℕ → ℕ
 pick Buy buy sell = buy
 pick Sell buy sell = sell
 
+-- the price with the house's fee for a seat (02, order 7): a buyer pays it, a seller does not
+abbrev pub charged : ℤ → Side → ℤ → ℤ
+charged fee Buy price = price +ℤ fee
+charged fee Sell price = price
+
 -- what an order at a price holds, if it fits: cash for a buy, lots for a sell
 abbrev pub hold-of : Side → ℤ → ℕ → Option ℤ
 hold-of Buy price leaves = cost price leaves

@@ -6,31 +6,44 @@ use protocol::Balance;
 use words::Amount;
 ghost use mathlib.Core.Path.{_≡_};
 ghost use Prim.Native.Nat.{_<_};
-ghost use mathlib.Core.Option.{Option·getD};
+ghost use mathlib.Core.Option.{Option·getD, Option·map};
+ghost use lib.IntN.{_+ℤ_};
 ghost use Rattle.words.specs.Words.{int, amount};
 ghost use Rattle.wallet.specs.Wallet as W;
 
 // 2^31: the product of two numbers below it fits.
 const SMALL: u64 = 2_147_483_648;
 
-// What qty lots at price cost, if it fits. The price is small where `bound` is.
-fn cost_within(bound: u64, price: u64, qty: u64) -> Amount
-    requires { ⌜ (bound < W.small → price < W.small) ⌝ }
-    ensures { λ r. ⌜ amount r ≡ W.cost (int price) qty ⌝ }
+// What qty lots at price + fee cost, if it fits. A sum past 64 bits costs nothing for no lot, and does not fit for any other number of lots.
+fn charge_exactly(fee: u64, price: u64, qty: u64) -> Amount
+    ensures { λ r. ⌜ amount r ≡ W.cost (int price +ℤ int fee) qty ⌝ }
 {
-    if bound < SMALL {
-        if qty < SMALL {
-            let amount = price * qty;
-            return Amount::Fits(amount);
+    match words::total(price, 0, fee) {
+        Amount::Fits(sum) => words::narrow(words::signed_mul(sum, qty)),
+        Amount::TooBig => {
+            if qty == 0 {
+                Amount::Fits(0)
+            } else {
+                Amount::TooBig
+            }
         }
     }
-    words::narrow(words::signed_mul(price, qty))
 }
 
-fn cost(price: u64, qty: u64) -> Amount
-    ensures { λ r. ⌜ amount r ≡ W.cost (int price) qty ⌝ }
+// The same. The fee and the price are small where `highest` and `bound` are.
+fn charge_within(highest: u64, bound: u64, fee: u64, price: u64, qty: u64) -> Amount
+    requires { ⌜ (highest < W.small → fee < W.small) ⌝ ∗ ⌜ (bound < W.small → price < W.small) ⌝ }
+    ensures { λ r. ⌜ amount r ≡ W.cost (int price +ℤ int fee) qty ⌝ }
 {
-    cost_within(price, price, qty)
+    if highest < SMALL {
+        if bound < SMALL {
+            if qty < SMALL {
+                let amount = (price + fee) * qty;
+                return Amount::Fits(amount);
+            }
+        }
+    }
+    charge_exactly(fee, price, qty)
 }
 
 fn unwrap_or(a: Amount, other: u64) -> u64
@@ -53,11 +66,11 @@ fn pick(side: Side, buy: u64, sell: u64) -> u64
 }
 
 // What a live order holds: nothing without a price, or where the amount does not fit.
-pub fn held(side: Side, priced: bool, price: u64, leaves: u64) -> u64
-    ensures { λ r. ⌜ int r ≡ W.held side (W.price-of priced (int price)) leaves ⌝ }
+pub fn held(fee: u64, side: Side, priced: bool, price: u64, leaves: u64) -> u64
+    ensures { λ r. ⌜ int r ≡ W.held side (Option·map (W.charged (int fee) side) (W.price-of priced (int price))) leaves ⌝ }
 {
     if priced {
-        unwrap_or(Wallet::hold_of(side, price, leaves), 0)
+        unwrap_or(Wallet::hold_of(fee, side, price, leaves), 0)
     } else {
         0
     }
@@ -94,12 +107,12 @@ impl Wallet {
         }
     }
 
-    // What an order of side with leaves open at price holds: cash for a buy, lots for a sell.
-    pub fn hold_of(side: Side, price: u64, leaves: u64) -> Amount
-        ensures { λ r. ⌜ amount r ≡ W.hold-of side (int price) leaves ⌝ }
+    // What an order of side with leaves open at price holds: cash for a buy, with the fee, lots for a sell.
+    pub fn hold_of(fee: u64, side: Side, price: u64, leaves: u64) -> Amount
+        ensures { λ r. ⌜ amount r ≡ W.hold-of side (W.charged (int fee) side (int price)) leaves ⌝ }
     {
         // A lot at price 1 is itself. The price is tested before it is chosen: a word that is read for a choice alone is read behind a jump.
-        cost_within(price, pick(side, price, 1), leaves)
+        charge_within(fee, price, pick(side, fee, 0), pick(side, price, 1), leaves)
     }
 
     fn owned_on(self, side: Side) -> u64
@@ -156,11 +169,14 @@ impl Wallet {
         }
     }
 
-    // Settles a trade of qty lots at price by an order of side.
-    pub fn settle(self, side: Side, price: u64, qty: u64) -> Wallet
-        ensures { λ r. ⌜ W.balance-of r ≡ W.settled side (int price) qty (W.balance-of self) ⌝ }
+    // Settles a trade of qty lots at price by an order of side: a buy pays the fee for each lot.
+    pub fn settle(self, fee: u64, side: Side, price: u64, qty: u64) -> Wallet
+        ensures { λ r. ⌜ W.balance-of r ≡ W.settled side (W.charged (int fee) side (int price)) qty (W.balance-of self) ⌝ }
     {
-        let amount = unwrap_or(cost(price, qty), words::MOST);
+        let amount = unwrap_or(
+            charge_within(fee, price, pick(side, fee, 0), price, qty),
+            words::MOST,
+        );
         let lots = unwrap_or(words::positive(qty), words::MOST);
         // A buy gives cash for lots, a sell lots for cash.
         let given = words::saturating_sub(

@@ -1,5 +1,5 @@
 -- What each function's way through the code shows, one law for each way, for `search`. Assumes nothing.
-use mathlib.Core.Path.{_≡_, sym, _∙_, ap}
+use mathlib.Core.Path.{_≡_, refl, sym, _∙_, ap}
 use mathlib.Core.Bool.{Bool, true, false}
 use mathlib.Core.Option.{Option, none, some}
 use Prim.Native.Nat.{ℕ, _+_, _-_, _*_, _≤_, _<_}
@@ -9,10 +9,10 @@ use lib.Dec.{leb}
 use lib.Signed.{leZ}
 use lib.IntN.{ℤ, pos, negℤ, natAbs, _+ℤ_, _-ℤ_, +ℤ-idr}
 use borrow.Author.Needs.{needs}
-use borrow.Author.Tests.{le-leb, lt-leb, leb-true, leb-false}
+use borrow.Author.Tests.{le-leb, lt-leb, lt-ltb, leb-true, leb-false}
 use Rattle.words.specs.Words.{half, int, _⊖_, signed, Place, place-of, fit-in, fit, modulus}
 use Rattle.words.proofs.Diff.{⊖-ind, pos-is, ⊖-same, leb-same, neg-is, diff2, sum3, sum5, within, le-neg-neg, le-neg-pos, le-pos-neg}
-use Rattle.words.proofs.Int.{int-zero, low, low-is, high-is}
+use Rattle.words.proofs.Int.{int-zero, low, high, low-is, high-is}
 use Rattle.words.proofs.Fit.{lies-in, lies-above, lies-below}
 use Rattle.words.proofs.Product.{high-lt, product}
 
@@ -42,6 +42,15 @@ hi-same ah al bh bl h k = leb-same al bl (ah * modulus + al) (bh * modulus + bl)
 
 pub sums-le : (a b c u v w : ℕ) (l r : ℕ) (t : Bool) → int a ≡ u ⊖ half → int c ≡ w ⊖ half → l ≡ u + w → int b ≡ v ⊖ half → r ≡ v + half → t ≡ leb l r → t ≡ leZ (int a) (int b -ℤ int c)
 sums-le a b c u v w l r t ea ec el eb er e = e ∙ (λ i. leb (el i) (er i)) ∙ sym (within half v w u eb ec ea)
+
+-- the sign of a word
+pub sign : (w : ℕ) → w < modulus → leb w (half - 1) ≡ leZ (pos 0) (int w)
+unfolding _⊖_
+sign w f = go (leb w (half - 1)) refl
+  where
+    go : (t : Bool) → leb w (half - 1) ≡ t → leb w (half - 1) ≡ leZ (pos 0) (int w)
+    go true e = e ∙ sym (ap (leZ (pos 0)) (low w (omega (arith, leb-true w (half - 1) e))) ∙ le-leb 0 w (omega arith))
+    go false e = e ∙ sym (ap (leZ (pos 0)) (high w f (omega (arith, leb-false w (half - 1) e))) ∙ rw (lt-ltb w modulus f) refl)
 
 pub fits-pos : (n : ℕ) → n < half → some (int n) ≡ fit (pos n)
 fits-pos n h = ap fit-in (lies-in n n 0 (pos-is n n 0 (omega arith)) (low-is n n 0 h (omega arith)) (omega arith) (omega arith))
@@ -96,4 +105,4 @@ less-zero a b = rw int-zero (ap (λ (z : ℤ). z +ℤ int b) (+ℤ-idr (int a)))
 pub plus-zero : (a b : ℕ) → int a -ℤ int b +ℤ int 0 ≡ int a -ℤ int b
 plus-zero a b = rw int-zero (+ℤ-idr (int a -ℤ int b))
 
-pub ruleset laws = (needs, low, apart-less, apart-more, one-moved, fits-pos, not-pos, fits-neg, not-neg, not-wide, one-word, hi-less, hi-more, hi-same, sums-le, product, both-neg, neg-pos, pos-neg, both-pos, both, not-both)
+pub ruleset laws = (needs, low, sign, apart-less, apart-more, one-moved, fits-pos, not-pos, fits-neg, not-neg, not-wide, one-word, hi-less, hi-more, hi-same, sums-le, product, both-neg, neg-pos, pos-neg, both-pos, both, not-both)

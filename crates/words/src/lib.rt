@@ -119,6 +119,13 @@ fn wide_le(a: Wide, b: Wide) -> bool
     }
 }
 
+// Whether a number is 0 or more.
+pub fn not_negative(w: u64) -> bool
+    ensures { λ r. ⌜ r ≡ leZ (pos 0) (int w) ⌝ }
+{
+    w <= MOST
+}
+
 // a <= b - c
 pub fn le_sub(a: u64, b: u64, c: u64) -> bool
     ensures { λ r. ⌜ r ≡ leZ (int a) (int b -ℤ int c) ⌝ }

@@ -10,7 +10,7 @@ traded-requires : tie.Need-traded-requires
 traded-requires c κs =
     let a = c .before .before in
     let s = a .before .before .before in
-    (s .pre .0, s .pre .1, after-as _ _ (a .x .given .1) (s .pre .2))
+    (s .pre .0, s .pre .1, after-as _ _ _ (a .x .given .1) (s .pre .2))
 
 enum-known-x-2 : tie.Need-enum-known-x-2
 enum-known-x-2 c = search needs
@@ -19,7 +19,7 @@ set-leaves-requires : tie.Need-set-leaves-requires
 set-leaves-requires c κs =
     let a = c .before .before in
     let s = a .before .before .before in
-    (s .pre .0, s .pre .1, after-as _ _ (a .x2 .given .1) (s .pre .2))
+    (s .pre .0, s .pre .1, after-as _ _ _ (a .x2 .given .1) (s .pre .2))
 
 enum-known-x-3 : tie.Need-enum-known-x-3
 enum-known-x-3 c = search needs
@@ -28,7 +28,7 @@ reprice-requires : tie.Need-reprice-requires
 reprice-requires c κs =
     let a = c .before .before in
     let s = a .before .before .before in
-    (s .pre .0, s .pre .1, after-as _ _ (a .x3 .given .1) (s .pre .2))
+    (s .pre .0, s .pre .1, after-as _ _ _ (a .x3 .given .1) (s .pre .2))
 
 enum-told : tie.Need-enum-told
 enum-told c = search needs

@@ -15,6 +15,9 @@ choose-requires c κs = search needs
 choose-requires-2 : tie.Need-choose-requires-2
 choose-requires-2 c κs = search needs
 
+fee-of-requires : tie.Need-fee-of-requires
+fee-of-requires c κs = search needs
+
 hold-of-requires : tie.Need-hold-of-requires
 hold-of-requires c κs = search needs
 
@@ -30,4 +33,4 @@ returns-2 c = search weighing
 pub left-spec : {M : Type 1} → statement M
 left-spec =
     tie.close
-    (tie.spec enum-known-at live-at-requires choose-requires choose-requires-2 hold-of-requires returns enum-told returns-2)
+    (tie.spec enum-known-at live-at-requires choose-requires choose-requires-2 fee-of-requires hold-of-requires returns enum-told returns-2)

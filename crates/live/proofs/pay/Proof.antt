@@ -9,6 +9,9 @@ is-funded-requires c κs = search needs
 wallet-at-requires : tie.Need-wallet-at-requires
 wallet-at-requires c κs = search needs
 
+fee-of-requires : tie.Need-fee-of-requires
+fee-of-requires c κs = search needs
+
 settle-requires : tie.Need-settle-requires
 settle-requires c κs = search needs
 
@@ -33,6 +36,7 @@ pay-spec =
     (tie.spec
     is-funded-requires
     wallet-at-requires
+    fee-of-requires
     settle-requires
     choose-requires
     choose-requires-2

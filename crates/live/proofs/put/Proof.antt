@@ -5,6 +5,9 @@ use borrow.Author.Needs.{needs}
 use Rattle.live.proofs.put.Statement.{statement}
 use Rattle.live.proofs.put.Tie as tie
 
+fee-of-requires : tie.Need-fee-of-requires
+fee-of-requires c κs = search needs
+
 hold-of-requires : tie.Need-hold-of-requires
 hold-of-requires c κs = search needs
 
@@ -17,13 +20,13 @@ make-room-requires c κs = search needs
 append-requires : tie.Need-append-requires
 append-requires c κs =
     let y = c .before .before .before in
-    let p = y .before .before .before .before .before .before .pre in
+    let p = y .before .before .before .before .before .before .before .before .pre in
     place-room (p .0) _ _ (p .1) (y .make-room .ensures)
 
 add-set : tie.Need-add-set
 add-set c =
     let g = c .before .before .before .before .before .before .before .before .before in
-    let p = g .before .before .before .before .pre in
+    let p = g .before .before .before .before .before .before .pre in
     let s = open-small (p .0) _ (p .1 .owner-is) in
     omega (arith, s, g .get .ensures)
 
@@ -47,13 +50,14 @@ returns c =
     let y = z .before .before .before .before in
     let g = y .before .before in
     let h = g .before .before in
-    let p = h .before .before .pre in
-    place-is _ _ _ _ _ _ (p .1 .owner-is) (h .hold-of .ensures) (g .get .ensures) (v .before .side-of .ensures) (place-room (p .0) _ _ (p .1) (y .make-room .ensures) .1) (y .make-room .ensures) (z .append .ensures) (u .set .ensures) (v .shift .ensures)
+    let p = h .before .before .before .before .pre in
+    place-is _ _ _ _ _ _ _ (p .1 .owner-is) (h .before .fee-of .ensures) (h .hold-of .ensures) (g .get .ensures) (v .before .side-of .ensures) (place-room (p .0) _ _ (p .1) (y .make-room .ensures) .1) (y .make-room .ensures) (z .append .ensures) (u .set .ensures) (v .shift .ensures)
 
 pub put-spec : {M : Type 1} → statement M
 put-spec =
     tie.close
     (tie.spec
+    fee-of-requires
     hold-of-requires
     get-requires
     make-room-requires

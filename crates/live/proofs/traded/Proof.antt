@@ -1,4 +1,4 @@
-use Rattle.live.proofs.Changes.{reads, row-fits, hold-as, needs-met, paid, pay-becomes, pay-at, traded-becomes}
+use Rattle.live.proofs.Changes.{reads, row-fits, hold-as, needs-met, paid, pay-becomes, pay-at, hold-paid, traded-becomes}
 use borrow.Author.Needs.{needs}
 use Rattle.live.proofs.traded.Statement.{statement}
 use Rattle.live.proofs.traded.Tie as tie
@@ -24,7 +24,7 @@ leave-requires c κs =
     let a = reads (p .1) (l .live-at .ensures) in
     let h = paid (p .0) a _ _ _ (y .before .side-of .ensures) (y .pay .ensures) in
     let n = needs-met (pay-becomes (p .0) a _ _ h .becomes .state) (pay-at (p .0) a _ _ h) in
-    (n .0, n .1, n .2, n .3, n .4, n .5, hold-as a (λ o. o .priced) (λ o. o .price) _ _ (p .2))
+    (n .0, n .1, n .2, n .3, n .4, n .5, hold-paid (p .0) a _ _ h _ _ _ _ (hold-as a (λ o. o .priced) (λ o. o .price) _ _ (p .2)))
 
 same-length : tie.Need-same-length
 same-length c = search needs

@@ -3,6 +3,9 @@ use borrow.Author.Needs.{needs}
 use Rattle.pretrade.proofs.is_covered.Statement.{statement}
 use Rattle.pretrade.proofs.is_covered.Tie as tie
 
+fee-of-requires : tie.Need-fee-of-requires
+fee-of-requires c κs = search needs
+
 hold-of-requires : tie.Need-hold-of-requires
 hold-of-requires c κs = search needs
 
@@ -24,4 +27,4 @@ returns-2 c = search testing
 pub is-covered-spec : {M : Type 1} → statement M
 is-covered-spec =
     tie.close
-    (tie.spec hold-of-requires enum-known-hold is-free-requires enum-told returns returns-2)
+    (tie.spec fee-of-requires hold-of-requires enum-known-hold is-free-requires enum-told returns returns-2)

@@ -6,6 +6,9 @@ use Rattle.refill.proofs.notice_at.Tie as tie
 order-requires : tie.Need-order-requires
 order-requires c κs = search needs
 
+fee-of-requires : tie.Need-fee-of-requires
+fee-of-requires c κs = search needs
+
 hold-of-requires : tie.Need-hold-of-requires
 hold-of-requires c κs = search needs
 
@@ -20,4 +23,4 @@ returns c = search laws
 
 pub notice-at-spec : {M : Type 1} → statement M
 notice-at-spec =
-    tie.close (tie.spec order-requires hold-of-requires notice-hold-requires same-length returns)
+    tie.close (tie.spec order-requires fee-of-requires hold-of-requires notice-hold-requires same-length returns)

@@ -6,6 +6,9 @@ use Rattle.replay.proofs.order_fits.Tie as tie
 is-funded-requires : tie.Need-is-funded-requires
 is-funded-requires c κs = search needs
 
+fee-of-requires : tie.Need-fee-of-requires
+fee-of-requires c κs = search needs
+
 hold-of-requires : tie.Need-hold-of-requires
 hold-of-requires c κs = search needs
 
@@ -29,6 +32,7 @@ order-fits-spec =
     tie.close
     (tie.spec
     is-funded-requires
+    fee-of-requires
     hold-of-requires
     side-of-requires
     total-fits-requires

@@ -18,6 +18,9 @@ word-requires-4 c κs = search needs
 word-requires-5 : tie.Need-word-requires-5
 word-requires-5 c κs = search needs
 
+word-requires-6 : tie.Need-word-requires-6
+word-requires-6 c κs = search needs
+
 rowanchess-set-up-requires : tie.Need-rowanchess-set-up-requires
 rowanchess-set-up-requires c κs = search needs
 
@@ -45,6 +48,7 @@ start-spec =
     word-requires-3
     word-requires-4
     word-requires-5
+    word-requires-6
     rowanchess-set-up-requires
     same-length
     returns

@@ -3,6 +3,7 @@ use mathlib.Core.Path.{_≡_, sym, ap, _∙_}
 use mathlib.Core.Bool.{true}
 use native.Mathlib.Omega.{arith}
 use borrow.Author.Tests.{not-true, not-false}
+use Rattle.words.specs.Words.{int}
 use Rattle.gateway.specs.Limits.{owner-slots}
 use Rattle.totals.specs.Totals.{orders-in, wallets-fit}
 use Rattle.totals.proofs.Laws.{none-left, slot-fine, slot-fails}
@@ -12,15 +13,15 @@ use Rattle.totals.proofs.all_fit.Tie as tie
 
 -- the wallets numbered from i on fit
 abbrev Inv-loop : tie.InvT-loop
-Inv-loop from list accounts i₀ i = (wallets-fit accounts i (orders-in from list) ≡ true) × (i ≤ owner-slots)
+Inv-loop fee from list accounts i₀ i = (wallets-fit (int fee) accounts i (orders-in from list) ≡ true) × (i ≤ owner-slots)
 
 abbrev μ-loop : tie.MeasureT-loop
-μ-loop from list accounts i₀ i = i
+μ-loop fee from list accounts i₀ i = i
 
 loop-holds : tie.Need-loop-holds Inv-loop μ-loop
 loop-holds c =
     let s = c .before .args in
-    (none-left (s .t3) (orders-in (s .from) (s .list .now)), omega arith)
+    (none-left (int (s .fee)) (s .t4) (orders-in (s .from) (s .list .now)), omega arith)
 
 sub-i : tie.Need-sub-i Inv-loop μ-loop
 sub-i c = search needs
@@ -40,7 +41,7 @@ returns c =
     let l = f .before .before .before in
     let i = l .loop .inv in
     let s = l .before .before .args in
-    slot-fails (s .t3) (orders-in (s .from) (s .list .now)) (l .loop .i) (f .before .before .loop-test .taken) (i .1) (i .0) _ (f .slot-fits .ensures) (not-true _ (c .if1 .taken))
+    slot-fails (int (s .fee)) (s .t4) (orders-in (s .from) (s .list .now)) (l .loop .i) (f .before .before .loop-test .taken) (i .1) (i .0) _ (f .slot-fits .ensures) (not-true _ (c .if1 .taken))
 
 loop-less : tie.Need-loop-less Inv-loop μ-loop
 loop-less c = search needs
@@ -51,14 +52,14 @@ loop-again c =
     let l = f .before .before .before in
     let i = l .loop .inv in
     let s = l .before .before .args in
-    (slot-fine (s .t3) (orders-in (s .from) (s .list .now)) (l .loop .i) (f .before .before .loop-test .taken) (i .1) (i .0) _ (f .slot-fits .ensures) (not-false _ (c .if1 .left)), omega (arith, i .1))
+    (slot-fine (int (s .fee)) (s .t4) (orders-in (s .from) (s .list .now)) (l .loop .i) (f .before .before .loop-test .taken) (i .1) (i .0) _ (f .slot-fits .ensures) (not-false _ (c .if1 .left)), omega (arith, i .1))
 
 returns-2 : tie.Need-returns-2 Inv-loop μ-loop
 returns-2 c =
     let l = c .before in
     let z : l .loop .i ≡ 0 = omega (arith, c .loop-test .left) in
     let s = l .before .before .args in
-    sym (l .loop .inv .0) ∙ ap (λ k. wallets-fit (s .t3) k (orders-in (s .from) (s .list .now))) z
+    sym (l .loop .inv .0) ∙ ap (λ k. wallets-fit (int (s .fee)) (s .t4) k (orders-in (s .from) (s .list .now))) z
 
 pub all-fit-spec : {M : Type 1} → statement M
 all-fit-spec =
