@@ -39,7 +39,7 @@
 #define ROWANCHESS_DELIVER 64    /* rowanchess_deliver: a phase change, to each session; at most 2 for any other event */
 #define ROWANCHESS_END 2         /* rowanchess_end */
 
-/* ---- refusals. Where several apply, the first that document 01 names for the call is answered. */
+/* ---- refusals. Where several apply, the first that documents 01 and 02 name for the call is answered. */
 
 enum rowanchess_refusal {
     ROWANCHESS_DONE = 0,
@@ -54,7 +54,8 @@ enum rowanchess_refusal {
     ROWANCHESS_SESSION = 9,
     ROWANCHESS_NOT_QUIET = 10,
     ROWANCHESS_MALFORMED = 11, /* also a row, a length or a number that is none */
-    ROWANCHESS_LIVE_ORDERS = 12
+    ROWANCHESS_LIVE_ORDERS = 12,
+    ROWANCHESS_NEGATIVE_FEE = 15
 };
 
 /* ---- codes of values */
@@ -246,13 +247,16 @@ extern "C" {
 
 /* ---- the start */
 
-/* Makes `m` the state of a gateway with the rows of `accounts`, whose book holds the rows of `list` after the command `last`. Times, here and
- * below, are nanoseconds: silence after which a session is sent a heartbeat, or logged out. Refused: 11, 5, 1, 2, 8, 7. */
-uint64_t rowanchess_set_up(uint8_t *m, size_t len, uint64_t limit, uint64_t last, uint64_t heartbeat, uint64_t idle_timeout, const uint8_t *accounts,
-                           size_t accounts_len, const uint8_t *list, size_t list_len);
+/* Makes `m` the state of a gateway with the rows of `accounts`, whose book holds the rows of `list` after the command `last`. `fee`, not below 0,
+ * is what a buyer with a wallet pays the house for each seat: a buy holds (price + fee) * open quantity, and a fill takes (trade price + fee) *
+ * quantity. No price, level or report has it, nor does the collar see it. Times, here and below, are nanoseconds: silence after which a session is
+ * sent a heartbeat, or logged out. Refused: 11 for a length or a row, 15, 5, 1, 2, 8, 7. */
+uint64_t rowanchess_set_up(uint8_t *m, size_t len, int64_t fee, uint64_t limit, uint64_t last, uint64_t heartbeat, uint64_t idle_timeout,
+                           const uint8_t *accounts, size_t accounts_len, const uint8_t *list, size_t list_len);
 
-/* Makes `m` the state that a checkpoint's `bytes` saved. The record after it follows by replays, then rowanchess_finish. Refused: 11, 5, 1, 2, 7. */
-uint64_t rowanchess_restore(uint8_t *m, size_t len, uint64_t limit, uint64_t heartbeat, uint64_t idle_timeout, const uint8_t *accounts,
+/* Makes `m` the state that a checkpoint's `bytes` saved; `fee` is not among them, and is to be the same as before. The record after it follows by
+ * replays, then rowanchess_finish. Refused: 11 for a length or a row, 15, 11 for `bytes`, 5, 1, 2, 7. */
+uint64_t rowanchess_restore(uint8_t *m, size_t len, int64_t fee, uint64_t limit, uint64_t heartbeat, uint64_t idle_timeout, const uint8_t *accounts,
                             size_t accounts_len, const uint8_t *bytes, size_t bytes_len);
 
 /* ---- the state, read and set. Each refuses 11 where `len` is not ROWANCHESS_STATE or a row or number is none, as do all calls below. */

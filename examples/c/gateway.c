@@ -1,10 +1,11 @@
-/* A gateway from C: two members log in, one sells seats to the other, a checkpoint is taken and restored, and both gateways have the same wallets. */
+/* A gateway from C: two members log in, one sells seats to the other, who pays the house a fee for each, a checkpoint is taken and restored, and
+ * both gateways have the same wallets. */
 #include "rowanchess.h"
 
 #include <stdio.h>
 #include <stdlib.h>
 
-enum { BUYER = 0, SELLER = 1, MEMBERS = 2, PLACES = 256, LIMIT = 16 };
+enum { BUYER = 0, SELLER = 1, MEMBERS = 2, PLACES = 256, LIMIT = 16, FEE = 10 };
 
 static const uint64_t second = 1000000000;
 
@@ -60,7 +61,7 @@ static void print_wallets(const char *which, const uint8_t *m) {
 int main(void) {
     ROW(accounts, BUYER, 11, 10, 100, 1, 5000, 0);
     ROW(accounts + ROWANCHESS_ACCOUNT, SELLER, 22, 10, 100, 1, 0, 40);
-    want("set-up", rowanchess_set_up(first, sizeof first, LIMIT, 0, second, 5 * second, accounts, sizeof accounts, row, 0)); /* an empty book */
+    want("set-up", rowanchess_set_up(first, sizeof first, FEE, LIMIT, 0, second, 5 * second, accounts, sizeof accounts, row, 0)); /* an empty book */
     for (size_t member = 0; member < MEMBERS; member++) {
         want("connect", rowanchess_connect(first, sizeof first, member, second));
         ROW(row, ROWANCHESS_MESSAGE_LOGIN, 1, member, member == BUYER ? 11 : 22);
@@ -87,7 +88,7 @@ int main(void) {
     struct rowanchess_reply bytes = rowanchess_checkpoint(first, sizeof first, saved, sizeof saved);
     want("checkpoint", bytes.code);
     printf("checkpoint: %d bytes\n", (int)bytes.count);
-    want("restore", rowanchess_restore(again, sizeof again, LIMIT, second, 5 * second, accounts, sizeof accounts, saved, bytes.count));
+    want("restore", rowanchess_restore(again, sizeof again, FEE, LIMIT, second, 5 * second, accounts, sizeof accounts, saved, bytes.count));
     print_wallets("first gateway", first);
     print_wallets("restored", again);
     return 0;

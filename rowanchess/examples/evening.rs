@@ -1,7 +1,8 @@
 //! An evening at the seat exchange, from the opening to a power cut and the restart. Prices are pence a seat, quantities seats.
 //!
 //! The host is three things: the gateway, a small engine that matches limit orders by price and time, and a record of all that joined the gateway
-//! since its last checkpoint. After the cut the checkpoint's bytes and the record make the same gateway again.
+//! since its last checkpoint. After the cut the checkpoint's bytes and the record make the same gateway again. Agents pay the house a booking fee
+//! for each seat that they buy.
 
 use rowanchess::accounts::{Account, Funds};
 use rowanchess::exchange::{Mailbox, SessionId, Timing};
@@ -20,11 +21,19 @@ struct Resting {
     leaves: u64,
 }
 
-/// Resting orders, the oldest first.
+#[derive(Clone, Copy)]
+struct Sale {
+    buyer: u32,
+    seller: u32,
+    price: i64,
+    seats: i64,
+}
+
+/// Resting orders and the evening's sales, the oldest first.
 #[derive(Clone, Default)]
 struct Book {
     orders: Vec<Resting>,
-    trades: u64,
+    sales: Vec<Sale>,
 }
 
 impl Book {
@@ -55,9 +64,13 @@ impl Book {
             let qty = taker.leaves.min(maker.leaves);
             taker.leaves -= qty;
             maker.leaves -= qty;
-            self.trades += 1;
+            let (buyer, seller) = match taker.side {
+                Side::Buy => (taker.owner, maker.owner),
+                Side::Sell => (maker.owner, taker.owner),
+            };
+            self.sales.push(Sale { buyer, seller, price: maker.price, seats: qty as i64 });
             events.push(Event::Trade {
-                trade_id: self.trades,
+                trade_id: self.sales.len() as u64,
                 taker: taker.id,
                 maker: maker.id,
                 taker_side: taker.side,
@@ -102,7 +115,7 @@ fn cancelled(order: Resting, reason: CancelReason) -> Event {
 // ---- the members: two touring companies, whose orders are not checked against money, and agents with wallets of pence and seats
 
 const NAMES: [&str; 5] = ["Lantern Players", "Marsh Circus", "Agent Birch", "Agent Hazel", "Agent Rowan"];
-const CONFIG: BookConfig = BookConfig { max_owners: 16 };
+const CONFIG: BookConfig = BookConfig { max_owners: 16, fee: 50 };
 
 fn account(member: usize, funds: Option<Funds>) -> Account {
     Account { id: member as u32, token: 1_000 + member as u64, max_open_orders: 8, messages_per_second: 100, funds }
@@ -180,14 +193,32 @@ impl Host {
     }
 }
 
-/// Prints wallets and depth, and returns what it printed.
-fn print(title: &str, exchange: &Exchange) -> Result<String, Refusal> {
+/// What the house and the companies took from the agents' wallets, by the sales. A company has no wallet: it pays no fee through the gateway.
+fn takings(exchange: &Exchange, sales: &[Sale]) -> (i64, i64) {
+    let is_agent = |member| exchange.wallet(member).is_some();
+    let (mut house, mut companies) = (0, 0);
+    for sale in sales {
+        if is_agent(sale.buyer) {
+            house += CONFIG.fee * sale.seats;
+        } else {
+            companies -= sale.price * sale.seats;
+        }
+        if !is_agent(sale.seller) {
+            companies += sale.price * sale.seats;
+        }
+    }
+    (house, companies)
+}
+
+/// Prints wallets, what the house took, and depth, and returns what it printed.
+fn print(title: &str, exchange: &Exchange, book: &Book) -> Result<String, Refusal> {
     let mut table = format!("  {:<16}{:>8}{:>8}{:>8}{:>8}\n", "wallet", "pence", "held", "seats", "held");
     for (member, name) in (0..).zip(NAMES) {
         if let Some(w) = exchange.wallet(member) {
             table += &format!("  {name:<16}{:>8}{:>8}{:>8}{:>8}\n", w.cash, w.cash_held, w.position, w.position_held);
         }
     }
+    table += &format!("  {:<16}{:>8}\n", "the house", takings(exchange, &book.sales).0);
     for (side, name) in [(Side::Buy, "bid"), (Side::Sell, "ask")] {
         for (price, level) in exchange.depth().levels(side)? {
             table += &format!("  {name:<16}{price:>8}{:>8} seats, orders: {}\n", level.qty, level.orders);
@@ -203,7 +234,7 @@ fn main() -> Result<(), Refusal> {
     let company = |member| account(member, None);
     let accounts = [company(lantern), company(marsh), agent(birch, 60_000, 0), agent(hazel, 30_000, 10)];
 
-    println!("== The exchange opens ==");
+    println!("== The exchange opens, with a booking fee of {} pence a seat ==", CONFIG.fee);
     let exchange = Exchange::new(&CONFIG, &[], 0, &accounts, Timing::default())?;
     let mut host = Host { exchange, book: Book::default(), record: Vec::new(), now: 0 };
     host.exchange.set_paper_collar(Some(20));
@@ -215,10 +246,10 @@ fn main() -> Result<(), Refusal> {
     host.order(marsh, Side::Sell, 20, 2_450)?;
     host.order(birch, Side::Buy, 12, 2_450)?;
     host.order(birch, Side::Buy, 2, 4_000)?;
-    host.order(hazel, Side::Buy, 100, 2_450)?;
+    host.order(hazel, Side::Buy, 12, 2_480)?; // 29,760 pence, and 600 for the house
     host.order(hazel, Side::Sell, 5, 2_600)?;
     host.order(birch, Side::Buy, 10, 2_500)?;
-    print("At half past seven:", &host.exchange)?;
+    print("At half past seven:", &host.exchange, &host.book)?;
 
     let saved = host.exchange.checkpoint_bytes()?;
     let mut book = host.book.clone(); // the engine's own
@@ -237,7 +268,12 @@ fn main() -> Result<(), Refusal> {
     println!("{} leaves, and its orders are cancelled", NAMES[marsh]);
     host.exchange.disconnect(marsh)?;
     host.round()?;
-    let before = print("At nine, before the power cut:", &host.exchange)?;
+    let before = print("At nine, before the power cut:", &host.exchange, &host.book)?;
+    // What the agents brought is in their wallets still, or went to the house or to the companies.
+    let brought: i64 = accounts.iter().chain([&late]).filter_map(|a| a.funds).map(|funds| funds.cash).sum();
+    let kept: i64 = (0..CONFIG.max_owners).filter_map(|member| host.exchange.wallet(member)).map(|w| w.cash).sum();
+    let (house, companies) = takings(&host.exchange, &host.book.sales);
+    assert_eq!(brought, kept + house + companies);
 
     let Host { record, now, .. } = host;
     println!("== The power is cut; left are {} bytes, and {} items of the record ==", saved.len(), record.len());
@@ -253,7 +289,7 @@ fn main() -> Result<(), Refusal> {
         }
     }
     exchange.finish(&book.listing())?;
-    let after = print("After the restart:", &exchange)?;
+    let after = print("After the restart:", &exchange, &book)?;
     assert_eq!(before, after);
     println!("== The tables are equal ==");
     Host { exchange, book, record, now }.arrives(birch)

@@ -147,8 +147,9 @@ const PLACES: usize = 256;
 ///
 /// Where a method names no refusals, document 01 has only `OutputTooShort` for its call, which does not come: the list of mail grows.
 ///
-/// In the examples `exchange` has the owner limit 16 and two members, logged in at time 0: an agent, account 1, whose wallet has 1,000 pence and
-/// 20 seats, on session 0; and a touring company without a wallet, account 2, on session 1. `order` makes the message of a limit order.
+/// In the examples `exchange` has the owner limit 16, no booking fee, and two members, logged in at time 0: an agent, account 1, whose wallet has
+/// 1,000 pence and 20 seats, on session 0; and a touring company without a wallet, account 2, on session 1. `order` makes the message of a limit
+/// order.
 pub struct Exchange {
     state: State,
     /// The lent list, and how many of its rows the last call sent.
@@ -165,7 +166,7 @@ fn done(code: u64) -> Result<(), Refusal> {
 
 #[cold]
 fn refusal(code: u64) -> Refusal {
-    Refusal::of(code).expect("document 01's code")
+    Refusal::of(code).expect("a refusal's code")
 }
 
 impl Exchange {
@@ -220,7 +221,7 @@ impl Exchange {
     /// An exchange for `accounts`, in front of an engine whose recovered book, listed in `listing`, reflects the commands up to `last_seq`.
     /// The orders on the book are attributed to their accounts, without the client references they were placed with.
     ///
-    /// Refused: `Full`, `AccountOutOfRange`, `ForeignOrder`, `Inconsistent`, `OutsideType`.
+    /// Refused: `NegativeFee`, `Full`, `AccountOutOfRange`, `ForeignOrder`, `Inconsistent`, `OutsideType`.
     ///
     /// ```
     #[doc = include_str!("doc/opening.txt")]
@@ -232,6 +233,37 @@ impl Exchange {
     /// assert_eq!(refused.err(), Some(Refusal::ForeignOrder));
     /// # Ok::<(), Refusal>(())
     /// ```
+    ///
+    /// With a booking fee a buy holds, and a fill takes from the buyer, the price and the fee for each seat:
+    ///
+    /// ```
+    #[doc = include_str!("doc/opening.txt")]
+    /// let book = BookConfig { fee: 10, ..book };
+    /// let agent = Account { funds: Some(Funds { cash: 2_000, position: 0 }), ..agent };
+    /// let offer = Listed::Order { id: 1, owner: 2, side: Side::Sell, price: 240, leaves: 2, visible: 2 };
+    /// let mut exchange = Exchange::new(&book, &[offer], 1, &[agent, company], Timing::default())?;
+    /// exchange.connect(0, 0)?;
+    /// exchange.receive(0, Inbound::Login { version: VERSION, account: 1, token: 7 }, 0, &mut Nobody)?;
+    /// exchange.receive(0, order(Side::Buy, 4, 250), 0, &mut Nobody)?;
+    /// let wallet = exchange.wallet(1).unwrap();
+    /// assert_eq!((wallet.cash, wallet.cash_held), (2_000, 1_040));
+    /// let trade = Event::Trade {
+    ///     trade_id: 1,
+    ///     taker: 2,
+    ///     maker: 1,
+    ///     taker_side: Side::Buy,
+    ///     price: 240,
+    ///     qty: 2,
+    ///     taker_leaves: 2,
+    ///     maker_leaves: 0,
+    /// };
+    /// exchange.deliver(2, trade, &mut Nobody)?;
+    /// let wallet = exchange.wallet(1).unwrap();
+    /// assert_eq!((wallet.cash, wallet.cash_held), (1_500, 520));
+    /// let refused = Exchange::new(&BookConfig { fee: -1, ..book }, &[], 0, &accounts, Timing::default());
+    /// assert_eq!(refused.err(), Some(Refusal::NegativeFee));
+    /// # Ok::<(), Refusal>(())
+    /// ```
     pub fn new(
         book: &BookConfig,
         listing: &[Listed],
@@ -241,14 +273,14 @@ impl Exchange {
     ) -> Result<Exchange, Refusal> {
         let timing = [timing.heartbeat, timing.idle_timeout];
         let (accounts, list) = (rows::accounts(accounts), rows::listing(listing));
-        Exchange::begun(State::set_up(book.max_owners.into(), last_seq, timing, &accounts, &list))
+        Exchange::begun(State::set_up(book.fee, book.max_owners.into(), last_seq, timing, &accounts, &list))
     }
 
-    /// The exchange as `checkpoint` saved it, for `accounts`, in front of a book configured as `book`. The commands and events after it follow
-    /// through [`replay_command`](Self::replay_command) and [`replay_event`](Self::replay_event), and [`finish`](Self::finish) ends the
-    /// recovery.
+    /// The exchange as `checkpoint` saved it, for `accounts`, in front of a book configured as `book`, with the same fee as before. The commands
+    /// and events after it follow through [`replay_command`](Self::replay_command) and [`replay_event`](Self::replay_event), and
+    /// [`finish`](Self::finish) ends the recovery.
     ///
-    /// Refused: `Malformed`, `Full`, `AccountOutOfRange`, `ForeignOrder`, `OutsideType`.
+    /// Refused: `NegativeFee`, `Malformed`, `Full`, `AccountOutOfRange`, `ForeignOrder`, `OutsideType`.
     ///
     /// ```
     #[doc = include_str!("doc/opening.txt")]
@@ -261,6 +293,11 @@ impl Exchange {
     /// let again = Exchange::restore(&saved, &book, &accounts, Timing::default())?;
     /// assert_eq!(again.checkpoint()?, saved);
     /// assert_eq!(again.wallet(1).unwrap().cash_held, 500);
+    /// // Were the fee 10, the order would hold it too.
+    /// let book = BookConfig { fee: 10, ..book };
+    /// let again = Exchange::restore(&saved, &book, &accounts, Timing::default())?;
+    /// assert_eq!(again.checkpoint()?, saved);
+    /// assert_eq!(again.wallet(1).unwrap().cash_held, 520);
     /// # Ok::<(), Refusal>(())
     /// ```
     pub fn restore(
@@ -290,7 +327,7 @@ impl Exchange {
         timing: Timing,
     ) -> Result<Exchange, Refusal> {
         let timing = [timing.heartbeat, timing.idle_timeout];
-        Exchange::begun(State::restore(book.max_owners.into(), timing, &rows::accounts(accounts), bytes))
+        Exchange::begun(State::restore(book.fee, book.max_owners.into(), timing, &rows::accounts(accounts), bytes))
     }
 
     /// Keeps paper-trading accounts' limit orders within `percent` of the market's price: the last trade an account without funds took part in.

@@ -13,7 +13,7 @@
 //!     messages_per_second: 100,
 //!     funds: Some(Funds { cash: 1_000, position: 20 }),
 //! };
-//! let book = BookConfig { max_owners: 16 };
+//! let book = BookConfig { max_owners: 16, fee: 0 };
 //! let mut exchange = Exchange::new(&book, &[], 0, &[agent], Timing::default())?;
 //!
 //! let mut mail = Vec::new();
@@ -30,11 +30,12 @@
 //!
 //! - Its `use` lines: `orderbook`, `protocol` and `marketdata` are modules here, and so are `accounts`, `wallet` and `exchange` of `gateway`.
 //!   Names, cases and fields are the published ones.
-//! - A method returns `Result<_, `[`Refusal`]`>` where document 01 names a refusal for its call. The published one panics there, wraps, grows,
+//! - A method returns `Result<_, `[`Refusal`]`>` where document 01 or 02 names a refusal for its call. The published one panics there, wraps, grows,
 //!   or has an error of its own: `SetupError` is [`Refusal`] under that name, without its numbers. A refused call has changed nothing.
 //!   `wallet`, `last_seq`, `set_paper_collar` and `detach` refuse nothing and return what they did.
 //! - The book is listed: `Exchange::new(&book, ..)` becomes `Exchange::new(&config, &listing, ..)`, and `finish(&book)` becomes
 //!   `finish(&listing)`, where the listing is a slice of [`Listed`](orderbook::Listed), in any order.
+//! - The house's booking fee is `fee` of [`BookConfig`](orderbook::BookConfig), 0 for none: `new` and `restore` read it there.
 //! - `checkpoint()` is `Err(NotQuiet)` where it was `None`. [`checkpoint_bytes`](Exchange::checkpoint_bytes) and
 //!   [`restore_bytes`](Exchange::restore_bytes) have the same as bytes.
 //! - `take_batch` appends to the list that it swapped, and `depth()` is a view of the exchange by value.

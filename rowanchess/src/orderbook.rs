@@ -440,11 +440,14 @@ pub enum CancelReason {
     TradingPhase,
 }
 
-/// What the gateway wants of the book's configuration.
+/// What the gateway wants of the book's configuration, and the house's booking fee.
 #[derive(Clone, Copy, Debug, PartialEq, Eq)]
 pub struct BookConfig {
     /// The owner limit: accounts and owners are below it. At most 256.
     pub max_owners: u32,
+    /// The booking fee: pence that a buyer with a wallet pays the house for each seat, beside its price. Not below 0. A checkpoint does not have
+    /// it: hand the same one to [`restore`](crate::Exchange::restore).
+    pub fee: Price,
 }
 
 /// An entry of a book listing: what stands on the book, in any order.

@@ -132,7 +132,7 @@ pub struct Balance {
     pub cash: i64,
     /// Lots held.
     pub position: i64,
-    /// Cash held for open buy orders: their open quantity times their price.
+    /// Cash held for open buy orders: their open quantity times their price and the booking fee.
     pub cash_held: i64,
     /// Lots held for open sell orders.
     pub position_held: i64,
@@ -212,8 +212,8 @@ pub enum RejectCode {
     /// The account may not send this kind of message: a paper-trading account places limit
     /// orders and cancels them, nothing else.
     NotAllowed,
-    /// A paper-trading account's limit price is further from the market's price than the
-    /// exchange lets paper accounts go.
+    /// A paper-trading account's limit price, without the booking fee, is further from the
+    /// market's price than the exchange lets paper accounts go.
     OffMarket,
 }
 

@@ -3,7 +3,7 @@
 use std::error::Error;
 use std::fmt;
 
-/// Why a call is refused, by document 01's codes. A refused call has changed nothing.
+/// Why a call is refused, by document 01's codes and, for 15, document 02's. A refused call has changed nothing.
 #[derive(Clone, Copy, Debug, PartialEq, Eq, Hash)]
 #[repr(u8)]
 pub enum Refusal {
@@ -32,10 +32,12 @@ pub enum Refusal {
     Malformed = 11,
     /// 12: live orders name the account that would join.
     LiveOrders = 12,
+    /// 15: the booking fee is below 0.
+    NegativeFee = 15,
 }
 
 impl Refusal {
-    const ALL: [Refusal; 12] = [
+    const ALL: [Refusal; 13] = [
         Refusal::AccountOutOfRange,
         Refusal::ForeignOrder,
         Refusal::AccountExists,
@@ -48,9 +50,10 @@ impl Refusal {
         Refusal::NotQuiet,
         Refusal::Malformed,
         Refusal::LiveOrders,
+        Refusal::NegativeFee,
     ];
 
-    /// Document 01's code, 1 to 12.
+    /// Its code: 1 to 12, and 15.
     ///
     /// ```
     /// assert_eq!(rowanchess::Refusal::NotQuiet.code(), 10);
@@ -59,16 +62,17 @@ impl Refusal {
         self as u8
     }
 
-    /// The refusal of a code; none for 0, which is no refusal, and above 12.
+    /// The refusal of a code: 1 to 12, and 15. None for 0, which is no refusal, and for any other.
     ///
     /// ```
     /// use rowanchess::Refusal;
     ///
     /// assert_eq!(Refusal::of(10), Some(Refusal::NotQuiet));
+    /// assert_eq!(Refusal::of(15), Some(Refusal::NegativeFee));
     /// assert_eq!(Refusal::of(0), None);
     /// ```
     pub fn of(code: u64) -> Option<Refusal> {
-        Refusal::ALL.get(usize::try_from(code).ok()?.checked_sub(1)?).copied()
+        Refusal::ALL.into_iter().find(|refusal| u64::from(refusal.code()) == code)
     }
 }
 
@@ -87,6 +91,7 @@ impl fmt::Display for Refusal {
             Refusal::NotQuiet => "commands have not all been answered",
             Refusal::Malformed => "the bytes are malformed",
             Refusal::LiveOrders => "the account has live orders",
+            Refusal::NegativeFee => "the fee is below 0",
         })
     }
 }

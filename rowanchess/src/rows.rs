@@ -496,12 +496,14 @@ mod tests {
         same_codes::<RejectCode>("REJECT_");
         same_codes::<RejectReason>("REASON_");
         same_codes::<CancelReason>("CANCEL_");
-        for code in 1..=12 {
+        for code in (1..=12).chain([15]) {
             let refusal = Refusal::of(code).expect("a refusal");
             assert_eq!(u64::from(refusal.code()), code);
             assert_eq!(header(&format!("ROWANCHESS_{}", upper(&format!("{refusal:?}")))), code);
         }
-        assert_eq!(Refusal::of(13), None);
+        for code in [0, 13, 14, 16] {
+            assert_eq!(Refusal::of(code), None);
+        }
     }
 
     /// The header's number for the case of `value`.

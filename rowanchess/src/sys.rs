@@ -44,6 +44,7 @@ unsafe extern "C" {
     fn rowanchess_set_up(
         m: *mut u8,
         len: usize,
+        fee: u64,
         limit: u64,
         last: u64,
         heartbeat: u64,
@@ -56,6 +57,7 @@ unsafe extern "C" {
     fn rowanchess_restore(
         m: *mut u8,
         len: usize,
+        fee: u64,
         limit: u64,
         heartbeat: u64,
         idle_timeout: u64,
@@ -141,24 +143,33 @@ impl State {
     }
 
     /// `accounts` and `list` are rows.
-    pub fn set_up(limit: u64, last: u64, timing: [u64; 2], accounts: &[u8], list: &[u8]) -> Result<State, u64> {
+    pub fn set_up(
+        fee: i64,
+        limit: u64,
+        last: u64,
+        timing: [u64; 2],
+        accounts: &[u8],
+        list: &[u8],
+    ) -> Result<State, u64> {
+        let fee = fee as u64;
         let [heartbeat, idle_timeout] = timing;
         let (accounts, accounts_len) = (accounts.as_ptr(), accounts.len());
         let (list, list_len) = (list.as_ptr(), list.len());
         // SAFETY: set-up has no premise about the bytes of `m`. Slices: `m` is written, `accounts` and `list` are read.
         State::begin(|m, len| unsafe {
-            rowanchess_set_up(m, len, limit, last, heartbeat, idle_timeout, accounts, accounts_len, list, list_len)
+            rowanchess_set_up(m, len, fee, limit, last, heartbeat, idle_timeout, accounts, accounts_len, list, list_len)
         })
     }
 
     /// `accounts` are rows, `bytes` a checkpoint's.
-    pub fn restore(limit: u64, timing: [u64; 2], accounts: &[u8], bytes: &[u8]) -> Result<State, u64> {
+    pub fn restore(fee: i64, limit: u64, timing: [u64; 2], accounts: &[u8], bytes: &[u8]) -> Result<State, u64> {
+        let fee = fee as u64;
         let [heartbeat, idle_timeout] = timing;
         let (accounts, accounts_len) = (accounts.as_ptr(), accounts.len());
         let (bytes, bytes_len) = (bytes.as_ptr(), bytes.len());
         // SAFETY: restore has no premise about the bytes of `m`. Slices: `m` is written, `accounts` and `bytes` are read.
         State::begin(|m, len| unsafe {
-            rowanchess_restore(m, len, limit, heartbeat, idle_timeout, accounts, accounts_len, bytes, bytes_len)
+            rowanchess_restore(m, len, fee, limit, heartbeat, idle_timeout, accounts, accounts_len, bytes, bytes_len)
         })
     }
 

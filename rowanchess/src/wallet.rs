@@ -10,7 +10,7 @@ pub struct Wallet {
     pub cash: i64,
     /// Lots.
     pub position: i64,
-    /// Cash held for open buy orders.
+    /// Cash held for open buy orders, the booking fee included.
     pub cash_held: i64,
     /// Lots held for open sell orders.
     pub position_held: i64,

@@ -3,10 +3,11 @@
 use rowanchess::accounts::{Account, Funds};
 use rowanchess::exchange::{Mail, Nobody, Timing};
 use rowanchess::orderbook::{BookConfig, Event, Listed, Side, TimeInForce};
-use rowanchess::protocol::{Inbound, NewOrder, OrderKind, Outbound, ReportKind, VERSION};
+use rowanchess::protocol::{Inbound, NewOrder, OrderKind, Outbound, RejectCode, ReportKind, VERSION};
+use rowanchess::wallet::Wallet;
 use rowanchess::{Exchange, Refusal};
 
-const BOOK: BookConfig = BookConfig { max_owners: 4 };
+const BOOK: BookConfig = BookConfig { max_owners: 4, fee: 0 };
 
 fn account(id: u32, funds: Option<Funds>) -> Account {
     Account { id, token: 7, max_open_orders: 1_024, messages_per_second: 10_000, funds }
@@ -43,7 +44,7 @@ fn refusals() -> Result<(), Refusal> {
     assert_eq!(exchange.add_account(paper(0)), Err(Refusal::AccountExists));
     let event = Event::Accepted { id: 9 };
     assert_eq!(exchange.deliver(9, event, &mut Nobody), Err(Refusal::Sequence));
-    let wide = BookConfig { max_owners: 257 };
+    let wide = BookConfig { max_owners: 257, ..BOOK };
     assert_eq!(Exchange::new(&wide, &[], 0, &[], Timing::default()).err(), Some(Refusal::Full));
     let dear = [bid(1, 0, 1 << 62), bid(2, 0, 1 << 62)];
     assert_eq!(opened(&[paper(0)], &dear).err(), Some(Refusal::OutsideType));
@@ -55,6 +56,54 @@ fn refusals() -> Result<(), Refusal> {
     let torn = Exchange::restore_bytes(&[0; 24], &BOOK, &[], Timing::default());
     assert_eq!(torn.err(), Some(Refusal::Malformed));
     assert_eq!(exchange.add_account(paper(3)), Err(Refusal::LiveOrders));
+    let paying = BookConfig { fee: -1, ..BOOK };
+    assert_eq!(Exchange::new(&paying, &[], 0, &[], Timing::default()).err(), Some(Refusal::NegativeFee));
+    Ok(())
+}
+
+/// A fee below 0 is refused before an owner limit that is too great, and before bytes that are no checkpoint.
+#[test]
+fn fee_is_judged_first() {
+    for fee in [-1, i64::MIN] {
+        let wide = BookConfig { max_owners: 257, fee };
+        assert_eq!(Exchange::new(&wide, &[], 0, &[], Timing::default()).err(), Some(Refusal::NegativeFee));
+        let torn = Exchange::restore_bytes(&[0; 24], &wide, &[], Timing::default());
+        assert_eq!(torn.err(), Some(Refusal::NegativeFee));
+    }
+}
+
+/// A buyer pays the fee, and a restart with the same fee has the same wallet.
+#[test]
+fn fee_is_held_and_paid() -> Result<(), Refusal> {
+    let book = BookConfig { fee: 10, ..BOOK };
+    let accounts = [account(0, Some(Funds { cash: 1_040, position: 0 })), account(1, None)];
+    let offer = Listed::Order { id: 9, owner: 1, side: Side::Sell, price: 240, leaves: 2, visible: 2 };
+    let mut exchange = Exchange::new(&book, &[offer], 9, &accounts, Timing::default())?;
+    logged_in(&mut exchange, 0, 0)?;
+    exchange.receive(0, order(4, 251), 0, &mut Nobody)?;
+    let reject = Outbound::Reject { reason: RejectCode::InsufficientFunds, client_ref: 1 };
+    assert!(exchange.mail().eq([Mail::Send(0, reject)]));
+    exchange.receive(0, order(4, 250), 0, &mut Nobody)?;
+    let wallet = Wallet { cash: 1_040, position: 0, cash_held: 1_040, position_held: 0 };
+    assert_eq!(exchange.wallet(0), Some(wallet));
+    exchange.take_batch(&mut Vec::new())?;
+    let trade = Event::Trade {
+        trade_id: 1,
+        taker: 10,
+        maker: 9,
+        taker_side: Side::Buy,
+        price: 240,
+        qty: 2,
+        taker_leaves: 2,
+        maker_leaves: 0,
+    };
+    exchange.deliver(10, trade, &mut Nobody)?;
+    let wallet = Wallet { cash: 540, position: 2, cash_held: 520, position_held: 0 };
+    assert_eq!(exchange.wallet(0), Some(wallet));
+    let saved = exchange.checkpoint_bytes()?;
+    let again = Exchange::restore_bytes(&saved, &book, &accounts, Timing::default())?;
+    assert_eq!(again.wallet(0), Some(wallet));
+    assert_eq!(again.checkpoint_bytes()?, saved);
     Ok(())
 }
 
