@@ -32,9 +32,10 @@ impl Listed {
 
 #[derive(Clone, Debug)]
 pub enum Start {
-    SetUp(u32, u64, Vec<Account>, Vec<Listed>, Timing),
+    /// The fee, the owner limit, the last number, the accounts, the book.
+    SetUp(i64, u32, u64, Vec<Account>, Vec<Listed>, Timing),
     /// The bytes may be no checkpoint's.
-    Restore(u32, Vec<Account>, Timing, Vec<u8>),
+    Restore(i64, u32, Vec<Account>, Timing, Vec<u8>),
 }
 
 impl Start {
@@ -45,15 +46,21 @@ impl Start {
         }
     }
 
+    pub fn fee(&self) -> i64 {
+        match self {
+            Start::SetUp(fee, ..) | Start::Restore(fee, ..) => *fee,
+        }
+    }
+
     pub fn limit(&self) -> u32 {
         match self {
-            Start::SetUp(limit, ..) | Start::Restore(limit, ..) => *limit,
+            Start::SetUp(_, limit, ..) | Start::Restore(_, limit, ..) => *limit,
         }
     }
 
     pub fn accounts(&self) -> &[Account] {
         match self {
-            Start::SetUp(_, _, accounts, ..) | Start::Restore(_, accounts, ..) => accounts,
+            Start::SetUp(_, _, _, accounts, ..) | Start::Restore(_, _, accounts, ..) => accounts,
         }
     }
 }

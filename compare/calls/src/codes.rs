@@ -62,7 +62,7 @@ impl Model {
 
     /// Whether the wallets' totals are in their type once the moves are made.
     fn totals_fit(&self, moves: &[Move]) -> bool {
-        let hold = |live: &Live| i128::from(live.hold());
+        let hold = |live: &Live| i128::from(live.hold(self.fee));
         let fits_for = |(account, side): (u32, Side)| {
             let own = moves.iter().filter(|step| step.before.account == account && step.before.side == side);
             let grown: i128 = own.map(|step| step.after.as_ref().map_or(0, hold) - hold(&step.before)).sum();
@@ -76,7 +76,7 @@ impl Model {
     pub(crate) fn notices(&self, moves: &[Move]) -> Vec<u32> {
         let mut notices = Vec::new();
         for step in moves.iter().filter(|step| self.has_wallet(step.before.account)) {
-            let changes = step.after.as_ref().map_or(0, Live::hold) != step.before.hold();
+            let changes = step.after.as_ref().map_or(0, |after| after.hold(self.fee)) != step.before.hold(self.fee);
             let count = usize::from(step.settles) + usize::from(changes);
             notices.extend(std::iter::repeat_n(step.before.account, count));
         }
@@ -122,7 +122,7 @@ impl Model {
     fn command_code(&self, number: u64, command: &Command) -> Result<(), u8> {
         let order = placed(command);
         let total_fits =
-            |order: &Live| !self.has_wallet(order.account) || fits(&(self.total(order.account, order.side) + i128::from(order.hold())));
+            |order: &Live| !self.has_wallet(order.account) || fits(&(self.total(order.account, order.side) + i128::from(order.hold(self.fee))));
         first(&[
             (4, !self.sessions.is_empty() || number.checked_sub(1) != Some(self.last)),
             (8, order.is_some() && command.id() != Some(number)),

@@ -68,6 +68,8 @@ pub struct Draw {
     pub many: bool,
     /// Between a replay and `finish` all calls are drawn.
     pub freely: bool,
+    /// The fee of a list; drawn for each start where there is room for many.
+    pub fee: i64,
     clock: u64,
     /// The last call was an event.
     delivers: bool,
@@ -86,6 +88,7 @@ impl Draw {
             wide: false,
             many: false,
             freely: false,
+            fee: 0,
             clock: 0,
             delivers: false,
             planned: VecDeque::new(),
@@ -151,7 +154,31 @@ impl Draw {
         self.below(if matches!(self.theme, Theme::Ends) { 4 } else { 60 })
     }
 
+    /// A fee: mostly none, as the Rust has none.
+    pub fn any_fee(&mut self) -> i64 {
+        match self.below(32) {
+            0..18 => 0,
+            18..24 => self.small_fee(),
+            24..27 => self.pick(&[1 << 62, i64::MAX]),
+            27..31 => (self.bits() >> (1 + self.below(63))) as i64,
+            _ => self.pick(&[-1, i64::MIN]),
+        }
+    }
+
+    pub fn small_fee(&mut self) -> i64 {
+        self.pick(&[1, 10, 250])
+    }
+
+    /// A price whose sum with the fee is about 0, about the most that 64 bits have, or past it.
+    fn price_by_fee(&mut self) -> i64 {
+        let most = i64::MAX - self.fee;
+        self.pick(&[-self.fee, -self.fee, 1 - self.fee, -1 - self.fee, most / 2 + 1, most - 1, most, most + 1])
+    }
+
     fn price(&mut self) -> i64 {
+        if self.fee > 0 && self.seldom() == 0 {
+            return self.price_by_fee();
+        }
         match self.seldom() {
             0 => self.pick(&[0, -1, -60, -(1 << 62), i64::MIN]),
             1 => self.pick(&[1, 1 << 61, 1 << 62, 1 << 62, i64::MAX]),
@@ -251,6 +278,9 @@ impl Draw {
     /// A start; a restore goes on from what is `saved`.
     pub fn start(&mut self, saved: &mut Option<(Vec<Account>, Checkpoint)>) -> Start {
         self.clock = 0;
+        if self.many {
+            self.fee = self.any_fee();
+        }
         self.plan_opening();
         let restores = match self.theme {
             _ if !self.draws("restore") => false,
@@ -281,7 +311,7 @@ impl Draw {
                 }
                 self.shuffle(&mut listing);
             }
-            return Start::SetUp(limit, last, accounts, listing, timing);
+            return Start::SetUp(self.fee, limit, last, accounts, listing, timing);
         }
         let (accounts, saved) = saved.take().unwrap_or_else(|| {
             let has = |id: u32| accounts.iter().any(|account| account.id == id && account.funds.is_some());
@@ -305,9 +335,9 @@ impl Draw {
                 _ if saved.market_price.is_none() => bytes[9] = 1,
                 _ => bytes.truncate(self.below(24) as usize),
             }
-            return Start::Restore(limit, accounts, timing, bytes);
+            return Start::Restore(self.fee, limit, accounts, timing, bytes);
         }
-        Start::Restore(limit, accounts, timing, encode(&saved))
+        Start::Restore(self.fee, limit, accounts, timing, encode(&saved))
     }
 
     fn new_order(&mut self, wallet: bool) -> NewOrder {

@@ -14,7 +14,7 @@ use crate::bytes::{decode, encode};
 use crate::call::{Answer, Call, Gateway, Listed, Seen, Start, placing};
 use crate::codes::{Move, first};
 use crate::depth::{Depth, Resting};
-use crate::state::{Flight, LISTED, Live, Member, Model, OWNERS, Session, TOKEN, fits, fitting, placed};
+use crate::state::{Flight, LISTED, Live, Member, Model, OWNERS, Session, TOKEN, cost, fits, placed};
 
 fn clamped(amount: i128) -> i64 {
     amount.clamp(i128::from(i64::MIN), i128::from(i64::MAX)) as i64
@@ -32,8 +32,9 @@ fn listed(entry: &Listed) -> Live {
 impl Model {
     // ---- the start
 
-    fn empty(limit: u32, last: u64, accounts: &[Account], timing: Timing) -> Model {
+    fn empty(fee: i64, limit: u32, last: u64, accounts: &[Account], timing: Timing) -> Model {
         Model {
+            fee,
             limit,
             timing,
             now: 0,
@@ -53,9 +54,9 @@ impl Model {
         }
     }
 
-    fn set_up(limit: u32, last: u64, accounts: &[Account], listing: &[Listed], timing: Timing) -> Result<Model, u8> {
+    fn set_up(fee: i64, limit: u32, last: u64, accounts: &[Account], listing: &[Listed], timing: Timing) -> Result<Model, u8> {
         let foreign = |account: &Account| account.id >= limit;
-        first(&[(5, limit > OWNERS || listing.len() > LISTED), (1, accounts.iter().any(foreign))])?;
+        first(&[(15, fee < 0), (5, limit > OWNERS || listing.len() > LISTED), (1, accounts.iter().any(foreign))])?;
         let mut entries: BTreeMap<OrderId, Vec<&Listed>> = BTreeMap::new();
         for entry in listing {
             entries.entry(entry.id()).or_default().push(entry);
@@ -64,7 +65,7 @@ impl Model {
             let foreign_owner = same.iter().any(|entry| entry.owner() >= limit);
             first(&[(2, *id > last), (1, foreign_owner), (8, same.len() > 1)])?;
         }
-        let mut model = Model::empty(limit, last, accounts, timing);
+        let mut model = Model::empty(fee, limit, last, accounts, timing);
         model.live = listing.iter().map(|entry| (entry.id(), listed(entry))).collect();
         model.depth = Depth::of(listing);
         let fits = model.depth.fits() && model.totals().values().all(fits);
@@ -72,18 +73,19 @@ impl Model {
         Ok(model)
     }
 
-    fn restore(limit: u32, accounts: &[Account], timing: Timing, bytes: &[u8]) -> Result<Model, u8> {
+    fn restore(fee: i64, limit: u32, accounts: &[Account], timing: Timing, bytes: &[u8]) -> Result<Model, u8> {
+        first(&[(15, fee < 0)])?;
         let saved = decode(bytes).ok_or(11)?;
         let foreign = |account: &Account| account.id >= limit;
         first(&[(5, limit > OWNERS), (1, accounts.iter().any(foreign) || saved.wallets.iter().any(|wallet| wallet.account >= limit))])?;
-        let mut model = Model::empty(limit, saved.seq, accounts, timing);
+        let mut model = Model::empty(fee, limit, saved.seq, accounts, timing);
         for SavedOrder { id, account, client_ref, buy, price, leaves } in saved.orders {
             first(&[(2, id > saved.seq), (1, account >= limit)])?;
             let side = if buy { Side::Buy } else { Side::Sell };
             model.live.insert(id, Live { account, client_ref, side, price, leaves });
         }
         first(&[(7, !model.totals().values().all(fits))])?;
-        let notices = model.live.values().filter(|live| model.has_wallet(live.account) && live.hold() != 0);
+        let notices = model.live.values().filter(|live| model.has_wallet(live.account) && live.hold(fee) != 0);
         model.notices = notices.map(|live| live.account).collect();
         for SavedWallet { account, cash, position } in saved.wallets {
             if let Some(money) = model.members.get_mut(&account).and_then(|member| member.money.as_mut()) {
@@ -103,7 +105,7 @@ impl Model {
         let owner = command.owner().unwrap_or(0);
         self.flights.push_back(Flight { number: self.last, session, owner, places: order.is_some() });
         if let Some(order) = order {
-            if notes && self.has_wallet(owner) && order.hold() != 0 {
+            if notes && self.has_wallet(owner) && order.hold(self.fee) != 0 {
                 self.notices.push(owner);
             }
             self.live.insert(self.last, Live { client_ref, ..order });
@@ -137,10 +139,10 @@ impl Model {
     }
 
     fn settle(&mut self, order: &Live, price: i64, qty: u64) {
+        let (sign, fee) = if order.side == Side::Buy { (1, self.fee) } else { (-1, 0) };
         let Some((cash, seats)) = self.members.get_mut(&order.account).and_then(|member| member.money.as_mut()) else { return };
-        let amount = i128::from(fitting(price, qty).unwrap_or(i64::MAX));
+        let amount = i128::from(cost(price, fee, qty).unwrap_or(i64::MAX));
         let lots = i128::from(i64::try_from(qty).unwrap_or(i64::MAX));
-        let sign = if order.side == Side::Buy { 1 } else { -1 };
         *cash = clamped(i128::from(*cash) - sign * amount);
         *seats = clamped(i128::from(*seats) + sign * lots);
     }
@@ -281,8 +283,8 @@ impl Model {
 impl Gateway for Model {
     fn start(start: &Start) -> Result<Model, u8> {
         match start {
-            Start::SetUp(limit, last, accounts, listing, timing) => Model::set_up(*limit, *last, accounts, listing, *timing),
-            Start::Restore(limit, accounts, timing, bytes) => Model::restore(*limit, accounts, *timing, bytes),
+            Start::SetUp(fee, limit, last, accounts, listing, timing) => Model::set_up(*fee, *limit, *last, accounts, listing, *timing),
+            Start::Restore(fee, limit, accounts, timing, bytes) => Model::restore(*fee, *limit, accounts, *timing, bytes),
         }
     }
 

@@ -54,10 +54,10 @@ fn code(error: SetupError) -> u8 {
 impl Published {
     fn begin(start: &Start) -> Result<Exchange, u8> {
         match start {
-            Start::SetUp(limit, last, accounts, listing, timing) => {
+            Start::SetUp(_, limit, last, accounts, listing, timing) => {
                 Exchange::new(&book(*limit, listing), *last, accounts, *timing).map_err(code)
             }
-            Start::Restore(limit, accounts, timing, bytes) => {
+            Start::Restore(_, limit, accounts, timing, bytes) => {
                 let max_owners = *limit;
                 let checkpoint = decode(bytes).ok_or(11)?;
                 Exchange::restore(&checkpoint, &BookConfig { max_owners }, accounts, *timing).map_err(code)
@@ -119,6 +119,7 @@ impl Published {
 /// It has no lent lists, so it takes no notice of the room. It does not know document 01's limits, and panics where the model says so.
 impl Gateway for Published {
     fn start(start: &Start) -> Result<Published, u8> {
+        assert_eq!(start.fee(), 0, "the Rust knows no fee");
         let exchange = catch_unwind(|| Published::begin(start)).unwrap_or(Err(0))?;
         Ok(Published { exchange, limit: start.limit() })
     }

@@ -33,19 +33,20 @@ pub struct Live {
 }
 
 impl Live {
-    /// What it holds in a wallet.
-    pub fn hold(&self) -> i64 {
-        let price = match self.side {
-            Side::Buy => self.price,
-            Side::Sell => self.price.map(|_| 1),
+    /// What it holds in a wallet: a buy's cash, with the fee for each seat, or a sell's seats.
+    pub fn hold(&self, fee: i64) -> i64 {
+        let amount = |price: i64| match self.side {
+            Side::Buy => cost(price, fee, self.leaves),
+            Side::Sell => i64::try_from(self.leaves).ok(),
         };
-        price.and_then(|price| fitting(price, self.leaves)).unwrap_or(0)
+        self.price.and_then(amount).unwrap_or(0)
     }
 }
 
-/// A product, where it fits.
-pub(crate) fn fitting(price: i64, qty: u64) -> Option<i64> {
-    i64::try_from(i128::from(price) * i128::from(qty)).ok()
+/// What so many seats cost, each at the price and the fee, where it fits. What leaves 128 bits leaves 64.
+pub fn cost(price: i64, fee: i64, qty: u64) -> Option<i64> {
+    let exact = (i128::from(price) + i128::from(fee)).checked_mul(i128::from(qty))?;
+    i64::try_from(exact).ok()
 }
 
 #[derive(Clone, Copy)]
@@ -97,6 +98,7 @@ pub struct Flight {
 
 #[derive(Clone)]
 pub struct Model {
+    pub fee: i64,
     pub limit: u32,
     pub timing: Timing,
     pub now: u64,
@@ -164,14 +166,14 @@ impl Model {
     pub fn totals(&self) -> BTreeMap<(u32, bool), i128> {
         let mut totals = BTreeMap::new();
         for live in self.live.values().filter(|live| self.has_wallet(live.account)) {
-            *totals.entry((live.account, live.side == Side::Buy)).or_default() += i128::from(live.hold());
+            *totals.entry((live.account, live.side == Side::Buy)).or_default() += i128::from(live.hold(self.fee));
         }
         totals
     }
 
     pub(crate) fn total(&self, account: u32, side: Side) -> i128 {
         let own = self.live.values().filter(|live| live.account == account && live.side == side);
-        own.map(|live| i128::from(live.hold())).sum()
+        own.map(|live| i128::from(live.hold(self.fee))).sum()
     }
 
     pub fn wallet(&self, account: u32) -> Option<Wallet> {
@@ -218,7 +220,7 @@ impl Model {
             return Some(RejectCode::OffMarket);
         }
         let (has, needs) = match new.side {
-            Side::Buy => (cash, fitting(price, new.qty)),
+            Side::Buy => (cash, cost(price, self.fee, new.qty)),
             Side::Sell => (seats, i64::try_from(new.qty).ok()),
         };
         let free = i128::from(has) - self.total(account, new.side);
@@ -239,8 +241,8 @@ impl Model {
             _ => None,
         };
         let paper = new.filter(|_| self.has_wallet(account));
-        let noticed = paper.is_some_and(|order| order.hold() != 0);
-        let total = paper.map_or(0, |order| self.total(account, order.side) + i128::from(order.hold()));
+        let noticed = paper.is_some_and(|order| order.hold(self.fee) != 0);
+        let total = paper.map_or(0, |order| self.total(account, order.side) + i128::from(order.hold(self.fee)));
         let tables = [
             ("live orders", new.is_some() && self.live.len() >= LIVE),
             ("notices", noticed && self.notices.len() >= NOTICES),

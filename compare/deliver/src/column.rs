@@ -6,6 +6,9 @@ use crate::draw::Message;
 
 pub const TOKEN: u64 = 7;
 
+/// What a buyer pays the house for a seat; the published `Exchange` knows no fee.
+pub const FEE: i64 = 25;
+
 /// Every other account has a wallet: cash and seats.
 pub fn funds(account: usize) -> Option<(i64, i64)> {
     (account % 2 == 0).then_some((1 << 60, 1 << 60))

@@ -3,10 +3,11 @@
 
 use std::collections::btree_map::Entry;
 use std::collections::{BTreeMap, HashMap, HashSet, VecDeque};
+use std::hint::black_box;
 
 use orderbook::{CancelReason, Event, Side};
 
-use crate::column::{Column, funds};
+use crate::column::{Column, FEE, funds};
 use crate::draw::{Message, SESSIONS};
 
 #[derive(Clone, Copy)]
@@ -72,6 +73,7 @@ struct Flight {
 }
 
 pub struct Plain {
+    fee: i64,
     accounts: Vec<Account>,
     last_sent: Vec<u64>,
     orders: HashMap<u64, Order>,
@@ -101,9 +103,10 @@ fn cost(price: i64, qty: u64) -> Option<i64> {
     i64::try_from(i128::from(price) * i128::from(qty)).ok()
 }
 
-fn hold_of(side: Side, price: i64, leaves: u64) -> i64 {
+/// Prices and the fee are small here: their sum fits.
+fn hold_of(fee: i64, side: Side, price: i64, leaves: u64) -> i64 {
     let hold = match side {
-        Side::Buy => cost(price, leaves),
+        Side::Buy => cost(price + fee, leaves),
         Side::Sell => i64::try_from(leaves).ok(),
     };
     hold.unwrap_or(0)
@@ -117,8 +120,12 @@ impl Wallet {
         }
     }
 
-    fn settle(&mut self, side: Side, price: i64, qty: u64) {
-        let amount = cost(price, qty).unwrap_or(i64::MAX);
+    fn settle(&mut self, fee: i64, side: Side, price: i64, qty: u64) {
+        let charged = match side {
+            Side::Buy => price + fee,
+            Side::Sell => price,
+        };
+        let amount = cost(charged, qty).unwrap_or(i64::MAX);
         let lots = i64::try_from(qty).unwrap_or(i64::MAX);
         match side {
             Side::Buy => {
@@ -134,10 +141,10 @@ impl Wallet {
 }
 
 /// The order's open quantity is now `leaves`.
-fn set_leaves(order: &mut Order, account: &mut Account, notices: &mut Vec<u32>, leaves: u64) {
+fn set_leaves(fee: i64, order: &mut Order, account: &mut Account, notices: &mut Vec<u32>, leaves: u64) {
     order.leaves = leaves;
     if let Some(wallet) = account.wallet.as_mut() {
-        let held = hold_of(order.side, order.price, leaves);
+        let held = hold_of(fee, order.side, order.price, leaves);
         if held != order.held {
             wallet.hold(order.side, held - order.held);
             order.held = held;
@@ -151,6 +158,7 @@ impl Plain {
         let wallet = |(cash, position)| Wallet { cash, position, cash_held: 0, position_held: 0 };
         let account = |a| Account { session: Some(a), open: 0, wallet: funds(a).map(wallet) };
         Plain {
+            fee: black_box(FEE),
             accounts: (0..SESSIONS).map(account).collect(),
             last_sent: vec![0; SESSIONS],
             orders: HashMap::new(),
@@ -197,7 +205,7 @@ impl Plain {
         order.rests = true;
         order.visible = visible;
         let account = &mut self.accounts[order.account as usize];
-        set_leaves(order, account, &mut self.notices, qty);
+        set_leaves(self.fee, order, account, &mut self.notices, qty);
         let order = *order;
         self.report(seq, id, &order, Kind::Rested { side, price, qty, visible });
     }
@@ -213,10 +221,10 @@ impl Plain {
         };
         let account = &mut self.accounts[order.account as usize];
         if let Some(wallet) = account.wallet.as_mut() {
-            wallet.settle(order.side, price, qty);
+            wallet.settle(self.fee, order.side, price, qty);
             self.notices.push(order.account);
         }
-        set_leaves(order, account, &mut self.notices, leaves);
+        set_leaves(self.fee, order, account, &mut self.notices, leaves);
         let shown = order.rests.then_some((order.side, order.price));
         if order.rests {
             order.visible -= qty;
@@ -251,7 +259,7 @@ impl Plain {
         };
         let account = &mut self.accounts[order.account as usize];
         account.open -= 1;
-        set_leaves(&mut order, account, &mut self.notices, 0);
+        set_leaves(self.fee, &mut order, account, &mut self.notices, 0);
         if order.rests {
             self.show(order.side, order.price, order.visible, true);
         }
@@ -269,7 +277,7 @@ impl Column for Plain {
             let account = &mut self.accounts[session];
             account.open += 1;
             let mut order = Order { account: session as u32, side, rests: false, client_ref: now, price, leaves: 0, visible: 0, held: 0 };
-            set_leaves(&mut order, account, &mut self.notices, qty);
+            set_leaves(self.fee, &mut order, account, &mut self.notices, qty);
             self.orders.insert(self.last, order);
         }
         self.batch.push(message);

@@ -3,7 +3,7 @@
 use edge::{MAIL, Reply, STATE};
 use orderbook::{Event, Side};
 
-use crate::column::{Column, TOKEN, funds};
+use crate::column::{Column, FEE, TOKEN, funds};
 use crate::draw::{Message, Resting, SESSIONS};
 
 const LIMIT: u64 = 256;
@@ -84,12 +84,12 @@ impl Proved {
     }
 
     pub fn set_up(&mut self, last: u64, accounts: &[u8], list: &[u8]) {
-        let code = edge::set_up(&mut self.state.0, LIMIT, last, NEVER, NEVER, accounts, list);
+        let code = edge::set_up(&mut self.state.0, FEE, LIMIT, last, NEVER, NEVER, accounts, list);
         self.refused += usize::from(code != 0);
     }
 
     pub fn restore(&mut self, accounts: &[u8], bytes: &[u8]) {
-        let code = edge::restore(&mut self.state.0, LIMIT, NEVER, NEVER, accounts, bytes);
+        let code = edge::restore(&mut self.state.0, FEE, LIMIT, NEVER, NEVER, accounts, bytes);
         self.refused += usize::from(code != 0);
     }
 

@@ -8,7 +8,7 @@ use rowanchess::orderbook::{BookConfig, Event, TimeInForce};
 use rowanchess::protocol::{Inbound, NewOrder, OrderKind, Outbound, VERSION};
 use scale::library::Turn;
 
-use crate::column::{Column, TOKEN, funds};
+use crate::column::{Column, FEE, TOKEN, funds};
 use crate::draw::{Message, SESSIONS};
 
 /// Each message is made and seen; the entry points alone leave rows.
@@ -51,7 +51,7 @@ impl Wrapped {
         };
         let accounts: Vec<Account> = (0..SESSIONS as u32).map(account).collect();
         let timing = Timing { heartbeat: u64::MAX, idle_timeout: u64::MAX };
-        let exchange = Exchange::new(&BookConfig { max_owners: 256 }, &[], 0, &accounts, timing);
+        let exchange = Exchange::new(&BookConfig { max_owners: 256, fee: FEE }, &[], 0, &accounts, timing);
         let mut column = Wrapped { exchange: exchange.expect("accounts in range"), mail: Mail::default(), refused: 0 };
         for session in 0..SESSIONS {
             column.exchange.connect(session, 0).expect("a session");

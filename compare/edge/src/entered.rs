@@ -107,12 +107,12 @@ impl Entered {
         let mut state = vec![BLANK; STATE];
         let accounts = bytes(start.accounts().iter().flat_map(Words::words));
         let code = match start {
-            Start::SetUp(limit, last, _, listing, timing) => {
+            Start::SetUp(fee, limit, last, _, listing, timing) => {
                 let list = bytes(listing.iter().flat_map(words::listed));
-                crate::set_up(&mut state, u64::from(*limit), *last, timing.heartbeat, timing.idle_timeout, &accounts, &list)
+                crate::set_up(&mut state, *fee, u64::from(*limit), *last, timing.heartbeat, timing.idle_timeout, &accounts, &list)
             }
-            Start::Restore(limit, _, timing, saved) => {
-                crate::restore(&mut state, u64::from(*limit), timing.heartbeat, timing.idle_timeout, &accounts, saved)
+            Start::Restore(fee, limit, _, timing, saved) => {
+                crate::restore(&mut state, *fee, u64::from(*limit), timing.heartbeat, timing.idle_timeout, &accounts, saved)
             }
         };
         match code {

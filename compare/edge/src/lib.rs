@@ -89,8 +89,8 @@ macro_rules! kind {
 }
 
 entry_points! {
-    fn rowanchess_set_up as set_up(m: write, limit: u64, last: u64, heartbeat: u64, idle_timeout: u64, accounts: read, list: read) -> u64;
-    fn rowanchess_restore as restore(m: write, limit: u64, heartbeat: u64, idle_timeout: u64, accounts: read, bytes: read) -> u64;
+    fn rowanchess_set_up as set_up(m: write, fee: i64, limit: u64, last: u64, heartbeat: u64, idle_timeout: u64, accounts: read, list: read) -> u64;
+    fn rowanchess_restore as restore(m: write, fee: i64, limit: u64, heartbeat: u64, idle_timeout: u64, accounts: read, bytes: read) -> u64;
     fn rowanchess_last_seq as last_seq(m: read) -> Number;
     fn rowanchess_wallet as wallet(m: read, account: u32) -> Wallet;
     fn rowanchess_levels as levels(m: read, side: u64, out: write) -> Reply;

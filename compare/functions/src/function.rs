@@ -15,8 +15,9 @@ pub type Inputs = Box<dyn Iterator<Item = Words>>;
 pub const FILL: u64 = 0xA5A5_A5A5_A5A5_A5A5;
 
 /// The arguments that are read with a sign.
-const SIGNED: [&str; 9] = [
+const SIGNED: [&str; 10] = [
     "price",
+    "fee",
     "mark",
     "amount",
     "old",

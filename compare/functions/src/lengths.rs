@@ -10,10 +10,10 @@ type Call = fn(&mut [u8], &mut [u8]) -> u32;
 
 /// Each call, the length of its input, and the least length of its output; 0 for none.
 const CALLS: [(Call, u64, u64); 7] = [
-    (|_, out| rattle::hold_of(0, 0, 0, out), 0, 16),
+    (|_, out| rattle::hold_of(0, 0, 0, 0, out), 0, 16),
     (|wallet, out| rattle::covers(0, 0, wallet, out), 32, 8),
     (|wallet, _| rattle::hold(0, 0, 1, wallet), 32, 0),
-    (|wallet, _| rattle::settle(0, 1, 1, wallet), 32, 0),
+    (|wallet, _| rattle::settle(0, 0, 1, 1, wallet), 32, 0),
     (|_, out| rattle::near(0, 0, 0, out), 0, 8),
     (|bucket, out| rattle::take_token(1, 9, bucket, out), 16, 8),
     (|_, out| rattle::load(1, 0, &[7], out), 0, 8),

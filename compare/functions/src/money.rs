@@ -54,6 +54,20 @@ fn limits() -> impl Iterator<Item = Words> {
     ]))
 }
 
+/// Fees that the order names.
+const FEES: [u64; 5] = [0, 1, 250, 1 << 62, i64::MAX as u64];
+
+/// Quantities for which a sum past 64 bits, or at their end, costs nothing, itself, or too much.
+const FEW: [u64; 4] = [0, 1, 2, 3];
+
+/// A fee, and a price whose sum with it is near 0 or near a limit.
+fn with_fee(random: &mut Random) -> (u64, u64) {
+    let (named, any) = (random.pick(&FEES), random.bits() >> (1 + random.below(63)));
+    let fee = random.pick(&[named, any]);
+    let sum = random.pick(&[0, 1 << 62, 1 << 63]);
+    (fee, random.beside(sum).wrapping_sub(fee))
+}
+
 /// A price and a quantity whose product is near a limit.
 fn near_limit(random: &mut Random) -> (u64, u64) {
     let qty = random.bits() >> random.below(64);
@@ -70,23 +84,33 @@ pub struct HoldOf;
 
 impl Function for HoldOf {
     const NAME: &'static str = "hold_of";
-    const ARGS: &'static str = "side, price, leaves";
+    const ARGS: &'static str = "side, price, leaves, fee";
 
     fn inputs() -> Inputs {
         boxed(
-            listed([[0, 250, 4], [1, 250, 4], [0, i64::MAX as u64, 2]])
-                .chain(all([&SIDES, &LIMITS, &LIMITS]))
-                .chain(all([&NO_SIDES, &LIMITS, &LIMITS]))
-                .chain(random(200_000, |r| vec![r.below(2), r.word(), r.word()]))
-                .chain(random(200_000, |r| {
-                    let (price, qty) = near_limit(r);
-                    vec![r.below(2), price, qty]
-                })),
+            listed([
+                [0, 250, 4, 0],
+                [1, 250, 4, 0],
+                [0, i64::MAX as u64, 2, 0],
+                [0, 250, 4, 10],
+            ])
+            .chain(all([&SIDES, &LIMITS, &LIMITS, &FEES]))
+            .chain(all([&NO_SIDES, &LIMITS, &LIMITS, &FEES[..2]]))
+            .chain(random(200_000, |r| vec![r.below(2), r.word(), r.word(), 0]))
+            .chain(random(200_000, |r| {
+                let (price, qty) = near_limit(r);
+                vec![r.below(2), price, qty, 0]
+            }))
+            .chain(random(100_000, |r| [vec![r.below(2)], r.words(3)].concat()))
+            .chain(random(100_000, |r| {
+                let (fee, price) = with_fee(r);
+                vec![r.below(2), price, r.pick(&FEW), fee]
+            })),
         )
     }
 
     fn rust(args: &[u64]) -> Rust {
-        match side(args[0]) {
+        match side(args[0]).filter(|_| args[3] == 0) {
             Some(side) => Rust::Answer(fits(Wallet::hold_of(side, args[1] as i64, args[2]))),
             None => Rust::Lacks,
         }
@@ -94,14 +118,19 @@ impl Function for HoldOf {
 
     fn rule(args: &[u64]) -> Words {
         match side(args[0]) {
-            Some(side) => fits(rule::hold_of(side, args[1] as i64, args[2])),
+            Some(side) => fits(rule::hold_of(
+                args[3] as i64,
+                side,
+                args[1] as i64,
+                args[2],
+            )),
             None => vec![MALFORMED, FILL, FILL],
         }
     }
 
     fn rattle(args: &[u64]) -> Words {
         call(&[FILL; 2], |out| {
-            rattle::hold_of(args[0] as u32, args[1], args[2], out)
+            rattle::hold_of(args[3], args[0] as u32, args[1], args[2], out)
         })
     }
 }
@@ -251,12 +280,13 @@ pub struct Settle;
 
 impl Function for Settle {
     const NAME: &'static str = "settle";
-    const ARGS: &'static str = "side, price, qty, cash, position, cash_held, position_held";
+    const ARGS: &'static str = "side, price, qty, cash, position, cash_held, position_held, fee";
 
     fn inputs() -> Inputs {
         let mut r = Random::new();
         let held = move |mut args: Words| {
             args.extend(r.words(2));
+            args.push(0);
             args
         };
         let limits = all([&SIDES, &LIMITS, &LIMITS, &LIMITS, &LIMITS])
@@ -270,20 +300,29 @@ impl Function for Settle {
             .map(held);
         boxed(
             listed([
-                [0, 240, 2, 1000, 0, 1000, 0],
-                [0, (i64::MIN / 2) as u64, 4, 0, 0, 0, 0],
+                [0, 240, 2, 1000, 0, 1000, 0, 0],
+                [0, (i64::MIN / 2) as u64, 4, 0, 0, 0, 0, 0],
+                [0, 240, 2, 1040, 0, 1040, 0, 10],
             ])
             .chain(limits)
-            .chain(random(200_000, |r| [vec![r.below(2)], r.words(6)].concat()))
+            .chain(random(200_000, |r| {
+                [vec![r.below(2)], r.words(6), vec![0]].concat()
+            }))
             .chain(random(100_000, |r| {
                 let (price, qty) = near_limit(r);
-                [vec![r.below(2), price, qty], r.words(4)].concat()
+                [vec![r.below(2), price, qty], r.words(4), vec![0]].concat()
+            }))
+            .chain(random(100_000, |r| [vec![r.below(2)], r.words(7)].concat()))
+            .chain(random(100_000, |r| {
+                let (fee, price) = with_fee(r);
+                let args = vec![r.below(2), price, r.pick(&FEW)];
+                [args, r.words(4), vec![fee]].concat()
             })),
         )
     }
 
     fn rust(args: &[u64]) -> Rust {
-        let Some(side) = side(args[0]) else {
+        let Some(side) = side(args[0]).filter(|_| args[7] == 0) else {
             return Rust::Lacks;
         };
         let mut wallet = wallet(&args[3..]);
@@ -294,14 +333,17 @@ impl Function for Settle {
     fn rule(args: &[u64]) -> Words {
         let before = wallet(&args[3..]);
         match side(args[0]) {
-            Some(side) => leaves(0, rule::settle(side, args[1] as i64, args[2], before)),
+            Some(side) => {
+                let (fee, price) = (args[7] as i64, args[1] as i64);
+                leaves(0, rule::settle(fee, side, price, args[2], before))
+            }
             None => leaves(MALFORMED, before),
         }
     }
 
     fn rattle(args: &[u64]) -> Words {
-        call(&args[3..], |wallet| {
-            rattle::settle(args[0] as u32, args[1], args[2], wallet)
+        call(&args[3..7], |wallet| {
+            rattle::settle(args[7], args[0] as u32, args[1], args[2], wallet)
         })
     }
 }

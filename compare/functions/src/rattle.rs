@@ -1,7 +1,14 @@
 //! The proved library's entry points. A slice goes over as its address and its length.
 
 unsafe extern "C" {
-    fn entry_hold_of(side: u32, price: u64, leaves: u64, out: *mut u8, room: usize) -> u32;
+    fn entry_hold_of(
+        fee: u64,
+        side: u32,
+        price: u64,
+        leaves: u64,
+        out: *mut u8,
+        room: usize,
+    ) -> u32;
     fn entry_covers(
         side: u32,
         amount: u64,
@@ -11,7 +18,14 @@ unsafe extern "C" {
         room: usize,
     ) -> u32;
     fn entry_hold(side: u32, old: u64, new: u64, wallet: *mut u8, len: usize) -> u32;
-    fn entry_settle(side: u32, price: u64, qty: u64, wallet: *mut u8, len: usize) -> u32;
+    fn entry_settle(
+        fee: u64,
+        side: u32,
+        price: u64,
+        qty: u64,
+        wallet: *mut u8,
+        len: usize,
+    ) -> u32;
     fn entry_near(price: u64, mark: u64, percent: u32, out: *mut u8, room: usize) -> u32;
     fn entry_take_token(
         rate: u32,
@@ -35,8 +49,8 @@ unsafe extern "C" {
 // SAFETY, of each call below: every address and length are those of one live slice, and no two
 // of a call overlap.
 
-pub fn hold_of(side: u32, price: u64, leaves: u64, out: &mut [u8]) -> u32 {
-    unsafe { entry_hold_of(side, price, leaves, out.as_mut_ptr(), out.len()) }
+pub fn hold_of(fee: u64, side: u32, price: u64, leaves: u64, out: &mut [u8]) -> u32 {
+    unsafe { entry_hold_of(fee, side, price, leaves, out.as_mut_ptr(), out.len()) }
 }
 
 pub fn covers(side: u32, amount: u64, wallet: &[u8], out: &mut [u8]) -> u32 {
@@ -48,8 +62,8 @@ pub fn hold(side: u32, old: u64, new: u64, wallet: &mut [u8]) -> u32 {
     unsafe { entry_hold(side, old, new, wallet.as_mut_ptr(), wallet.len()) }
 }
 
-pub fn settle(side: u32, price: u64, qty: u64, wallet: &mut [u8]) -> u32 {
-    unsafe { entry_settle(side, price, qty, wallet.as_mut_ptr(), wallet.len()) }
+pub fn settle(fee: u64, side: u32, price: u64, qty: u64, wallet: &mut [u8]) -> u32 {
+    unsafe { entry_settle(fee, side, price, qty, wallet.as_mut_ptr(), wallet.len()) }
 }
 
 pub fn near(price: u64, mark: u64, percent: u32, out: &mut [u8]) -> u32 {

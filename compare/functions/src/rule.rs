@@ -32,13 +32,15 @@ fn saturate(exact: i128) -> i64 {
     exact.clamp(i64::MIN.into(), i64::MAX.into()) as i64
 }
 
-pub fn cost(price: i64, qty: u64) -> Option<i64> {
-    (i128::from(price) * i128::from(qty)).try_into().ok()
+/// What leaves 128 bits leaves 64.
+pub fn cost(price: i64, fee: i64, qty: u64) -> Option<i64> {
+    let exact = (i128::from(price) + i128::from(fee)).checked_mul(qty.into())?;
+    exact.try_into().ok()
 }
 
-pub fn hold_of(side: Side, price: i64, leaves: u64) -> Option<i64> {
+pub fn hold_of(fee: i64, side: Side, price: i64, leaves: u64) -> Option<i64> {
     match side {
-        Side::Buy => cost(price, leaves),
+        Side::Buy => cost(price, fee, leaves),
         Side::Sell => leaves.try_into().ok(),
     }
 }
@@ -61,12 +63,12 @@ pub fn hold(side: Side, old: i64, new: i64, mut wallet: Wallet) -> Option<Wallet
     Some(wallet)
 }
 
-pub fn settle(side: Side, price: i64, qty: u64, wallet: Wallet) -> Wallet {
-    let sign = match side {
-        Side::Buy => 1,
-        Side::Sell => -1,
+pub fn settle(fee: i64, side: Side, price: i64, qty: u64, wallet: Wallet) -> Wallet {
+    let (sign, fee) = match side {
+        Side::Buy => (1, fee),
+        Side::Sell => (-1, 0),
     };
-    let amount = cost(price, qty).unwrap_or(i64::MAX);
+    let amount = cost(price, fee, qty).unwrap_or(i64::MAX);
     let lots = i64::try_from(qty).unwrap_or(i64::MAX);
     Wallet {
         cash: saturate(i128::from(wallet.cash) - sign * i128::from(amount)),

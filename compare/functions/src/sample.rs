@@ -6,10 +6,10 @@
 //!
 //! | | function | arguments | results |
 //! |---|---|---|---|
-//! | 1 | `hold_of` | side, price, leaves | 0, fits, amount |
+//! | 1 | `hold_of` | side, price, leaves, fee | 0, fits, amount |
 //! | 2 | `covers` | side, amount, cash, position, cash held, position held | 0, covers |
 //! | 3 | `hold` | side, old, new, cash, position, cash held, position held | 0, the four after it |
-//! | 4 | `settle` | side, price, quantity, cash, position, cash held, position held | 0, the four after it |
+//! | 4 | `settle` | side, price, quantity, cash, position, cash held, position held, fee | 0, the four after it |
 //! | 5 | `near` | price, mark, percent | 0, near |
 //! | 6 | `take_token` | fresh, rate, time | 0, passes |
 //! | 7 | `load` | width, place, 16 bytes | code, value |
@@ -97,10 +97,10 @@ fn histories() -> Vec<Row> {
 
 pub fn write(file: &str) -> Result<(), String> {
     let rows = [
-        rows::<HoldOf>(1, 3, 60),
+        rows::<HoldOf>(1, 3, 90),
         rows::<Covers>(2, 2, 60),
         rows::<Hold>(3, 1, 90),
-        rows::<Settle>(4, 2, 60),
+        rows::<Settle>(4, 2, 90),
         rows::<Near>(5, 3, 70),
         histories(),
         byte_rows::<Load>(7, 2, 40),

@@ -68,9 +68,10 @@ fn lent(draw: &mut Draw) -> (Vec<u8>, usize) {
     (vec![draw.bits() as u8; STATE + 2 * MARGIN], MARGIN - draw.below(16) as usize)
 }
 
-/// A start as it is lent: limit, last number, timing, accounts, and a listing or bytes.
+/// A start as it is lent: fee, limit, last number, timing, accounts, and a listing or bytes.
 struct Beginning {
     restores: bool,
+    fee: i64,
     limit: u64,
     last: u64,
     timing: Timing,
@@ -81,20 +82,21 @@ struct Beginning {
 impl Beginning {
     fn of(start: &Start) -> Beginning {
         let accounts = bytes(start.accounts().iter().flat_map(Words::words));
-        let limit = u64::from(start.limit());
+        let (fee, limit) = (start.fee(), u64::from(start.limit()));
         match start {
-            Start::SetUp(_, last, _, listing, timing) => {
+            Start::SetUp(_, _, last, _, listing, timing) => {
                 let rest = bytes(listing.iter().flat_map(words::listed));
-                Beginning { restores: false, limit, last: *last, timing: *timing, accounts, rest }
+                Beginning { restores: false, fee, limit, last: *last, timing: *timing, accounts, rest }
             }
-            Start::Restore(_, _, timing, saved) => {
-                Beginning { restores: true, limit, last: 0, timing: *timing, accounts, rest: saved.clone() }
+            Start::Restore(_, _, _, timing, saved) => {
+                Beginning { restores: true, fee, limit, last: 0, timing: *timing, accounts, rest: saved.clone() }
             }
         }
     }
 
     fn damage(&mut self, draw: &mut Draw) {
-        match draw.below(6) {
+        match draw.below(7) {
+            6 => self.fee = damage::number(draw) as i64,
             0 => self.limit = damage::number(draw),
             1 => self.last = damage::number(draw),
             2 => damage::bytes(draw, &mut self.accounts),
@@ -108,18 +110,18 @@ impl Beginning {
         let accounts = rows::accounts(&self.accounts).filter(|_| state == STATE).ok_or(11)?;
         let limit = u32::try_from(self.limit).unwrap_or(u32::MAX);
         Model::start(&if self.restores {
-            Start::Restore(limit, accounts, self.timing, self.rest.clone())
+            Start::Restore(self.fee, limit, accounts, self.timing, self.rest.clone())
         } else {
-            Start::SetUp(limit, self.last, accounts, rows::listing(&self.rest).ok_or(11)?, self.timing)
+            Start::SetUp(self.fee, limit, self.last, accounts, rows::listing(&self.rest).ok_or(11)?, self.timing)
         })
     }
 
     fn enter(&self, m: &mut [u8]) -> u64 {
         let Timing { heartbeat, idle_timeout } = self.timing;
         if self.restores {
-            edge::restore(m, self.limit, heartbeat, idle_timeout, &self.accounts, &self.rest)
+            edge::restore(m, self.fee, self.limit, heartbeat, idle_timeout, &self.accounts, &self.rest)
         } else {
-            edge::set_up(m, self.limit, self.last, heartbeat, idle_timeout, &self.accounts, &self.rest)
+            edge::set_up(m, self.fee, self.limit, self.last, heartbeat, idle_timeout, &self.accounts, &self.rest)
         }
     }
 
@@ -263,7 +265,7 @@ impl Fuzz<'_> {
             return Err(format!("order_section gives {given}, not {section}"));
         }
         let accounts = model.members.values().map(|member| member.account).collect();
-        let start = Start::Restore(model.limit, accounts, model.timing, saved);
+        let start = Start::Restore(self.draw.any_fee(), model.limit, accounts, model.timing, saved);
         self.begin(&Beginning::of(&start), STATE).map(drop)
     }
 

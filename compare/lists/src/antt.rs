@@ -184,11 +184,11 @@ impl Antt for Seen {
 impl Antt for Start {
     fn antt(&self) -> String {
         match self {
-            Start::SetUp(limit, last, accounts, listing, timing) => {
-                format!("set-up {limit} {last} {} {} {}", list(accounts), list(listing), timing.antt())
+            Start::SetUp(fee, limit, last, accounts, listing, timing) => {
+                format!("set-up {} {limit} {last} {} {} {}", fee.antt(), list(accounts), list(listing), timing.antt())
             }
-            Start::Restore(limit, accounts, timing, bytes) => {
-                format!("restore {limit} {} {} {}", list(accounts), timing.antt(), list(bytes))
+            Start::Restore(fee, limit, accounts, timing, bytes) => {
+                format!("restore {} {limit} {} {} {}", fee.antt(), list(accounts), timing.antt(), list(bytes))
             }
         }
     }

@@ -1,6 +1,7 @@
 //! Prints random lists of calls with what the Rust's `Exchange` made of them, as a file for the checker:
 //! `lists SEED COUNT [THEME]`, with a theme of 0 to 4, or 5 to 8 for lists that come to a limit; without one the first five take turns.
-//! `lists --play CALLS SEED COUNT [THEME]` prints a file for the program `player`, with the named calls only (`connect,tick,..`).
+//! `lists --play CALLS SEED COUNT [THEME]` prints a file for the program `player`, with the named calls only (`connect,tick,..`), and
+//! `lists --play CALLS --fee FEE SEED COUNT [THEME]` one whose lists have that fee: the model answers, since the Rust knows no fee.
 
 mod antt;
 mod play;
@@ -8,6 +9,7 @@ mod play;
 use std::io::Write;
 
 use calls::bytes::{decode, encode};
+use calls::depth::Resting;
 use calls::draw::{Limit, Theme};
 use calls::{Call, Draw, Gateway, Model, Published, Seen, Start};
 use gateway::accounts::Account;
@@ -36,29 +38,32 @@ enum Again {
     Finish(Call),
 }
 
+/// Places enough for any call.
+const PLENTY: usize = usize::MAX;
+
 /// A second gateway, restored from a checkpoint of the first.
-struct Second {
+struct Second<G> {
     /// The checkpoint's last number.
     saved: u64,
     model: Model,
-    published: Published,
+    decides: G,
 }
 
-impl Second {
-    fn start(start: &Start) -> Option<Second> {
-        let (model, published) = (Model::start(start).ok()?, Published::start(start).ok()?);
-        Some(Second { saved: model.last, model, published })
+impl<G: Gateway> Second<G> {
+    fn start(start: &Start) -> Option<Second<G>> {
+        let (model, decides) = (Model::start(start).ok()?, G::start(start).ok()?);
+        Some(Second { saved: model.last, model, decides })
     }
 
     /// Makes the call, unless document 01 refuses it.
     fn feed(&mut self, call: &Call) -> bool {
-        let passes = self.model.code(call).is_ok() && self.published.call(call, 0).is_some();
-        passes && self.model.call(call, 0).is_some()
+        let passes = self.model.code(call).is_ok() && self.decides.call(call, PLENTY).is_some();
+        passes && self.model.call(call, PLENTY).is_some()
     }
 
-    fn agrees(&self, first: &Published) -> bool {
-        let same = |account: u32| self.published.wallet(account) == first.wallet(account);
-        self.published.last_seq() == first.last_seq() && (0..self.model.limit).all(same)
+    fn agrees(&self, first: &G) -> bool {
+        let same = |account: u32| self.decides.wallet(account) == first.wallet(account);
+        self.decides.last_seq() == first.last_seq() && (0..self.model.limit).all(same)
     }
 }
 
@@ -82,8 +87,15 @@ fn remark(model: &Model, call: &Call) -> Option<String> {
     model.code(call).is_ok().then(|| format!("trade {kind}"))
 }
 
-/// Draws a list. A checkpoint taken last is left in `saved` with the accounts of its moment.
-fn list(draw: &mut Draw, saved: &mut Option<(Vec<Account>, Checkpoint)>) -> List {
+/// A checkpoint, with the accounts of its moment.
+type Saved = (Vec<Account>, Checkpoint);
+
+/// Draws a list whose answers are the Rust's, or with a fee the model's. A checkpoint taken last is left in `saved`.
+fn list(draw: &mut Draw, saved: &mut Option<Saved>) -> List {
+    if draw.fee == 0 { list_by::<Published>(draw, saved) } else { list_by::<Model>(draw, saved) }
+}
+
+fn list_by<G: Gateway + Resting>(draw: &mut Draw, saved: &mut Option<Saved>) -> List {
     let start = draw.start(saved);
     let mut list = List { start, calls: Vec::new(), seen: Vec::new(), second: Vec::new(), remarks: Vec::new() };
     let mut model = match Model::start(&list.start) {
@@ -93,11 +105,11 @@ fn list(draw: &mut Draw, saved: &mut Option<(Vec<Account>, Checkpoint)>) -> List
             return list;
         }
     };
-    let Ok(mut published) = Published::start(&list.start) else {
+    let Ok(mut decides) = G::start(&list.start) else {
         eprintln!("the Rust panics at the start");
         return list;
     };
-    let mut second: Option<Second> = None;
+    let mut second: Option<Second<G>> = None;
     let most = draw.theme.calls(draw.only.is_some());
     for at in 0.. {
         if at == most && !matches!(draw.theme, Theme::Full(_)) && draw.chance(30) {
@@ -106,12 +118,12 @@ fn list(draw: &mut Draw, saved: &mut Option<(Vec<Account>, Checkpoint)>) -> List
         if at >= most && draw.planned.is_empty() {
             break;
         }
-        let call = draw.call(&model, &published);
+        let call = draw.call(&model, &decides);
         list.remarks.extend(remark(&model, &call));
         let ours = model.code(&call).map_or_else(Seen::Code, |()| model.sees(&call));
         // The Rust has no such limit, and finds no number behind the greatest.
         let full = ours.rejects(RejectCode::Unavailable);
-        let seen = if ours.is_refusal() || full { Some(ours) } else { published.call(&call, 0) };
+        let seen = if ours.is_refusal() || full { Some(ours) } else { decides.call(&call, PLENTY) };
         let Some(seen) = seen else {
             eprintln!("the Rust panics in {}", antt::call(&call, 99));
             break;
@@ -126,11 +138,11 @@ fn list(draw: &mut Draw, saved: &mut Option<(Vec<Account>, Checkpoint)>) -> List
         list.calls.push((call.clone(), if many { places.max(999) } else { places }));
         if !refused && !full {
             let before = model.last;
-            model.call(&call, usize::MAX);
+            model.call(&call, PLENTY);
             draw.plan_after(&call, &model);
             if let (Some(item), Some(gateway)) = (model.item(&call, before), &mut second) {
                 if gateway.feed(&item) {
-                    assert!(gateway.agrees(&published), "the Rust's second gateway differs");
+                    assert!(gateway.agrees(&decides), "the second gateway differs");
                     list.second.push((list.calls.len(), Again::Item(item)));
                 } else {
                     // An event of a command from before the checkpoint, which 01 leaves out.
@@ -143,20 +155,22 @@ fn list(draw: &mut Draw, saved: &mut Option<(Vec<Account>, Checkpoint)>) -> List
         if full && model.last == u64::MAX {
             break;
         }
-        if let (Call::Checkpoint, Some(bytes)) = (&call, published.checkpoint()) {
+        if let (Call::Checkpoint, Some(bytes)) = (&call, decides.checkpoint()) {
             let checkpoint = decode(&bytes).expect("a checkpoint");
             let accounts: Vec<Account> = model.members.values().map(|member| member.account).collect();
             if draw.restarts() && !refused {
                 let timing = draw.timing();
-                for _ in 0..2 {
+                // A fee below 0 is judged before the bytes.
+                for fee in [draw.fee, -draw.fee] {
                     let (damage, bytes) = draw.damage(&checkpoint);
                     list.remarks.push(format!("damaged {damage}"));
-                    let start = Start::Restore(model.limit, accounts.clone(), timing, bytes);
-                    list.second.push((list.calls.len(), Again::Restore(start, 11)));
+                    let start = Start::Restore(fee, model.limit, accounts.clone(), timing, bytes);
+                    let code = Model::start(&start).err().expect("a refusal");
+                    list.second.push((list.calls.len(), Again::Restore(start, code)));
                 }
-                let start = Start::Restore(model.limit, accounts.clone(), timing, encode(&checkpoint));
+                let start = Start::Restore(draw.fee, model.limit, accounts.clone(), timing, encode(&checkpoint));
                 second = Second::start(&start);
-                assert!(second.as_ref().is_some_and(|second| second.agrees(&published)), "the Rust's checkpoint differs");
+                assert!(second.as_ref().is_some_and(|second| second.agrees(&decides)), "the checkpoint differs");
                 list.second.push((list.calls.len(), Again::Restore(start, 0)));
             }
             *saved = Some((accounts, checkpoint));
@@ -251,9 +265,11 @@ fn main() {
     let mut words: Vec<String> = std::env::args().skip(1).collect();
     let plays = words.first().is_some_and(|word| word == "--play");
     let only = plays.then(|| words.drain(..2).nth(1).expect("names of calls").split(',').map(str::to_owned).collect());
+    let charges = words.first().is_some_and(|word| word == "--fee");
+    let fee = if charges { words.drain(..2).nth(1).expect("a fee").parse().expect("a number") } else { 0 };
     let args: Vec<u64> = words.iter().map(|arg| arg.parse().expect("a number")).collect();
     std::panic::set_hook(Box::new(|_| {}));
     let mut draw = Draw::new(args[0]);
-    draw.only = only;
+    (draw.only, draw.fee) = (only, fee);
     if plays { play(&args, &mut draw) } else { print(&args, &mut draw) }
 }

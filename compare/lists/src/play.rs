@@ -67,8 +67,8 @@ impl File {
     pub fn start(&mut self, start: &Start, code: u8, second: bool) {
         let none = Vec::new();
         let (number, limit, last, timing, accounts, listing, saved) = match start {
-            Start::SetUp(limit, last, accounts, listing, timing) => (0, limit, *last, timing, accounts, listing, Vec::new()),
-            Start::Restore(limit, accounts, timing, bytes) => (20, limit, 0, timing, accounts, &none, bytes.clone()),
+            Start::SetUp(_, limit, last, accounts, listing, timing) => (0, limit, *last, timing, accounts, listing, Vec::new()),
+            Start::Restore(_, limit, accounts, timing, bytes) => (20, limit, 0, timing, accounts, &none, bytes.clone()),
         };
         let gateway = if second && code == 0 {
             Whose::Both
@@ -78,7 +78,8 @@ impl File {
             Whose::First
         };
         let rows = if number == 0 { listing.len() } else { saved.len() };
-        let parts: &[&dyn Words] = &[&u64::from(code), &rows, &accounts.len(), limit, &last, &timing.heartbeat, &timing.idle_timeout];
+        let parts: &[&dyn Words] =
+            &[&u64::from(code), &rows, &accounts.len(), limit, &last, &timing.heartbeat, &timing.idle_timeout, &start.fee()];
         self.words.extend(row::<CALL>(&[gateway.number(number), 0], parts));
         for account in accounts {
             self.words.extend(row::<CALL>(&[], &[account]));

@@ -4,18 +4,18 @@ use std::collections::BTreeMap;
 
 use calls::depth::{CHANGED, LEVELS, ORDERS};
 use calls::names;
-use calls::state::{BATCH, FLIGHTS, LIVE, NOTICES, OWNERS, SESSIONS, TRADES};
+use calls::state::{BATCH, FLIGHTS, LIVE, NOTICES, OWNERS, SESSIONS, TRADES, cost};
 use calls::{Answer, Call, Mail, Model, Seen, Start};
-use orderbook::Side;
-use protocol::RejectCode;
+use orderbook::{Event, Side};
+use protocol::{Inbound, NewOrder, OrderKind, RejectCode};
 
 #[derive(Default)]
 pub struct Coverage(BTreeMap<String, u64>);
 
 /// Calls, and the codes that document 01 has for them; 0 is an accepted one.
 const CODES: [(&str, &[u8]); 21] = [
-    ("set-up", &[0, 1, 2, 5, 7, 8]),
-    ("restore", &[0, 1, 2, 5, 7, 11]),
+    ("set-up", &[0, 1, 2, 5, 7, 8, 15]),
+    ("restore", &[0, 1, 2, 5, 7, 11, 15]),
     ("add-account", &[0, 1, 3, 12]),
     ("connect", &[0, 9]),
     ("set-paper-collar", &[0]),
@@ -37,7 +37,7 @@ const CODES: [(&str, &[u8]); 21] = [
     ("checkpoint", &[0, 6, 10]),
 ];
 
-const KINDS: [(&str, &[&str]); 13] = [
+const KINDS: [(&str, &[&str]); 15] = [
     (
         "receive",
         &[
@@ -79,6 +79,8 @@ const KINDS: [(&str, &[&str]); 13] = [
             "64 sessions",
         ],
     ),
+    ("charged at entry", &CHARGES),
+    ("charged in a trade", &CHARGES),
     ("no room", &["deliver: orders", "deliver: levels", "deliver: trades", "deliver: notices", "deliver: changed levels"]),
     (
         "no room",
@@ -96,6 +98,9 @@ const KINDS: [(&str, &[&str]); 13] = [
         ],
     ),
 ];
+
+/// What a buyer is charged for an order or a fill where there is a fee.
+const CHARGES: [&str; 6] = ["an amount", "less than nothing", "nothing", "too much in all", "too much for a seat", "too much for a seat, and for none"];
 
 const EVENTS: [&str; 11] = [
     "Accepted",
@@ -143,7 +148,10 @@ impl Coverage {
         if let Some(given) = names::given(call) {
             self.meets(given);
         }
-        if let Some(table) = before.0.filter(|_| code == 5 || seen.rejects(RejectCode::Unavailable)) {
+        if let Some(charge) = before.charge.as_ref().filter(|_| code == 0) {
+            self.meets(charge);
+        }
+        if let Some(table) = before.table.filter(|_| code == 5 || seen.rejects(RejectCode::Unavailable)) {
             let name = match call {
                 Call::Receive(..) => "entry",
                 Call::Deliver(..) => "deliver",
@@ -195,18 +203,47 @@ impl Coverage {
     }
 }
 
-/// The limit that refuses a call, told by the state before it.
-pub struct Reasons(Option<&'static str>);
+/// What a wallet is charged for a buy, where there is a fee.
+fn charge(model: &Model, call: &Call) -> Option<String> {
+    let (place, price, qty) = match *call {
+        Call::Receive(session, Inbound::NewOrder(NewOrder { side: Side::Buy, qty, kind: OrderKind::Limit { price, .. }, .. }), _) => {
+            model.account_of(session).filter(|&account| model.has_wallet(account))?;
+            ("at entry", price, qty)
+        }
+        Call::Deliver(_, Event::Trade { taker, maker, price, qty, .. }) => {
+            let pays = |id| model.live.get(&id).is_some_and(|live| live.side == Side::Buy && model.has_wallet(live.account));
+            (pays(taker) || pays(maker)).then_some(("in a trade", price, qty))?
+        }
+        _ => return None,
+    };
+    let sum = i128::from(price) + i128::from(model.fee);
+    let charge = match cost(price, model.fee, qty) {
+        None if i64::try_from(sum).is_ok() => "too much in all",
+        None => "too much for a seat",
+        Some(_) if i64::try_from(sum).is_err() => "too much for a seat, and for none",
+        Some(0) => "nothing",
+        Some(..0) => "less than nothing",
+        Some(_) => "an amount",
+    };
+    (model.fee > 0).then(|| format!("charged {place} {charge}"))
+}
+
+/// The limit that refuses a call, and what it charges, told by the state before it.
+pub struct Reasons {
+    table: Option<&'static str>,
+    charge: Option<String>,
+}
 
 impl Reasons {
     pub fn of(model: &Model, call: &Call) -> Reasons {
-        Reasons(match call {
+        let table = match call {
             Call::Receive(session, message, _) => model.account_of(*session).and_then(|account| model.no_room_for(account, message)),
             Call::Disconnect(_) => model.full(),
             Call::Deliver(number, event) if model.code(call) == Err(5) => model.no_room(*number, event),
             Call::ReplayCommand(..) if model.flights.len() >= FLIGHTS => Some("in flight"),
             Call::ReplayCommand(..) => Some("live orders"),
             _ => None,
-        })
+        };
+        Reasons { table, charge: charge(model, call) }
     }
 }

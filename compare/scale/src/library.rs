@@ -161,13 +161,12 @@ impl Library {
 /// It lends its own lists, which are long enough, and takes no notice of the room.
 impl Gateway for Library {
     fn start(start: &Start) -> Result<Library, u8> {
+        let book = rowanchess::orderbook::BookConfig { max_owners: start.limit(), fee: start.fee() };
         let made = match start {
-            Start::SetUp(limit, last, accounts, listing, timing) => {
-                let book = rowanchess::orderbook::BookConfig { max_owners: *limit };
+            Start::SetUp(_, _, last, accounts, listing, timing) => {
                 Exchange::new(&book, &all(listing), *last, &all(accounts), timing.turn())
             }
-            Start::Restore(limit, accounts, timing, bytes) => {
-                let book = rowanchess::orderbook::BookConfig { max_owners: *limit };
+            Start::Restore(_, _, accounts, timing, bytes) => {
                 let (accounts, timing) = (all(accounts), timing.turn());
                 // From the value too, where it has one.
                 match decode(bytes).filter(|saved| saved.seq % 2 == 0) {

@@ -119,7 +119,7 @@ impl List<'_> {
             let at = self.draw.below(damaged.len() as u64) as usize;
             damaged[at] ^= 1 << self.draw.below(8);
         }
-        let start = Start::Restore(limit, play.accounts(), timing, damaged);
+        let start = Start::Restore(self.draw.any_fee(), limit, play.accounts(), timing, damaged);
         if let Some(Seen::Code(code)) = self.step(play, Step::Begin(start.clone()))? {
             self.tally.coverage.start(&start, code);
         }

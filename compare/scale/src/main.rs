@@ -13,9 +13,9 @@ use scale::source::test;
 use scale::spread::spread;
 
 fn counted(name: &str, counts: &Counts) {
-    let Counts { calls, with_rust, refused, alone, panics, replays, untracked, checkpoints, drained } = counts;
+    let Counts { calls, with_rust, refused, alone, panics, replays, untracked, charged, checkpoints, drained } = counts;
     println!("{name}: {calls} calls, {with_rust} with the published Rust, {refused} refused, {alone} by the model alone");
-    println!("  the Rust left {panics} lists by a panic, {replays} after a replay, {untracked} at `Unavailable`");
+    println!("  the Rust left {panics} lists by a panic, {replays} after a replay, {untracked} at `Unavailable`; {charged} had a fee");
     println!("  {checkpoints} checkpoints compared, {drained} states drained for their live orders");
 }
 

@@ -167,6 +167,12 @@ pub fn start(draw: &mut Draw, near: Near) -> Start {
     draw.planned.clear();
     draw.wide = matches!(near, Near::Accounts | Near::Sessions);
     draw.theme = draw.pick(&[Theme::Money, Theme::Market]);
+    draw.fee = match near {
+        Near::Totals => draw.any_fee(),
+        // One that lets the wallets pay for all that is planned.
+        _ if draw.chance(25) => draw.small_fee(),
+        _ => 0,
+    };
     let count = match near {
         Near::Accounts | Near::Sessions => OWNERS - 1 - draw.below(5) as u32,
         _ => 4,
@@ -182,12 +188,12 @@ pub fn start(draw: &mut Draw, near: Near) -> Start {
             } else {
                 plan(draw, near, last, &[]);
             }
-            Start::Restore(limit, accounts, SILENCE, saved)
+            Start::Restore(draw.fee, limit, accounts, SILENCE, saved)
         }
         _ => {
             let listing = listing(draw, near);
             plan(draw, near, last, &listing);
-            Start::SetUp(limit, last, accounts, listing, SILENCE)
+            Start::SetUp(draw.fee, limit, last, accounts, listing, SILENCE)
         }
     }
 }

@@ -93,7 +93,7 @@ impl Play {
     fn restart(&mut self, timing: Timing) -> Result<(), String> {
         let Some(bytes) = self.sides.model.checkpoint() else { return Ok(()) };
         self.leave();
-        let start = Start::Restore(self.sides.model.limit, self.accounts(), timing, bytes);
+        let start = Start::Restore(self.sides.model.fee, self.sides.model.limit, self.accounts(), timing, bytes);
         let sides = Sides::start(&start)?.map_err(|code| format!("a checkpoint is refused with {code}"))?;
         let second = Second { saved: sides.model.last, sides };
         self.sides.same_ledger(&second.sides, second.saved)?;

@@ -33,10 +33,10 @@ pub fn shrink(start: &Start, steps: &[Step]) -> (Start, Vec<Step>) {
     let until = Instant::now() + PATIENCE;
     let steps = shorter(steps, until, |steps| differs(start, steps));
     let start = match start {
-        Start::SetUp(limit, last, accounts, listing, timing) => {
-            let with = |listing: &[calls::Listed]| Start::SetUp(*limit, *last, accounts.clone(), listing.to_vec(), *timing);
+        Start::SetUp(fee, limit, last, accounts, listing, timing) => {
+            let with = |listing: &[calls::Listed]| Start::SetUp(*fee, *limit, *last, accounts.clone(), listing.to_vec(), *timing);
             let listing = shorter(listing, until, |listing| differs(&with(listing), &steps));
-            let with = |accounts: &[_]| Start::SetUp(*limit, *last, accounts.to_vec(), listing.clone(), *timing);
+            let with = |accounts: &[_]| Start::SetUp(*fee, *limit, *last, accounts.to_vec(), listing.clone(), *timing);
             with(&shorter(accounts, until, |accounts| differs(&with(accounts), &steps)))
         }
         Start::Restore(..) => start.clone(),

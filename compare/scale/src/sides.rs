@@ -26,6 +26,8 @@ pub struct Counts {
     pub panics: u64,
     pub replays: u64,
     pub untracked: u64,
+    /// Lists with a fee, which the Rust does not know.
+    pub charged: u64,
     /// Checkpoints compared, and states drained for their live orders.
     pub checkpoints: u64,
     pub drained: u64,
@@ -41,6 +43,7 @@ impl Counts {
             &mut self.panics,
             &mut self.replays,
             &mut self.untracked,
+            &mut self.charged,
             &mut self.checkpoints,
             &mut self.drained,
         ];
@@ -52,6 +55,7 @@ impl Counts {
             other.panics,
             other.replays,
             other.untracked,
+            other.charged,
             other.checkpoints,
             other.drained,
         ];
@@ -101,8 +105,9 @@ impl Sides {
         differ("start", &code, &entered.as_ref().err().copied(), "the entry point")?;
         let (Ok(model), Ok(library), Ok(entered)) = (model, library, entered) else { return Ok(Err(code.expect("refused"))) };
         let mut counts = Counts::default();
-        let published = match Published::start(start) {
-            Ok(published) => Some(published),
+        counts.charged += u64::from(start.fee() != 0);
+        let published = match (start.fee() == 0).then(|| Published::start(start)).transpose() {
+            Ok(published) => published,
             Err(0) => {
                 counts.panics += 1;
                 None

@@ -93,8 +93,10 @@ fn applied(name: &str, parts: &[&dyn Source]) -> String {
 impl Source for Start {
     fn source(&self) -> String {
         match self {
-            Start::SetUp(limit, last, accounts, listing, timing) => applied("Start::SetUp", &[limit, last, accounts, listing, timing]),
-            Start::Restore(limit, accounts, timing, bytes) => applied("Start::Restore", &[limit, accounts, timing, bytes]),
+            Start::SetUp(fee, limit, last, accounts, listing, timing) => {
+                applied("Start::SetUp", &[fee, limit, last, accounts, listing, timing])
+            }
+            Start::Restore(fee, limit, accounts, timing, bytes) => applied("Start::Restore", &[fee, limit, accounts, timing, bytes]),
         }
     }
 }

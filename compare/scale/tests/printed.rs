@@ -11,7 +11,7 @@ use scale::Step;
 
 #[test]
 fn a_wallet_covers_all_that_it_has() {
-    let start = Start::SetUp(4, 6, vec![Account { id: 0, token: 7, max_open_orders: 9, messages_per_second: 9, funds: Some(Funds { cash: 1484, position: 1 }) }], vec![], Timing { heartbeat: 4, idle_timeout: 12 });
+    let start = Start::SetUp(0, 4, 6, vec![Account { id: 0, token: 7, max_open_orders: 9, messages_per_second: 9, funds: Some(Funds { cash: 1484, position: 1 }) }], vec![], Timing { heartbeat: 4, idle_timeout: 12 });
     let steps = vec![
         Step::Make(Call::Connect(1, 5000000021), 0),
         Step::Make(Call::Receive(1, Inbound::Login { version: 1, account: 0, token: 7 }, 5000000024), 4),
