@@ -207,7 +207,7 @@ fn print(args: &[u64], draw: &mut Draw) {
     let words: Vec<String> = args.iter().map(u64::to_string).collect();
     print!("{}", include_str!("head.txt").replace("ARGS", &words.join(" ")));
     let (count, mut saved) = (args[1] as usize, None);
-    let (mut rows, mut lemmas) = (String::new(), String::new());
+    let mut rows = String::new();
     for at in 0..count {
         draw.theme = Theme::of(at, args.get(2));
         let list = list(draw, &mut saved);
@@ -217,11 +217,8 @@ fn print(args: &[u64], draw: &mut Draw) {
         println!("abbrev calls-{at} : List Call\ncalls-{at} =\n{}\n", terms(calls));
         println!("abbrev seen-{at} : List Seen\nseen-{at} =\n{}\n", terms(list.seen.iter().map(Antt::antt).collect()));
         rows += &format!("(run-from start-{at} calls-{at}, seen-{at}) ∷ ");
-        lemmas += &format!("\n    row-{at} : run-from start-{at} calls-{at} ≡ seen-{at}\n    row-{at} = refl\n");
     }
-    let proof = (0..count).rev().fold("tt".to_owned(), |rest, at| format!("(row-{at}, {rest})"));
-    let foot = include_str!("foot.txt").replace("ROWS", &wrapped(&(rows + "[]")));
-    print!("{}", foot.replace("PROOF", &proof).replace("LEMMAS", lemmas.strip_prefix('\n').unwrap_or_default()));
+    print!("{}", include_str!("foot.txt").replace("ROWS", &wrapped(&(rows + "[]"))));
 }
 
 /// The file for the player, and what it meets. Where themes take turns, the last two lists come to limits.

@@ -1,6 +1,7 @@
 -- All examples of document 01 marked P, with no fee, and one with a fee (02, order 7): beside what the definitions give, what the paper says.
 use Prim.Native.Nat.{ℕ}
 use mathlib.Core.Bool.{Bool, true, false, cond}
+use mathlib.Core.Path.{_≡_}
 use mathlib.Core.List.{List, [], _∷_, map}
 use lib.ListN.{replicate}
 use mathlib.Core.Option.{Option, none, some}
@@ -62,7 +63,7 @@ abbrev first : Tests RejectCode → List ℤ
 first [] = []
 first (t ∷ ts) = cond (t .1) (first ts) (pos (rejectCode (t .0)) ∷ [])
 
-abbrev pub table : List (List ℤ × List ℤ)
+abbrev table : List (List ℤ × List ℤ)
 table =
     (throttle 2 499999999, pos 0 ∷ pos 999999998 ∷ [])
     ∷ (throttle 2 500000000, pos 1 ∷ pos 0 ∷ [])
@@ -80,3 +81,7 @@ table =
     ∷ (W.settle Buy (negsuc 4611686018427387903) 4 (record { cash = pos 0; position = pos 0 }) .cash ∷ [], negsuc 9223372036854775806 ∷ [])
     ∷ (map pos (encode (record { last = 0; mark = None; wallets = []; orders = [] })), replicate 25 (pos 0))
     ∷ []
+
+-- what the definitions give is what the paper says, row by row
+abbrev pub Examples : Type 0
+Examples = map (λ row. row .0) table ≡ map (λ row. row .1) table

@@ -5,6 +5,7 @@ use orderbook::Side;
 use risk::Bucket;
 use wallet::Changed;
 use wallet::Wallet;
+ghost use Rattle.examples.specs.Table.{Examples};
 
 fn text(s: &[u8]) {
     io::write_all(STDOUT_FILENO, s);
@@ -112,6 +113,11 @@ fn cover() {
     flag(w.covers(Side::Buy, 1000));
     text(b"\n");
 }
+
+// The examples marked P hold. Nothing calls this: it is here for its proof.
+pub fn claims()
+    ensures { λ r. ⌜ Examples ⌝ }
+{}
 
 fn main() {
     throttle(2, 499999999);

@@ -18,7 +18,8 @@ use Rattle.gateway.specs.Limits.{most-orders, most-levels, most-changed}
 use Rattle.gateway.specs.Ledger.{same-side}
 use Rattle.gateway.specs.Depth.{Resting, Level, Depth, same-price, better, joined, levels, level-in, quantities-fit, levels-fit, levels-few, depth-few}
 use Rattle.gateway.proofs.Base.{split}
-use Rattle.gateway.proofs.Counted.{Best, better-trans, joins}
+use Rattle.gateway.specs.Claims.{Best}
+use Rattle.gateway.proofs.Counted.{better-trans, joins}
 use Rattle.gateway.proofs.Levels.{Peopled, reshown, same-itself, better-apart, better-differs, one, more, at-level, before-level, after-level, compared}
 use Rattle.words.specs.Words.{modulus}
 

@@ -42,19 +42,24 @@ use Rattle.gateway.proofs.Restore.{Accounts, nothing-saved, by-slot-len
 use Rattle.gateway.specs.Table.{Rises}
 use Rattle.gateway.specs.Invariant.{CoreOk, FeedOk, Known, Ok, OrderFits, Owned, RestOk, SessionsOk, WalletFits, WalletsFit, at}
 
-abbrev pub Begins : ℤ → ℕ → List Account → Started → Type 0
-Begins fee limit l (not-started k) = Unit {0}
-Begins fee limit l (started g) = Ok g × Accounts fee limit l (g .core)
+-- what holds of the gateway that begins, where one does
+abbrev pub Begins : (Gateway → Type 0) → Started → Type 0
+Begins P (not-started k) = Unit {0}
+Begins P (started g) = P g
 
-start-begins : (fee : ℤ) (limit : ℕ) (l : List Account) (g : Gateway) (ts : Tests ℕ) → (Pass ts → Begins fee limit l (started g)) → Begins fee limit l (start-unless ts g)
+start-begins : (P : Gateway → Type 0) (g : Gateway) (ts : Tests ℕ) → (Pass ts → P g) → Begins P (start-unless ts g)
 unfolding start-unless
-start-begins fee limit l g [] h = h tt
-start-begins fee limit l g (t ∷ ts) h =
-    split (λ b. Begins fee limit l (cond b (start-unless ts g) (not-started (t .0)))) (t .1) (λ e. start-begins fee limit l g ts (λ u. h (e, u))) (λ e. tt)
+start-begins P g [] h = h tt
+start-begins P g (t ∷ ts) h =
+    split (λ b. Begins P (cond b (start-unless ts g) (not-started (t .0)))) (t .1) (λ e. start-begins P g ts (λ u. h (e, u))) (λ e. tt)
 
-charging-begins : (fee : ℤ) (limit : ℕ) (l : List Account) (s : Started) → (leZ (pos 0) fee ≡ true → Begins fee limit l s) → Begins fee limit l (charging fee s)
+charging-begins : (P : Gateway → Type 0) (fee : ℤ) (s : Started) → (leZ (pos 0) fee ≡ true → Begins P s) → Begins P (charging fee s)
 unfolding charging
-charging-begins fee limit l s h = split (λ b. Begins fee limit l (cond b s (not-started bad-fee))) (leZ (pos 0) fee) h (λ e. tt)
+charging-begins P fee s h = split (λ b. Begins P (cond b s (not-started bad-fee))) (leZ (pos 0) fee) h (λ e. tt)
+
+-- it has the accounts and the fee
+abbrev pub Given : ℤ → ℕ → List Account → Gateway → Type 0
+Given fee limit l g = Accounts fee limit l (g .core)
 
 -- ---- accounts
 
@@ -166,10 +171,10 @@ listed-fit [] h = tt
 listed-fit (x ∷ xs) h = each-insert number-of OrderFits (live x) (listed-orders xs) (live-fits x (h .0)) (listed-fit xs (h .1))
 
 pub set-up-begins : (fee : ℤ) (limit last : ℕ) (l : List Account) (xs : List Listed) (timing : Timing) → Unsigned last → AccountsFit l → ListingFits xs →
-    Begins fee limit l (set-up fee limit last l xs timing)
+    Begins Ok (set-up fee limit last l xs timing)
 unfolding set-up
 set-up-begins fee limit last l xs timing f a x =
-    charging-begins fee limit l _ λ charge. start-begins fee limit l _ (set-up-tests fee limit last l xs) λ p.
+    charging-begins Ok fee _ λ charge. start-begins Ok _ (set-up-tests fee limit last l xs) λ p.
     let u = pass-append (entry-tests limit last l xs) (total-tests fee limit last l xs) p in
     let t = u .0 in
     let v = u .1 in
@@ -177,26 +182,36 @@ set-up-begins fee limit last l xs timing f a x =
     let es = each-listed _ xs (listed-pass limit last xs (listed-orders xs) (t .1 .1 .1)) in
     let ds = distinct xs (each-once xs xs limit last es) in
     let m : limit ≤ owner-slots = leb-true limit owner-slots (t .0) in
-    let few : length xs ≤ most-orders = leb-true (length xs) most-orders (t .1 .0) in (
-      record {
-        core-is =
-            record {
-              slots = by-slot-length funds-in owner-slots (accounts-of limit l);
-              owned = by-slot-owned (accounts-of limit l) (omega arith);
-              rise = live-rises xs ds;
-              inside = rw size (live-inside limit last xs xs (λ n e. e) es);
-              few = omega (arith, live-length xs);
-              runs = tt;
-              flying = omega arith;
-              holds = v .1 .0;
-              limit = omega arith;
-              fit = record { last-fits = f; money-fits = funds-by-slot limit l a; orders-fit = listed-fit xs x; mark-fits = tt };
-            };
-        rest-is = begin-ok timing (listed-ledger fee limit last l xs) (accounts-of limit l) (listed-depth xs) []
-            (record { ascending = resting-rises xs ds; fit = v .1 .1 .0; few = listed-few xs (length xs) refl few (v .0); few-trades = omega arith; few-notices = omega arith });
-      },
-      record { table = refl; below = t .1 .1 .0; size = size; fee-is = refl; fee-good = charge },
-    )
+    let few : length xs ≤ most-orders = leb-true (length xs) most-orders (t .1 .0) in
+    record {
+      core-is =
+          record {
+            slots = by-slot-length funds-in owner-slots (accounts-of limit l);
+            owned = by-slot-owned (accounts-of limit l) (omega arith);
+            rise = live-rises xs ds;
+            inside = rw size (live-inside limit last xs xs (λ n e. e) es);
+            few = omega (arith, live-length xs);
+            runs = tt;
+            flying = omega arith;
+            holds = v .1 .0;
+            limit = omega arith;
+            fit = record { last-fits = f; money-fits = funds-by-slot limit l a; orders-fit = listed-fit xs x; mark-fits = tt };
+          };
+      rest-is = begin-ok timing (listed-ledger fee limit last l xs) (accounts-of limit l) (listed-depth xs) []
+          (record { ascending = resting-rises xs ds; fit = v .1 .1 .0; few = listed-few xs (length xs) refl few (v .0); few-trades = omega arith; few-notices = omega arith });
+    }
+
+pub set-up-given : (fee : ℤ) (limit last : ℕ) (l : List Account) (xs : List Listed) (timing : Timing) → Begins (Given fee limit l) (set-up fee limit last l xs timing)
+unfolding set-up
+set-up-given fee limit last l xs timing =
+    charging-begins (Given fee limit l) fee _ λ charge. start-begins (Given fee limit l) _ (set-up-tests fee limit last l xs) λ p.
+    record {
+      table = refl;
+      below = pass-append (entry-tests limit last l xs) (total-tests fee limit last l xs) p .0 .1 .1 .0;
+      size = accounts-length limit l;
+      fee-is = refl;
+      fee-good = charge;
+    }
 
 -- ---- restore
 
@@ -251,47 +266,56 @@ empty-feed : (fee : ℤ) (ws : List (Option Funds)) (os : List Order) → length
 unfolding levels-fit depth-few levels-few
 empty-feed fee ws os h = record { ascending = tt; fit = refl; few = refl; few-trades = omega arith; few-notices = omega (arith, notices-few fee ws os) }
 
-restore-saved-begins : (fee : ℤ) (limit : ℕ) (l : List Account) (timing : Timing) (s : Saved) → AccountsFit l → SavedFits s → leZ (pos 0) fee ≡ true → Begins fee limit l (restore-saved fee limit l timing s)
+restore-saved-begins : (fee : ℤ) (limit : ℕ) (l : List Account) (timing : Timing) (s : Saved) → AccountsFit l → SavedFits s → Begins Ok (restore-saved fee limit l timing s)
 unfolding restore-saved
-restore-saved-begins fee limit l timing s a f charge =
-    start-begins fee limit l _ (restore-tests fee limit l s) λ p.
+restore-saved-begins fee limit l timing s a f =
+    start-begins Ok _ (restore-tests fee limit l s) λ p.
     let t = pass-append (saved-tests limit l s) ((outside, holds-fit (restored-ledger fee (accounts-of limit l) s)) ∷ []) p in
     let size = accounts-length limit l in
     let k = restored-ledger fee (accounts-of limit l) s in
     let fs = by-slot funds-in owner-slots (accounts-of limit l) in
     let ss = slots owner-slots 0 (s .wallets) in
-    let m : limit ≤ owner-slots = leb-true limit owner-slots (t .0 .0) in (
-      record {
-        core-is =
-            record {
-              slots = restored-length fs ss ∙ by-slot-length funds-in owner-slots (accounts-of limit l);
-              owned = λ i. some-restored fs ss i ∙ by-slot-owned (accounts-of limit l) (omega arith) i;
-              rise = f .orders-fit .rise;
-              inside = rw size (order-inside limit (s .last) (s .orders) (t .0 .1 .1 .1));
-              few = f .orders-fit .few;
-              runs = tt;
-              flying = omega arith;
-              holds = t .1 .0;
-              limit = omega arith;
-              fit = record {
-                last-fits = f .last-fits;
-                money-fits = restored-fits fs ss (funds-by-slot limit l a) (slots-fit owner-slots 0 (s .wallets) (f .wallets-fit .good));
-                orders-fit = values (s .orders) (f .orders-fit .good);
-                mark-fits = f .mark-fits;
-              };
+    let m : limit ≤ owner-slots = leb-true limit owner-slots (t .0 .0) in
+    record {
+      core-is =
+          record {
+            slots = restored-length fs ss ∙ by-slot-length funds-in owner-slots (accounts-of limit l);
+            owned = λ i. some-restored fs ss i ∙ by-slot-owned (accounts-of limit l) (omega arith) i;
+            rise = f .orders-fit .rise;
+            inside = rw size (order-inside limit (s .last) (s .orders) (t .0 .1 .1 .1));
+            few = f .orders-fit .few;
+            runs = tt;
+            flying = omega arith;
+            holds = t .1 .0;
+            limit = omega arith;
+            fit = record {
+              last-fits = f .last-fits;
+              money-fits = restored-fits fs ss (funds-by-slot limit l a) (slots-fit owner-slots 0 (s .wallets) (f .wallets-fit .good));
+              orders-fit = values (s .orders) (f .orders-fit .good);
+              mark-fits = f .mark-fits;
             };
-        rest-is = begin-ok timing k (accounts-of limit l) empty-depth (each (hold-notice-of fee (k .wallets)) (k .orders)) (empty-feed fee (k .wallets) (k .orders) (f .orders-fit .few));
-      },
-      record { table = refl; below = t .0 .1 .0; size = size; fee-is = refl; fee-good = charge },
-    )
+          };
+      rest-is = begin-ok timing k (accounts-of limit l) empty-depth (each (hold-notice-of fee (k .wallets)) (k .orders)) (empty-feed fee (k .wallets) (k .orders) (f .orders-fit .few));
+    }
 
-pub restore-begins : (fee : ℤ) (limit : ℕ) (l : List Account) (timing : Timing) (xs : List ℕ) → AccountsFit l → Bytes xs → Begins fee limit l (restore fee limit l timing xs)
+pub restore-begins : (fee : ℤ) (limit : ℕ) (l : List Account) (timing : Timing) (xs : List ℕ) → AccountsFit l → Bytes xs → Begins Ok (restore fee limit l timing xs)
 unfolding restore
-restore-begins fee limit l timing xs a b = charging-begins fee limit l _ (go (decode xs) (λ s e. decode-fits xs s b e))
+restore-begins fee limit l timing xs a b = charging-begins Ok fee _ (λ charge. go (decode xs) (λ s e. decode-fits xs s b e))
   where
-    go : (o : Option Saved) → ((s : Saved) → o ≡ some s → SavedFits s) → leZ (pos 0) fee ≡ true → Begins fee limit l (option (not-started malformed) (restore-saved fee limit l timing) o)
-    go none h charge = tt
-    go (some s) h charge = restore-saved-begins fee limit l timing s a (h s refl) charge
+    go : (o : Option Saved) → ((s : Saved) → o ≡ some s → SavedFits s) → Begins Ok (option (not-started malformed) (restore-saved fee limit l timing) o)
+    go none h = tt
+    go (some s) h = restore-saved-begins fee limit l timing s a (h s refl)
+
+pub restore-given : (fee : ℤ) (limit : ℕ) (l : List Account) (timing : Timing) (xs : List ℕ) → Begins (Given fee limit l) (restore fee limit l timing xs)
+unfolding restore restore-saved
+restore-given fee limit l timing xs = charging-begins (Given fee limit l) fee _ (go (decode xs))
+  where
+    go : (o : Option Saved) → leZ (pos 0) fee ≡ true → Begins (Given fee limit l) (option (not-started malformed) (restore-saved fee limit l timing) o)
+    go none charge = tt
+    go (some s) charge =
+        start-begins (Given fee limit l) _ (restore-tests fee limit l s) λ p.
+        let t = pass-append (saved-tests limit l s) ((outside, holds-fit (restored-ledger fee (accounts-of limit l) s)) ∷ []) p in
+        record { table = refl; below = t .0 .1 .0; size = accounts-length limit l; fee-is = refl; fee-good = charge }
 
 -- ---- the contents of a core that keeps the invariant fit
 

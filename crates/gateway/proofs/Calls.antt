@@ -43,19 +43,20 @@ use Rattle.gateway.proofs.Listing.{agrees-distinct, resting-rises, rest
 use Rattle.gateway.specs.Invariant.{CoreOk, FeedOk, Known, RestOk, Runs, SessionsOk}
 use Rattle.words.specs.Words.{modulus}
 
-abbrev pub Good : Core → Plan → Type 0
-Good c (refuse k) = Unit {0}
-Good c (quiet a ms r) = RestOk (c .accounts) (c .ledger .last) r
-Good c (records from i ms r) =
-    Pass (tests i c) × ((Unsigned (from .client-ref) × ItemFits i) × RestOk (c .accounts) (c .ledger .last) r)
+-- that the numbers of what is recorded fit may hang on a fact F about the call
+abbrev pub Good : Type 0 → Core → Plan → Type 0
+Good F c (refuse k) = Unit {0}
+Good F c (quiet a ms r) = RestOk (c .accounts) (c .ledger .last) r
+Good F c (records from i ms r) =
+    Pass (tests i c) × ((F → Unsigned (from .client-ref) × ItemFits i) × RestOk (c .accounts) (c .ledger .last) r)
 
 -- ---- plans
 
-pub unless-good : {A : Type 0} (c : Core) (no-way : A → Plan) (p : Plan) (ts : Tests A) → ((a : A) → Good c (no-way a)) → (Pass ts → Good c p) → Good c (unless ts no-way p)
+pub unless-good : (F : Type 0) {A : Type 0} (c : Core) (no-way : A → Plan) (p : Plan) (ts : Tests A) → ((a : A) → Good F c (no-way a)) → (Pass ts → Good F c p) → Good F c (unless ts no-way p)
 unfolding unless
-unless-good c no-way p [] g h = h tt
-unless-good c no-way p (t ∷ ts) g h =
-    split (λ b. Good c (cond b (unless ts no-way p) (no-way (t .0)))) (t .1) (λ e. unless-good c no-way p ts g (λ u. h (e, u))) (λ e. g (t .0))
+unless-good F c no-way p [] g h = h tt
+unless-good F c no-way p (t ∷ ts) g h =
+    split (λ b. Good F c (cond b (unless ts no-way p) (no-way (t .0)))) (t .1) (λ e. unless-good F c no-way p ts g (λ u. h (e, u))) (λ e. g (t .0))
 
 -- where the tests pass, the plan is the one that they guard
 pub unless-pass : {A : Type 0} (no-way : A → Plan) (p : Plan) (ts : Tests A) → Pass ts → unless ts no-way p ≡ p
@@ -63,12 +64,12 @@ unfolding unless
 unless-pass no-way p [] h = refl
 unless-pass no-way p (t ∷ ts) h = rw (h .0) (unless-pass no-way p ts (h .1))
 
-guard-good : (c : Core) (p : Plan) (ts : Tests ℕ) → (Pass ts → Good c p) → Good c (unless ts refuse p)
-guard-good c p ts h = unless-good c refuse p ts (λ k. tt) h
+guard-good : (F : Type 0) (c : Core) (p : Plan) (ts : Tests ℕ) → (Pass ts → Good F c p) → Good F c (unless ts refuse p)
+guard-good F c p ts h = unless-good F c refuse p ts (λ k. tt) h
 
-within-good : (c : Core) (room : ℕ) (p : Plan) → Good c p → Good c (within room p)
+within-good : (F : Type 0) (c : Core) (room : ℕ) (p : Plan) → Good F c p → Good F c (within room p)
 unfolding within
-within-good c room p h = guard-good c p _ (λ t. h)
+within-good F c room p h = guard-good F c p _ (λ t. h)
 
 pub pass-append : {A : Type 0} (xs ys : Tests A) → Pass (xs ++ ys) → Pass xs × Pass ys
 pass-append [] ys h = (tt, h)
@@ -147,12 +148,12 @@ queued-ok t last k r h ok =
     }
 
 -- a command that places nothing, numbered where there is room
-numbered-good : {A : Type 0} (x : A) (s : Option ℕ) (k : Command) (c : Core) (r : Rest) → order-of k ≡ none → own-number (next c) k ≡ true →
+numbered-good : (F : Type 0) {A : Type 0} (x : A) (s : Option ℕ) (k : Command) (c : Core) (r : Rest) → order-of k ≡ none → own-number (next c) k ≡ true →
     owner-below (length (c .accounts)) k ≡ true → CommandFits k → CoreOk c → RestOk (c .accounts) (c .ledger .last) r →
-    Pass (can-number x c r) → Good c (numbered s k c r)
-numbered-good x s k c r e o w f ok rok t = (
+    Pass (can-number x c r) → Good F c (numbered s k c r)
+numbered-good F x s k c r e o w f ok rok t = (
   next-passes c k o w (t .0) (rw e refl) (no-more c (next c) k e ok),
-  ((omega arith, (ltb-true (next c) modulus (t .1 .1 .0), f)), queued-ok _ _ k r (t .1 .0) rok),
+  ((λ u. (omega arith, (ltb-true (next c) modulus (t .1 .1 .0), f))), queued-ok _ _ k r (t .1 .0) rok),
 )
 
 -- ---- receiving
@@ -162,11 +163,11 @@ token-ok : (a : ℕ) (c : Core) (r : Rest) → RestOk (c .accounts) (c .ledger .
 token-ok a c r ok =
     record { sessions = ok .sessions; buckets = rw length-set (ok .buckets); batch = ok .batch; delivered = ok .delivered; feed = ok .feed }
 
-with-token-good : (s a ref : ℕ) (c : Core) (r : Rest) (enter : Rest → Plan) → RestOk (c .accounts) (c .ledger .last) r →
-    ((q : Rest) → RestOk (c .accounts) (c .ledger .last) q → Good c (enter q)) → Good c (with-token s a ref c r enter)
-with-token-good s a ref c r enter ok h =
+with-token-good : (F : Type 0) (s a ref : ℕ) (c : Core) (r : Rest) (enter : Rest → Plan) → RestOk (c .accounts) (c .ledger .last) r →
+    ((q : Rest) → RestOk (c .accounts) (c .ledger .last) q → Good F c (enter q)) → Good F c (with-token s a ref c r enter)
+with-token-good F s a ref c r enter ok h =
     let after = with-buckets (set (r .buckets) a (taken a c r .bucket)) r in
-    unless-good c (reject s ref after) (enter after) _ (λ k. token-ok a c r ok) (λ t. h after (token-ok a c r ok))
+    unless-good F c (reject s ref after) (enter after) _ (λ k. token-ok a c r ok) (λ t. h after (token-ok a c r ok))
 
 kind-own : (n a : ℕ) (s : Side) (q : ℕ) (k : OrderKind) → own-number n (command-of n a s q k) ≡ true
 unfolding own-number
@@ -199,18 +200,18 @@ noticed-ok t last ns r h ok =
       feed = record { ascending = ok .feed .ascending; fit = ok .feed .fit; few = ok .feed .few; few-trades = ok .feed .few-trades; few-notices = leb-true _ most-notices h };
     }
 
-enter-new-good : (s a : ℕ) (o : NewOrder) (c : Core) (r : Rest) → InboundFits (In.NewOrder o) → a < length (c .accounts) → CoreOk c →
-    RestOk (c .accounts) (c .ledger .last) r → Good c (enter-new s a o c r)
-enter-new-good s a o c r f l ok rok =
+enter-new-good : (F : Type 0) (s a : ℕ) (o : NewOrder) (c : Core) (r : Rest) → (F → InboundFits (In.NewOrder o)) → a < length (c .accounts) → CoreOk c →
+    RestOk (c .accounts) (c .ledger .last) r → Good F c (enter-new s a o c r)
+enter-new-good F s a o c r f l ok rok =
     let k = command-of (next c) a (o .side) (o .qty) (o .kind) in
-    unless-good c (reject s (o .«client_ref») r) _ (new-tests a o k c r) (λ w. rok)
+    unless-good F c (reject s (o .«client_ref») r) _ (new-tests a o k c r) (λ w. rok)
     (λ t.
     let u = pass-append (option [] (paper-tests a (o .side) (o .qty) c r (o .kind)) (wallet-at a c)) _ (t .1) .1 in
     let v = u .1 .1 .1 in (
       next-passes c k (kind-own (next c) a (o .side) (o .qty) (o .kind)) (kind-owner _ (next c) a (o .side) (o .qty) (o .kind) (lt-ltb a _ l)) (u .0)
           (or-true (not (places k)) _ (v .0)) (v .1 .1 .0),
       (
-        (f .0, (ltb-true (next c) modulus (u .1 .1 .0), kind-fits (next c) a (o .side) (o .qty) (o .kind) (f .1 .0) (f .1 .1))),
+        (λ w. (f w .0, (ltb-true (next c) modulus (u .1 .1 .0), kind-fits (next c) a (o .side) (o .qty) (o .kind) (f w .1 .0) (f w .1 .1)))),
         queued-ok _ _ k _ (u .1 .0) (noticed-ok _ _ (new-notice (c .ledger .fee) a o (wallet-at a c)) r (v .1 .0) rok),
       ),
     ))
@@ -222,27 +223,27 @@ ended-ok t last s r ok = update-rest t last s set-closing (λ x. refl) r ok
 abbrev may-modify : ℕ → Core → Tests RejectCode
 may-modify a c = (NotAllowed, not (is-some (wallet-at a c))) ∷ []
 
-enter-other-good : (s : ℕ) (own : Tests RejectCode) (k : Command) (c : Core) (r : Rest) → order-of k ≡ none → own-number (next c) k ≡ true →
-    owner-below (length (c .accounts)) k ≡ true → CommandFits k → CoreOk c → RestOk (c .accounts) (c .ledger .last) r → Good c (enter-other s own k c r)
-enter-other-good s own k c r e o w f ok rok =
-    unless-good c (reject s 0 r) (numbered (some s) k c r) (own ++ can-number Unavailable c r) (λ x. rok)
-    (λ t. numbered-good Unavailable (some s) k c r e o w f ok rok (pass-append own (can-number Unavailable c r) t .1))
+enter-other-good : (F : Type 0) (s : ℕ) (own : Tests RejectCode) (k : Command) (c : Core) (r : Rest) → order-of k ≡ none → own-number (next c) k ≡ true →
+    owner-below (length (c .accounts)) k ≡ true → CommandFits k → CoreOk c → RestOk (c .accounts) (c .ledger .last) r → Good F c (enter-other s own k c r)
+enter-other-good F s own k c r e o w f ok rok =
+    unless-good F c (reject s 0 r) (numbered (some s) k c r) (own ++ can-number Unavailable c r) (λ x. rok)
+    (λ t. numbered-good F Unavailable (some s) k c r e o w f ok rok (pass-append own (can-number Unavailable c r) t .1))
 
-hear-good : (s a : ℕ) (m : Inbound) (c : Core) (r : Rest) → InboundFits m → a < length (c .accounts) → CoreOk c → RestOk (c .accounts) (c .ledger .last) r →
-    Good c (hear s a m c r)
+hear-good : (F : Type 0) (s a : ℕ) (m : Inbound) (c : Core) (r : Rest) → (F → InboundFits m) → a < length (c .accounts) → CoreOk c → RestOk (c .accounts) (c .ledger .last) r →
+    Good F c (hear s a m c r)
 unfolding hear order-of own-number owner-below
-hear-good s a (In.Login version b token) c r f l ok rok = rok
-hear-good s a In.Logout c r f l ok rok = ended-ok _ _ s r rok
-hear-good s a In.Heartbeat c r f l ok rok = rok
-hear-good s a In.Subscribe c r f l ok rok = update-rest _ _ s set-subscribed (λ x. refl) (published r) (published-rest _ _ r rok)
-hear-good s a (In.NewOrder o) c r f l ok rok = with-token-good s a (o .«client_ref») c r (enter-new s a o c) rok (λ q qok. enter-new-good s a o c q f l ok qok)
-hear-good s a (In.Cancel i) c r f l ok rok =
-    with-token-good s a 0 c r (enter-other s [] (Cancel i a) c) rok (λ q qok. enter-other-good s [] (Cancel i a) c q refl refl (lt-ltb a _ l) tt ok qok)
-hear-good s a (In.Modify i p n) c r f l ok rok =
-    with-token-good s a 0 c r (enter-other s (may-modify a c) (Modify i a p n) c) rok
-    (λ q qok. enter-other-good s (may-modify a c) (Modify i a p n) c q refl refl (lt-ltb a _ l) tt ok qok)
-hear-good s a In.MassCancel c r f l ok rok =
-    with-token-good s a 0 c r (enter-other s [] (CancelAll a) c) rok (λ q qok. enter-other-good s [] (CancelAll a) c q refl refl (lt-ltb a _ l) tt ok qok)
+hear-good F s a (In.Login version b token) c r f l ok rok = rok
+hear-good F s a In.Logout c r f l ok rok = ended-ok _ _ s r rok
+hear-good F s a In.Heartbeat c r f l ok rok = rok
+hear-good F s a In.Subscribe c r f l ok rok = update-rest _ _ s set-subscribed (λ x. refl) (published r) (published-rest _ _ r rok)
+hear-good F s a (In.NewOrder o) c r f l ok rok = with-token-good F s a (o .«client_ref») c r (enter-new s a o c) rok (λ q qok. enter-new-good F s a o c q f l ok qok)
+hear-good F s a (In.Cancel i) c r f l ok rok =
+    with-token-good F s a 0 c r (enter-other s [] (Cancel i a) c) rok (λ q qok. enter-other-good F s [] (Cancel i a) c q refl refl (lt-ltb a _ l) tt ok qok)
+hear-good F s a (In.Modify i p n) c r f l ok rok =
+    with-token-good F s a 0 c r (enter-other s (may-modify a c) (Modify i a p n) c) rok
+    (λ q qok. enter-other-good F s (may-modify a c) (Modify i a p n) c q refl refl (lt-ltb a _ l) tt ok qok)
+hear-good F s a In.MassCancel c r f l ok rok =
+    with-token-good F s a 0 c r (enter-other s [] (CancelAll a) c) rok (λ q qok. enter-other-good F s [] (CancelAll a) c q refl refl (lt-ltb a _ l) tt ok qok)
 
 -- ---- logging in
 
@@ -254,9 +255,9 @@ not-some : (b : Bool) → not b ≡ true → b ≡ false
 not-some true h = sym h
 not-some false h = refl
 
-logged-in-good : (s a : ℕ) (y : Session) (c : Core) (r : Rest) → session-at s r ≡ some y → Known (c .accounts) (some a) → is-some (session-of a r) ≡ false →
-    RestOk (c .accounts) (c .ledger .last) r → Good c (logged-in s a c r)
-logged-in-good s a y c r e l n ok =
+logged-in-good : (F : Type 0) (s a : ℕ) (y : Session) (c : Core) (r : Rest) → session-at s r ≡ some y → Known (c .accounts) (some a) → is-some (session-of a r) ≡ false →
+    RestOk (c .accounts) (c .ledger .last) r → Good F c (logged-in s a c r)
+logged-in-good F s a y c r e l n ok =
     record {
       sessions =
           taken-ok _ a s (r .sessions) _ (ap (λ o. account-of (Option·map (set-account a) o)) e) l (held-slot (r .sessions) s y e) (nobody a 0 (r .sessions) n) (ok .sessions);
@@ -266,20 +267,20 @@ logged-in-good s a y c r e l n ok =
       feed = ok .feed;
     }
 
-greet-good : (s : ℕ) (y : Session) (m : Inbound) (c : Core) (r : Rest) → session-at s r ≡ some y → RestOk (c .accounts) (c .ledger .last) r → Good c (greet s m c r)
+greet-good : (F : Type 0) (s : ℕ) (y : Session) (m : Inbound) (c : Core) (r : Rest) → session-at s r ≡ some y → RestOk (c .accounts) (c .ledger .last) r → Good F c (greet s m c r)
 unfolding greet
-greet-good s y (In.Login version a token) c r e ok =
-    unless-good c _ (logged-in s a c r) (login-tests version a token c r) (λ why. ended-ok _ _ s r ok)
+greet-good F s y (In.Login version a token) c r e ok =
+    unless-good F c _ (logged-in s a c r) (login-tests version a token c r) (λ why. ended-ok _ _ s r ok)
     (λ t.
     let h = token-held token (account-at a c) (t .1 .0) in
-    logged-in-good s a y c r e (ap is-some (h .1)) (not-some _ (t .1 .1 .0)) ok)
-greet-good s y In.Logout c r e ok = ended-ok _ _ s r ok
-greet-good s y In.Heartbeat c r e ok = ended-ok _ _ s r ok
-greet-good s y (In.NewOrder o) c r e ok = ended-ok _ _ s r ok
-greet-good s y (In.Cancel i) c r e ok = ended-ok _ _ s r ok
-greet-good s y (In.Modify i p q) c r e ok = ended-ok _ _ s r ok
-greet-good s y In.MassCancel c r e ok = ended-ok _ _ s r ok
-greet-good s y In.Subscribe c r e ok = ended-ok _ _ s r ok
+    logged-in-good F s a y c r e (ap is-some (h .1)) (not-some _ (t .1 .1 .0)) ok)
+greet-good F s y In.Logout c r e ok = ended-ok _ _ s r ok
+greet-good F s y In.Heartbeat c r e ok = ended-ok _ _ s r ok
+greet-good F s y (In.NewOrder o) c r e ok = ended-ok _ _ s r ok
+greet-good F s y (In.Cancel i) c r e ok = ended-ok _ _ s r ok
+greet-good F s y (In.Modify i p q) c r e ok = ended-ok _ _ s r ok
+greet-good F s y In.MassCancel c r e ok = ended-ok _ _ s r ok
+greet-good F s y In.Subscribe c r e ok = ended-ok _ _ s r ok
 
 present-some : (x : Option Session) → is-present x ≡ true → (y : Session) × (x ≡ some y)
 present-some none h = absurd (let z : _≡_ {A = ℕ} 0 1 = cc in omega (arith, z))
@@ -289,19 +290,19 @@ present-some (some y) h = (y, refl)
 updated-there : (s : ℕ) (y : Session) (f : Session → Session) (r : Rest) → session-at s r ≡ some y → session-at s (update-session s f r) ≡ some (f y)
 updated-there s y f r e = getD-set-same (r .sessions) s _ none (held-slot (r .sessions) s y e) ∙ ap (Option·map f) e
 
-heard-good : (s : ℕ) (y : Session) (m : Inbound) (c : Core) (r : Rest) (a : Option ℕ) → InboundFits m → session-at s r ≡ some y → Known (c .accounts) a →
-    CoreOk c → RestOk (c .accounts) (c .ledger .last) r → Good c (option (greet s m c r) (λ b. hear s b m c r) a)
-heard-good s y m c r none f e l ok rok = greet-good s y m c r e rok
-heard-good s y m c r (some a) f e l ok rok = hear-good s a m c r f (known-below (c .accounts) a l) ok rok
+heard-good : (F : Type 0) (s : ℕ) (y : Session) (m : Inbound) (c : Core) (r : Rest) (a : Option ℕ) → (F → InboundFits m) → session-at s r ≡ some y → Known (c .accounts) a →
+    CoreOk c → RestOk (c .accounts) (c .ledger .last) r → Good F c (option (greet s m c r) (λ b. hear s b m c r) a)
+heard-good F s y m c r none f e l ok rok = greet-good F s y m c r e rok
+heard-good F s y m c r (some a) f e l ok rok = hear-good F s a m c r f (known-below (c .accounts) a l) ok rok
 
-receive-good : (s : ℕ) (m : Inbound) (c : Core) (r : Rest) → InboundFits m → CoreOk c → RestOk (c .accounts) (c .ledger .last) r → Good c (receive s m c r)
+receive-good : (F : Type 0) (s : ℕ) (m : Inbound) (c : Core) (r : Rest) → (F → InboundFits m) → CoreOk c → RestOk (c .accounts) (c .ledger .last) r → Good F c (receive s m c r)
 unfolding receive
-receive-good s m c r f ok rok =
+receive-good F s m c r f ok rok =
     let after = update-session s (set-received (r .clock)) r in
-    split (λ b. (is-present (session-at s r) ≡ b) → Good c (cond b (option (greet s m c after) (λ a. hear s a m c after) (account-of (session-at s r))) (sends [] r))) (is-present (session-at s r))
+    split (λ b. (is-present (session-at s r) ≡ b) → Good F c (cond b (option (greet s m c after) (λ a. hear s a m c after) (account-of (session-at s r))) (sends [] r))) (is-present (session-at s r))
     (λ _ e.
     let y = present-some (session-at s r) e in
-    heard-good s (set-received (r .clock) (y .0)) m c after (account-of (session-at s r)) f (updated-there s (y .0) (set-received (r .clock)) r (y .1))
+    heard-good F s (set-received (r .clock) (y .0)) m c after (account-of (session-at s r)) f (updated-there s (y .0) (set-received (r .clock)) r (y .1))
     (rok .sessions .known s) ok (update-rest _ _ s (set-received (r .clock)) (λ x. refl) r rok))
     (λ _ e. rok) refl
 
@@ -318,13 +319,13 @@ event-passes : (n : ℕ) (e : Event) (c : Core) → Pass (event-tests n e c) →
 unfolding tests
 event-passes n e c t h = (t .0, (t .1 .0, (t .1 .1 .0, (h, tt))))
 
-deliver-good : (n : ℕ) (e : Event) (c : Core) (r : Rest) → EventFits e → CoreOk c → RestOk (c .accounts) (c .ledger .last) r → Pass (deliver-tests n e c r) → Good c (deliver n e c r)
-deliver-good n e c r f ok rok t =
+deliver-good : (F : Type 0) (n : ℕ) (e : Event) (c : Core) (r : Rest) → (F → EventFits e) → CoreOk c → RestOk (c .accounts) (c .ledger .last) r → Pass (deliver-tests n e c r) → Good F c (deliver n e c r)
+deliver-good F n e c r f ok rok t =
     let u = pass-append (event-tests n e c) (feed-tests n e c r) t in
     let v = u .1 in (
       event-passes n e c (u .0) (v .1 .0),
       (
-        (omega arith, f),
+        (λ u. (omega arith, f u)),
         record {
           sessions = rok .sessions;
           buckets = rok .buckets;
@@ -343,11 +344,11 @@ deliver-good n e c r f ok rok t =
 
 -- ---- the other calls
 
-gone-good : (a : Option ℕ) (c : Core) (r : Rest) → Known (c .accounts) a → CoreOk c → RestOk (c .accounts) (c .ledger .last) r → Good c (gone a c r)
+gone-good : (F : Type 0) (a : Option ℕ) (c : Core) (r : Rest) → Known (c .accounts) a → CoreOk c → RestOk (c .accounts) (c .ledger .last) r → Good F c (gone a c r)
 unfolding order-of own-number owner-below
-gone-good none c r l ok rok = rok
-gone-good (some a) c r l ok rok =
-    guard-good c (numbered none (CancelAll a) c r) (can-number full c r) (λ t. numbered-good full none (CancelAll a) c r refl refl (lt-ltb a _ (known-below (c .accounts) a l)) tt ok rok t)
+gone-good F none c r l ok rok = rok
+gone-good F (some a) c r l ok rok =
+    guard-good F c (numbered none (CancelAll a) c r) (can-number full c r) (λ t. numbered-good F full none (CancelAll a) c r refl refl (lt-ltb a _ (known-below (c .accounts) a l)) tt ok rok t)
 
 pub listed-few : (xs : List Listed) (m : ℕ) → length xs ≡ m → m ≤ most-orders → levels-few (listed-depth xs .resting) ≡ true → depth-few (listed-depth xs) ≡ true
 unfolding depth-few
@@ -367,51 +368,51 @@ finished-ok xs c r ok rok t =
       feed = record { ascending = resting-rises xs (d .0); fit = t .1 .1 .0; few = listed-few xs _ (d .1) (ok .few) (t .1 .0); few-trades = omega arith; few-notices = omega arith };
     }
 
-one-of : (c : Core) (b : Bool) (p q : Plan) → Good c p → Good c q → Good c (cond b p q)
-one-of c true p q g h = g
-one-of c false p q g h = h
+one-of : (F : Type 0) (c : Core) (b : Bool) (p q : Plan) → Good F c p → Good F c q → Good F c (cond b p q)
+one-of F c true p q g h = g
+one-of F c false p q g h = h
 
 replayed-first : (n : ℕ) (e : Event) (c : Core) → Pass (tests (event n e) c) → is-first n (drop-below n (c .flights)) ≡ true
 unfolding tests
 replayed-first n e c t = t .0
 
-pub plan-good : (c : Core) (r : Rest) (x : Call) → CallFits x → CoreOk c → RestOk (c .accounts) (c .ledger .last) r → Good c (plan c r x)
+pub plan-good : (F : Type 0) (c : Core) (r : Rest) (x : Call) → (F → CallFits x) → CoreOk c → RestOk (c .accounts) (c .ledger .last) r → Good F c (plan c r x)
 unfolding plan
-plan-good c r (add-account a) f ok rok =
-    guard-good c (records system (account a) [] (joined a r)) (tests (account a) c)
-    (λ t. (t, ((omega arith, f), record { sessions = rok .sessions; buckets = rw length-set (rok .buckets); batch = rok .batch; delivered = rok .delivered; feed = rok .feed })))
-plan-good c r (connect s t) f ok rok =
-    guard-good c (sends [] (at-time t (with-sessions (set (r .sessions) s (some (fresh-session t))) r))) _
+plan-good F c r (add-account a) f ok rok =
+    guard-good F c (records system (account a) [] (joined a r)) (tests (account a) c)
+    (λ t. (t, ((λ u. (omega arith, f u)), record { sessions = rok .sessions; buckets = rw length-set (rok .buckets); batch = rok .batch; delivered = rok .delivered; feed = rok .feed })))
+plan-good F c r (connect s t) f ok rok =
+    guard-good F c (sends [] (at-time t (with-sessions (set (r .sessions) s (some (fresh-session t))) r))) _
     (λ u. timed-rest _ _ t _ (alike-rest _ _ _ r (set-alike (r .sessions) s (some (fresh-session t)) (empty-slot (session-at s r) (u .1 .0))) rok))
   where
     empty-slot : (x : Option Session) → not (is-some x) ≡ true → none ≡ account-of x
     empty-slot none h = refl
     empty-slot (some x) h = absurd (let z : _≡_ {A = ℕ} 0 1 = cc in omega (arith, z))
-plan-good c r (set-paper-collar p) f ok rok =
+plan-good F c r (set-paper-collar p) f ok rok =
     record { sessions = rok .sessions; buckets = rok .buckets; batch = rok .batch; delivered = rok .delivered; feed = rok .feed }
-plan-good c r (wallet a) f ok rok = rok
-plan-good c r last-seq f ok rok = rok
-plan-good c r (depth-levels s room) f ok rok = guard-good c _ _ (λ t. rok)
-plan-good c r (receive-from s m t room) f ok rok = within-good c room (receive s m c (at-time t r)) (receive-good s m c (at-time t r) f ok (timed-rest _ _ t r rok))
-plan-good c r (tick t room) f ok rok =
-    within-good c room (ticked (at-time t r)) (alike-rest _ _ _ (at-time t r) (closed-alike (is-idle (at-time t r)) (r .sessions)) (timed-rest _ _ t r rok))
-plan-good c r (publish room) f ok rok = within-good c room _ (published-rest _ _ r rok)
-plan-good c r (end-session s why room) f ok rok =
-    within-good c room _ (one-of c (is-present (session-at s r)) (ended s (Out.Logout why) r) (sends [] r) (ended-ok _ _ s r rok) rok)
-plan-good c r (shut-down room) f ok rok = within-good c room (all-ended r) (alike-rest _ _ _ r (closed-alike (λ x. true) (r .sessions)) rok)
-plan-good c r (disconnect s) f ok rok = gone-good (account-of (session-at s r)) c (without-session s r) (rok .sessions .known s) ok (emptied-rest _ _ s r rok)
-plan-good c r (detach s) f ok rok = emptied-rest _ _ s r rok
-plan-good c r (take-batch room) f ok rok =
-    guard-good c _ _ (λ t. record { sessions = rok .sessions; buckets = rok .buckets; batch = omega arith; delivered = rok .delivered; feed = rok .feed })
-plan-good c r (deliver-event n e room) f ok rok =
-    guard-good c (within room (deliver n e c r)) (deliver-tests n e c r) (λ t. within-good c room (deliver n e c r) (deliver-good n e c r f ok rok t))
-plan-good c r (replay-command n k) f ok rok = guard-good c (records system (command n k) [] r) (replay-tests (command n k) c r) (λ t. (t .1, ((omega arith, f), rok)))
-plan-good c r (replay-event n e) f ok rok =
-    guard-good c (records system (event n e) [] (with-delivered n r)) (replay-tests (event n e) c r)
+plan-good F c r (wallet a) f ok rok = rok
+plan-good F c r last-seq f ok rok = rok
+plan-good F c r (depth-levels s room) f ok rok = guard-good F c _ _ (λ t. rok)
+plan-good F c r (receive-from s m t room) f ok rok = within-good F c room (receive s m c (at-time t r)) (receive-good F s m c (at-time t r) f ok (timed-rest _ _ t r rok))
+plan-good F c r (tick t room) f ok rok =
+    within-good F c room (ticked (at-time t r)) (alike-rest _ _ _ (at-time t r) (closed-alike (is-idle (at-time t r)) (r .sessions)) (timed-rest _ _ t r rok))
+plan-good F c r (publish room) f ok rok = within-good F c room _ (published-rest _ _ r rok)
+plan-good F c r (end-session s why room) f ok rok =
+    within-good F c room _ (one-of F c (is-present (session-at s r)) (ended s (Out.Logout why) r) (sends [] r) (ended-ok _ _ s r rok) rok)
+plan-good F c r (shut-down room) f ok rok = within-good F c room (all-ended r) (alike-rest _ _ _ r (closed-alike (λ x. true) (r .sessions)) rok)
+plan-good F c r (disconnect s) f ok rok = gone-good F (account-of (session-at s r)) c (without-session s r) (rok .sessions .known s) ok (emptied-rest _ _ s r rok)
+plan-good F c r (detach s) f ok rok = emptied-rest _ _ s r rok
+plan-good F c r (take-batch room) f ok rok =
+    guard-good F c _ _ (λ t. record { sessions = rok .sessions; buckets = rok .buckets; batch = omega arith; delivered = rok .delivered; feed = rok .feed })
+plan-good F c r (deliver-event n e room) f ok rok =
+    guard-good F c (within room (deliver n e c r)) (deliver-tests n e c r) (λ t. within-good F c room (deliver n e c r) (deliver-good F n e c r f ok rok t))
+plan-good F c r (replay-command n k) f ok rok = guard-good F c (records system (command n k) [] r) (replay-tests (command n k) c r) (λ t. (t .1, ((λ u. (omega arith, f u)), rok)))
+plan-good F c r (replay-event n e) f ok rok =
+    guard-good F c (records system (event n e) [] (with-delivered n r)) (replay-tests (event n e) c r)
     (λ t. (
       t .1,
       (
-        (omega arith, f),
+        (λ u. (omega arith, f u)),
         record {
           sessions = rok .sessions;
           buckets = rok .buckets;
@@ -421,5 +422,5 @@ plan-good c r (replay-event n e) f ok rok =
         },
       ),
     ))
-plan-good c r (finish xs) f ok rok = guard-good c (sends [] (finished xs c r)) (finish-tests xs c) (λ t. finished-ok xs c r ok rok t)
-plan-good c r (checkpoint room) f ok rok = guard-good c _ _ (λ t. rok)
+plan-good F c r (finish xs) f ok rok = guard-good F c (sends [] (finished xs c r)) (finish-tests xs c) (λ t. finished-ok xs c r ok rok t)
+plan-good F c r (checkpoint room) f ok rok = guard-good F c _ _ (λ t. rok)

@@ -1,12 +1,9 @@
--- Counts are counted. In plain words: over the levels of a side, at any prices picked, the orders add up to the orders of that side that rest there
--- and the quantities to what these show; every level is strictly better than all that follow it, so no price comes twice; the number in a book
--- snapshot is the number of level messages that follow it; and `TooManyOrders` answers a new order exactly where the account's live orders are at
--- least its limit. So invented open counts or level counts are not this gateway's. Assumes nothing.
+-- Counts are counted: what `Counts` of specs/Claims.antt claims. Assumes nothing.
 use Prim.Native.Nat.{ℕ, suc, _+_, _<_, _≤_}
 use mathlib.Core.Bool.{Bool, true, false, cond, _&&_, and-eq-true-iff, true≢false}
 use mathlib.Core.Path.{_≡_, refl, ap, ap₂, sym, _∙_}
 use mathlib.Core.Option.{Option, none, some}
-use mathlib.Core.List.{List, [], _∷_, _++_, map}
+use mathlib.Core.List.{List, [], _∷_, _++_}
 use native.Mathlib.Omega.{arith}
 use borrow.Author.Tests.{ltb-true, ltb-false, lt-ltb, le-ltb, leb-true, le-leb}
 use lib.IntN.{ℤ, pos, negsuc}
@@ -26,10 +23,11 @@ use Rattle.gateway.specs.Basics.{option}
 use Rattle.gateway.specs.Ledger.{same-side, open-of}
 use Rattle.gateway.specs.Core.{Core, account-at}
 use Rattle.gateway.specs.Depth.{Resting, Level, same-price, better, joined, levels}
-use Rattle.gateway.specs.Rest.{Mail, send, Rest}
-use Rattle.gateway.specs.Entry.{Plan, unless, wallet-at, reject, next, can-number, command-of, paper-tests, most-open, new-tests, enter-new, level-to, snapshot}
+use Rattle.gateway.specs.Rest.{send, Rest}
+use Rattle.gateway.specs.Entry.{Plan, unless, wallet-at, reject, next, can-number, command-of, paper-tests, most-open, new-tests, enter-new, snapshot}
 use Rattle.gateway.proofs.Base.{split, if-map}
 use Rattle.gateway.proofs.Roomy.{is-code, Needs, needs-append, unless-needs, last-tests}
+use Rattle.gateway.specs.Claims.{total, sum, Best, level-mail, Counts}
 
 -- ---- how an order joins the levels
 
@@ -90,15 +88,6 @@ module _ (s : Side) (p : ℤ) (v : ℕ) where
 
 -- ---- sums over the levels of a side
 
-abbrev pub total : (Level → ℕ) → List Level → ℕ
-total f [] = 0
-total f (l ∷ ls) = f l + total f ls
-
--- of the resting orders of a side
-abbrev pub sum : Side → (Resting → ℕ) → List Resting → ℕ
-sum s g [] = 0
-sum s g (o ∷ os) = cond (same-side s (o .side)) (g o + sum s g os) (sum s g os)
-
 -- f counts k for the order that joins
 total-joined : (f : Level → ℕ) (s : Side) (p : ℤ) (v k : ℕ) → f (record { price = p; qty = v; orders = 1 }) ≡ k →
     ((l : Level) → p ≡ l .price → f (record { price = p; qty = l .qty + v; orders = suc (l .orders) }) ≡ f l + k) → (ls : List Level) →
@@ -119,23 +108,18 @@ module _ (f : Level → ℕ) (g : Resting → ℕ)
 
 -- at the prices that `at` picks: all of them, or one
 module _ (at : ℤ → Bool) where
-  pub orders-counted : (s : Side) (os : List Resting) → total (λ l. cond (at (l .price)) (l .orders) 0) (levels s os) ≡ sum s (λ o. cond (at (o .price)) 1 0) os
-  orders-counted =
+  orders : (s : Side) (os : List Resting) → total (λ l. cond (at (l .price)) (l .orders) 0) (levels s os) ≡ sum s (λ o. cond (at (o .price)) 1 0) os
+  orders =
       total-levels (λ l. cond (at (l .price)) (l .orders) 0) (λ o. cond (at (o .price)) 1 0) (λ o. refl)
       (λ o l e. rw e (split (λ b. cond b (suc (l .orders)) 0 ≡ cond b (l .orders) 0 + cond b 1 0) (at (l .price)) (λ _. omega arith) (λ _. refl)))
 
-  pub quantities-counted : (s : Side) (os : List Resting) →
+  quantities : (s : Side) (os : List Resting) →
       total (λ l. cond (at (l .price)) (l .qty) 0) (levels s os) ≡ sum s (λ o. cond (at (o .price)) (o .visible) 0) os
-  quantities-counted =
+  quantities =
       total-levels (λ l. cond (at (l .price)) (l .qty) 0) (λ o. cond (at (o .price)) (o .visible) 0) (λ o. refl)
       (λ o l e. rw e (split (λ b. cond b (l .qty + o .visible) 0 ≡ cond b (l .qty) 0 + cond b (o .visible) 0) (at (l .price)) (λ _. refl) (λ _. refl)))
 
 -- ---- best first, no price twice
-
--- every level is better than all that follow
-abbrev pub Best : Side → List Level → Type 0
-Best s [] = Unit {0}
-Best s (l ∷ ls) = Each (λ m. better s (l .price) (m .price) ≡ true) ls × Best s ls
 
 module _ (s : Side) (p : ℤ) (v : ℕ) where
   each-joined : (P : ℤ → Type 0) → P p → (ls : List Level) → Each (λ m. P (m .price)) ls → Each (λ m. P (m .price)) (joined s p v ls)
@@ -162,24 +146,20 @@ levels-best s (o ∷ os) =
 
 -- ---- the snapshot's count
 
-abbrev pub level-mail : ℕ → Rest → List Mail
-level-mail s r = map (level-to s (r .delivered) Buy) (levels Buy (r .depth .resting)) ++ map (level-to s (r .delivered) Sell) (levels Sell (r .depth .resting))
-
-pub snapshot-counted : (s : ℕ) (r : Rest) → snapshot s r ≡ send s (Out.BookSnapshot (r .delivered) (length (level-mail s r))) ∷ level-mail s r
-snapshot-counted s r = ap (λ n. send s (Out.BookSnapshot (r .delivered) n) ∷ level-mail s r) (sym (simp (length-append, length-map)))
+in-snapshot : (s : ℕ) (r : Rest) → snapshot s r ≡ send s (Out.BookSnapshot (r .delivered) (length (level-mail s r))) ∷ level-mail s r
+in-snapshot s r = ap (λ n. send s (Out.BookSnapshot (r .delivered) n) ∷ level-mail s r) (sym (simp (length-append, length-map)))
 
 -- ---- the open count
 
 module _ (s a : ℕ) (o : NewOrder) (c : Core) (r : Rest) where
-  pub too-many : most-open (account-at a c) ≤ open-of a (c .ledger .orders) → enter-new s a o c r ≡ reject s (o .«client_ref») r TooManyOrders
+  too-many : most-open (account-at a c) ≤ open-of a (c .ledger .orders) → enter-new s a o c r ≡ reject s (o .«client_ref») r TooManyOrders
   unfolding unless
   too-many h = rw (le-ltb (open-of a (c .ledger .orders)) (most-open (account-at a c)) h) refl
 
-  -- and only there
   abbrev Else : Plan → Type 0
   Else p = (q : Rest) → p ≡ reject s (o .«client_ref») q TooManyOrders → ⊥
 
-  pub not-too-many : open-of a (c .ledger .orders) < most-open (account-at a c) → Else (enter-new s a o c r)
+  not-too-many : open-of a (c .ledger .orders) < most-open (account-at a c) → Else (enter-new s a o c r)
   not-too-many h =
       let k = command-of (next c) a (o .side) (o .qty) (o .kind) in
       unless-needs (is-code TooManyOrders) Else (reject s (o .«client_ref») r)
@@ -195,3 +175,14 @@ module _ (s a : ℕ) (o : NewOrder) (c : Core) (r : Rest) where
       paper (Kind.Limit z t d) (some w) = tt
       paper Kind.Market (some w) = tt
       paper (Kind.Stop t l) (some w) = tt
+
+pub counts : Counts
+counts =
+    record {
+      orders = orders;
+      quantities = quantities;
+      best = levels-best;
+      in-snapshot = in-snapshot;
+      too-many = too-many;
+      not-too-many = λ s a o c r q h. not-too-many s a o c r h q;
+    }

@@ -14,7 +14,8 @@ use Rattle.table.proofs.Lists.{each-map}
 use Rattle.gateway.specs.Limits.{most-orders, most-levels, most-changed}
 use Rattle.gateway.specs.Depth.{Resting, Level, Depth, same-price, better, joined, levels, level-in, key-of, remember, resting-number, add, quantities-fit, levels-fit, depth-few}
 use Rattle.gateway.proofs.Sorted.{length-insert}
-use Rattle.gateway.proofs.Counted.{Best, better-trans, levels-best}
+use Rattle.gateway.specs.Claims.{Best}
+use Rattle.gateway.proofs.Counted.{better-trans, levels-best}
 use Rattle.gateway.proofs.Levels.{same-itself, better-apart, at-level, before-level, after-level, compared, add-levels}
 use Rattle.gateway.proofs.AtPrice.{side-fits, worse-none}
 use Rattle.gateway.proofs.Depths.{Few, own-fits, own-few}

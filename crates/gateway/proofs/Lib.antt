@@ -26,3 +26,4 @@ pub mod AtPrice
 pub mod Depths
 pub mod Joins
 pub mod Fee
+pub mod Claimed

@@ -22,6 +22,7 @@ use Rattle.gateway.specs.Deliver.{hold-after, named, order-notices, chan
 use Rattle.gateway.proofs.Base.{split}
 use Rattle.gateway.proofs.Sorted.{Absent}
 use Rattle.gateway.proofs.Invariant.{Rise, shrunk, rise-shrinks, pay-some, paid}
+use Rattle.gateway.specs.Claims.{hold-move}
 
 -- ---- orders of one number give way to others
 
@@ -227,16 +228,12 @@ module _ (fee : ℤ) (a : ℕ) (z : Side) where
   held-becomes (reprices p v) o = held-leaves (with-price p) v o (refl, refl)
   held-becomes retires o = split (λ b. pos 0 ≡ cond b (pos 0) (pos 0)) (mine a z o) (λ _. refl) (λ _. refl)
 
-  -- what the account's orders of the side hold more, where x is a change of the order
-  abbrev pub hold-move : Change → Option Order → ℤ
-  hold-move x w = option (pos 0) (λ o. cond (mine a z o) (hold-after fee x o -ℤ order-hold fee o) (pos 0)) w
-
-  moves-by : {n : ℕ} {x : Change} → Of n x → (w : Option Order) → option (pos 0) (λ o. held fee a z (becomes x o) -ℤ held-by fee a z o) w ≡ hold-move x w
+  moves-by : {n : ℕ} {x : Change} → Of n x → (w : Option Order) → option (pos 0) (λ o. held fee a z (becomes x o) -ℤ held-by fee a z o) w ≡ hold-move fee a z x w
   moves-by c none = refl
   moves-by {x = x} c (some o) =
       ap (λ h. h -ℤ held-by fee a z o) (held-becomes c o)
       ∙ split (λ b. cond b (hold-after fee x o) (pos 0) -ℤ cond b (order-hold fee o) (pos 0) ≡ cond b (hold-after fee x o -ℤ order-hold fee o) (pos 0)) (mine a z o) (λ _. refl) (λ _. refl)
 
-  pub held-changed : {n : ℕ} {x : Change} → Of n x → (l : Ledger) → Rise 0 (l .orders) → held fee a z (change x l .orders) ≡ held fee a z (l .orders) +ℤ hold-move x (find n (l .orders))
+  pub held-changed : {n : ℕ} {x : Change} → Of n x → (l : Ledger) → Rise 0 (l .orders) → held fee a z (change x l .orders) ≡ held fee a z (l .orders) +ℤ hold-move fee a z x (find n (l .orders))
   held-changed {n} {x} c l r =
       ap (held fee a z) (orders-turned c l) ∙ held-turned n (becomes x) 0 (l .orders) r ∙ ap (λ m. held fee a z (l .orders) +ℤ m) (moves-by c (find n (l .orders)))

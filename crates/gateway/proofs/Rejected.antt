@@ -1,7 +1,5 @@
--- A refusal means one thing to the gateway and to the ledger. In plain words: the Rust ends a refused order where the command in flight places one;
--- the ledger, which sees no gateway, where the event names the command's own number. Whatever list of calls a gateway has been through, from set-up or
--- restore, an accepted refusal changes its ledger the same way by either rule: no live order bears the number of a command in flight that places
--- nothing (`Fresh`). So a gateway that ends an order of somebody else on a refused cancel is not this one. Assumes nothing.
+-- A refusal means one thing to the gateway and to the ledger: what `Refuses` of specs/Claims.antt claims. No live order bears the number of a command in flight
+-- that places nothing (`Fresh`). Assumes nothing.
 use Prim.Native.Nat.{ℕ, _+_, _<_}
 use mathlib.Core.Bool.{Bool, true, false, cond, not, _||_, and-eq-true-iff, true≢false}
 use mathlib.Core.Path.{_≡_, refl, ap, sym, _∙_, subst}
@@ -21,33 +19,34 @@ use Rattle.accounts.specs.declared.Timing.{Timing}
 use Rattle.gateway.specs.Basics.{option, is-some}
 use Rattle.gateway.specs.Limits.{malformed, bad-fee}
 use Rattle.table.specs.Live.{look, without}
-use Rattle.gateway.specs.Ledger.{Order, Ledger, New, Item, account, command, event, order-of, owner-of, placed, find, remove, with-orders, Change, retire, changes, change, changed, step}
+use Rattle.gateway.specs.Ledger.{Order, New, Item, account, command, event, order-of, owner-of, placed, find, remove, with-orders, Change, retire, changes, change, changed, step}
 use Rattle.gateway.specs.Saved.{Saved}
 use Rattle.gateway.specs.Bytes.{decode}
 use Rattle.gateway.specs.Core.{Tests, Pass, Origin, Flight, Core, drop-below, is-first, first-places, numbers-agree, tests, core-step}
 use Rattle.gateway.specs.Rest.{Mail, stamped}
 use Rattle.gateway.specs.Entry.{Answer, Plan, refuse, quiet, records}
 use Rattle.gateway.specs.Deliver.{notices-of}
-use Rattle.gateway.specs.Calls.{Gateway, Call, plan, done, carry-out, call}
+use Rattle.gateway.specs.Calls.{Gateway, plan, done, carry-out, call}
 use Rattle.gateway.specs.Start.{Started, not-started, started, start-unless, charging, set-up, restore, restore-saved}
-use Rattle.gateway.specs.Fits.{Unsigned, AccountsFit, ListingFits, Bytes, CallFits, CallsFit}
-use Rattle.gateway.specs.Restart.{next-of, final}
+use Rattle.gateway.specs.Fits.{Unsigned, AccountsFit, ListingFits, Bytes}
+use Rattle.gateway.specs.Restart.{next-of}
 use Rattle.gateway.proofs.Base.{split}
 use Rattle.gateway.proofs.Invariant.{All, Keyed, In, Shrinks, shrunk, all-shrinks, all-more}
-use Rattle.gateway.proofs.Calls.{Good, plan-good}
+use Rattle.gateway.proofs.Calls.{Good}
 use Rattle.gateway.proofs.Begin.{Begins, set-up-begins, restore-begins}
-use Rattle.gateway.proofs.Restart.{call-ok}
+use Rattle.gateway.proofs.Restart.{call-ok, good}
 use Rattle.gateway.specs.Invariant.{CoreOk, Ok, Runs}
+use Rattle.gateway.specs.Claims.{rust-changes, RefusesAsRust, Refuses}
 
 abbrev No : ℕ → List Order → Type 0
 No n os = All (Keyed (λ m a. m ≡ n → ⊥)) os
 
 -- no live order bears the number of a command in flight that places nothing
-abbrev pub Fresh : List Order → List Flight → Type 0
+abbrev Fresh : List Order → List Flight → Type 0
 Fresh os [] = Unit {0}
 Fresh os (f ∷ fs) = (f .places ≡ false → No (f .number) os) × Fresh os fs
 
-abbrev pub FreshCore : Core → Type 0
+abbrev FreshCore : Core → Type 0
 FreshCore c = Fresh (c .ledger .orders) (c .flights)
 
 -- ---- the invariant is kept
@@ -79,7 +78,7 @@ no-new : (ref n a last limit : ℕ) (x : Option New) (os : List Order) → last 
 no-new ref n a last limit none os h t e = all-more (Keyed (In last limit)) _ (λ o v q. omega (arith, v .0, q)) os [] t tt
 no-new ref n a last limit (some x) os h t e = absurd (true≢false e)
 
-pub fresh-step : (from : Origin) (i : Item) (c : Core) → CoreOk c → Pass (tests i c) → FreshCore c → FreshCore (core-step from i c)
+fresh-step : (from : Origin) (i : Item) (c : Core) → CoreOk c → Pass (tests i c) → FreshCore c → FreshCore (core-step from i c)
 unfolding step tests
 fresh-step from (account a) c ok p h = h
 fresh-step from (command n k) c ok p h =
@@ -89,10 +88,6 @@ fresh-step from (command n k) c ok p h =
 fresh-step from (event n e) c ok p h = fresh-below n _ (c .flights) (fresh-shrinks (shrunk (changes n e) (c .ledger)) (c .flights) h)
 
 -- ---- the two rules agree
-
--- the Rust's rule for a refused command
-abbrev pub rust-rejected : Bool → ℕ → List Change
-rust-rejected places i = cond places (retire i ∷ []) []
 
 remove-no : (n : ℕ) (os : List Order) → No n os → remove n os ≡ os
 unfolding without
@@ -110,11 +105,11 @@ find-no n (o ∷ os) h = rw (ne-eqb (o .number) n (h .0)) (find-no n os (h .1))
 
 -- what does not see the end of an order that is not live does not tell the two rules apart
 agrees : {X : Type 0} (F : List Change → X) (c : Core) (n i : ℕ) (why : RejectReason) → (No i (c .ledger .orders) → F (retire i ∷ []) ≡ F []) →
-    Pass (tests (event n (Rejected i why)) c) → FreshCore c → F (changes n (Rejected i why)) ≡ F (rust-rejected (first-places (drop-below n (c .flights))) i)
+    Pass (tests (event n (Rejected i why)) c) → FreshCore c → F (changes n (Rejected i why)) ≡ F (rust-changes c n i)
 unfolding tests numbers-agree changes
 agrees F c n i why f p h = go (first-places (drop-below n (c .flights))) refl (eqb i n) refl
   where
-    go : (b : Bool) → first-places (drop-below n (c .flights)) ≡ b → (d : Bool) → eqb i n ≡ d → F (cond d (retire i ∷ []) []) ≡ F (rust-rejected b i)
+    go : (b : Bool) → first-places (drop-below n (c .flights)) ≡ b → (d : Bool) → eqb i n ≡ d → F (cond d (retire i ∷ []) []) ≡ F (cond b (retire i ∷ []) [])
     go true e true q = refl
     go true e false q =
         absurd (true≢false (sym (rw (e, q) at (and-eq-true-iff (leb i n) (not (first-places (drop-below n (c .flights))) || eqb i n) .0 (p .1 .1 .0) .1))))
@@ -122,56 +117,50 @@ agrees F c n i why f p h = go (first-places (drop-below n (c .flights))) refl (e
     go false e true q =
         f (subst (λ m. No m (c .ledger .orders)) (sym (eqb-true i n q)) (first-no n (c .ledger .orders) (drop-below n (c .flights)) (p .0) e (fresh-below n _ (c .flights) h)))
 
-pub rejected-agrees : (c : Core) (n i : ℕ) (why : RejectReason) → Pass (tests (event n (Rejected i why)) c) → FreshCore c →
-    changed (changes n (Rejected i why)) (c .ledger) ≡ changed (rust-rejected (first-places (drop-below n (c .flights))) i) (c .ledger)
+rejected-agrees : (c : Core) (n i : ℕ) (why : RejectReason) → Pass (tests (event n (Rejected i why)) c) → FreshCore c →
+    changed (changes n (Rejected i why)) (c .ledger) ≡ changed (rust-changes c n i) (c .ledger)
 unfolding change
 rejected-agrees c n i why = agrees (λ xs. changed xs (c .ledger)) c n i why (λ t. ap (λ os. with-orders os (c .ledger)) (remove-no i (c .ledger .orders) t))
 
 -- and the wallet notices are the same
-pub notices-agree : (c : Core) (n i : ℕ) (why : RejectReason) → Pass (tests (event n (Rejected i why)) c) → FreshCore c →
-    notices-of (changes n (Rejected i why)) (c .ledger) ≡ notices-of (rust-rejected (first-places (drop-below n (c .flights))) i) (c .ledger)
+notices-agree : (c : Core) (n i : ℕ) (why : RejectReason) → Pass (tests (event n (Rejected i why)) c) → FreshCore c →
+    notices-of (changes n (Rejected i why)) (c .ledger) ≡ notices-of (rust-changes c n i) (c .ledger)
 notices-agree c n i why = agrees (λ xs. notices-of xs (c .ledger)) c n i why (λ t. rw (find-no i (c .ledger .orders) t) refl)
 
 -- ---- for every list of calls
 
--- what the Rust does to the ledger of g with command n's refusal of i
-abbrev pub rust-ledger : Gateway → ℕ → ℕ → Ledger
-rust-ledger g n i = changed (rust-rejected (first-places (drop-below n (g .core .flights))) i) (g .core .ledger)
-
 module _ (g : Gateway) (ok : Ok g) (t : FreshCore (g .core)) where
-  carry-fresh : (p : Plan) → Good (g .core) p → FreshCore (next-of g (carry-out (g .core) p) .core)
+  carry-fresh : (p : Plan) → Good ⊥ (g .core) p → FreshCore (next-of g (carry-out (g .core) p) .core)
   carry-fresh (refuse k) h = t
   carry-fresh (quiet a ms r) h = t
   carry-fresh (records from i ms r) h = fresh-step from i (g .core) (ok .core-is) (h .0) t
 
-  carry-rejected : (p : Plan) → Good (g .core) p → (a : Answer) (n i : ℕ) (why : RejectReason) (ms : List Mail) (h : Gateway) →
-      carry-out (g .core) p ≡ done a (event n (Rejected i why) ∷ []) ms h → h .core .ledger ≡ rust-ledger g n i
+  carry-rejected : (p : Plan) → Good ⊥ (g .core) p → (a : Answer) (n i : ℕ) (why : RejectReason) (ms : List Mail) (h : Gateway) →
+      carry-out (g .core) p ≡ done a (event n (Rejected i why) ∷ []) ms h →
+      (h .core .ledger ≡ changed (rust-changes (g .core) n i) (g .core .ledger))
+      × (notices-of (changes n (Rejected i why)) (g .core .ledger) ≡ notices-of (rust-changes (g .core) n i) (g .core .ledger))
   unfolding step
   carry-rejected (refuse k) q a n i why ms h e = absurd (let z : _≡_ {A = ℕ} 0 1 = cc in omega (arith, z))
   carry-rejected (quiet b ns r) q a n i why ms h e = absurd (let z : _≡_ {A = ℕ} 0 1 = cc in omega (arith, z))
   carry-rejected (records from j ns r) q a n i why ms h e =
       let j-is : j ≡ event n (Rejected i why) = cc in
       let h-is : h ≡ record { core = core-step from j (g .core); rest = stamped ns r } = cc in
-      ap (λ k. k .core .ledger) h-is
-      ∙ ap (λ x. step (from .client-ref) x (g .core .ledger)) j-is
-      ∙ rejected-agrees (g .core) n i why (subst (λ x. Pass (tests x (g .core))) j-is (q .0)) t
-
--- whatever calls came before, an accepted refusal leaves the ledger that the Rust leaves
-abbrev pub RefusesAsRust : Gateway → Type 0
-RefusesAsRust g = (xs : List Call) (x : Call) (a : Answer) (n i : ℕ) (why : RejectReason) (ms : List Mail) (h : Gateway) → CallsFit xs → CallFits x →
-    call (final g xs) x ≡ done a (event n (Rejected i why) ∷ []) ms h → h .core .ledger ≡ rust-ledger (final g xs) n i
+      let pass : Pass (tests (event n (Rejected i why)) (g .core)) = subst (λ x. Pass (tests x (g .core))) j-is (q .0) in (
+        ap (λ k. k .core .ledger) h-is ∙ ap (λ x. step (from .client-ref) x (g .core .ledger)) j-is ∙ rejected-agrees (g .core) n i why pass t,
+        notices-agree (g .core) n i why pass t,
+      )
 
 refuses : (g : Gateway) → Ok g → FreshCore (g .core) → RefusesAsRust g
-refuses g ok t [] x a n i why ms h f fx e =
-    carry-rejected g ok t (plan (g .core) (g .rest) x) (plan-good (g .core) (g .rest) x fx (ok .core-is) (ok .rest-is)) a n i why ms h e
-refuses g ok t (y ∷ xs) x a n i why ms h f fx e =
+refuses g ok t [] x a n i why ms h f e =
+    carry-rejected g ok t (plan (g .core) (g .rest) x) (good g x ok) a n i why ms h e
+refuses g ok t (y ∷ xs) x a n i why ms h f e =
     refuses (next-of g (call g y)) (call-ok g y (f .0) ok)
-    (carry-fresh g ok t (plan (g .core) (g .rest) y) (plan-good (g .core) (g .rest) y (f .0) (ok .core-is) (ok .rest-is))) xs x a n i why ms h (f .1) fx e
+    (carry-fresh g ok t (plan (g .core) (g .rest) y) (good g y ok)) xs x a n i why ms h (f .1) e
 
 -- ---- from set-up, and from restore: nothing is in flight
 
-starts : (fee : ℤ) (limit : ℕ) (l : List Account) (s : Started) (g : Gateway) → Begins fee limit l s → (s ≡ started g → g .core .flights ≡ []) → s ≡ started g → RefusesAsRust g
-starts fee limit l s g b f e = refuses g (subst (Begins fee limit l) e b .0) (rw (f e) tt)
+starts : (s : Started) (g : Gateway) → Begins Ok s → (s ≡ started g → g .core .flights ≡ []) → s ≡ started g → RefusesAsRust g
+starts s g b f e = refuses g (subst (Begins Ok) e b) (rw (f e) tt)
 
 none-flying : (ts : Tests ℕ) (k g : Gateway) → k .core .flights ≡ [] → start-unless ts k ≡ started g → g .core .flights ≡ []
 unfolding start-unless
@@ -187,17 +176,20 @@ judged fee s g h e =
     split (λ b. cond b s (not-started bad-fee) ≡ started g → g .core .flights ≡ []) (leZ (pos 0) fee) (λ _ q. h q)
     (λ _ q. absurd (let z : _≡_ {A = ℕ} 0 1 = cc in omega (arith, z))) e
 
-pub refuses-after-set-up : (fee : ℤ) (limit last : ℕ) (l : List Account) (listing : List Listed) (timing : Timing) (g : Gateway) → Unsigned last → AccountsFit l →
+from-set-up : (fee : ℤ) (limit last : ℕ) (l : List Account) (listing : List Listed) (timing : Timing) (g : Gateway) → Unsigned last → AccountsFit l →
     ListingFits listing → set-up fee limit last l listing timing ≡ started g → RefusesAsRust g
 unfolding set-up
-refuses-after-set-up fee limit last l listing timing g f a x e =
-    starts fee limit l _ g (set-up-begins fee limit last l listing timing f a x) (judged fee _ g (none-flying _ _ g refl)) e
+from-set-up fee limit last l listing timing g f a x e =
+    starts _ g (set-up-begins fee limit last l listing timing f a x) (judged fee _ g (none-flying _ _ g refl)) e
 
-pub refuses-after-restore : (fee : ℤ) (limit : ℕ) (l : List Account) (timing : Timing) (bs : List ℕ) (g : Gateway) → AccountsFit l → Bytes bs →
+from-restore : (fee : ℤ) (limit : ℕ) (l : List Account) (timing : Timing) (bs : List ℕ) (g : Gateway) → AccountsFit l → Bytes bs →
     restore fee limit l timing bs ≡ started g → RefusesAsRust g
 unfolding restore restore-saved
-refuses-after-restore fee limit l timing bs g a b e = starts fee limit l _ g (restore-begins fee limit l timing bs a b) (judged fee _ g (go (decode bs))) e
+from-restore fee limit l timing bs g a b e = starts _ g (restore-begins fee limit l timing bs a b) (judged fee _ g (go (decode bs))) e
   where
     go : (s : Option Saved) → option (not-started malformed) (restore-saved fee limit l timing) s ≡ started g → g .core .flights ≡ []
     go none q = absurd (let z : _≡_ {A = ℕ} 0 1 = cc in omega (arith, z))
     go (some s) q = none-flying _ _ g refl q
+
+pub refusing : Refuses
+refusing = record { from-set-up = from-set-up; from-restore = from-restore }

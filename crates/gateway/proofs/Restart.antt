@@ -9,7 +9,7 @@
 -- command numbered at or before the checkpoint finds no command in the restored gateway, so nothing is claimed then. 01 also excludes checkpoints
 -- followed by an accepted `finish`; here they are included, since `finish` moves nothing that the ledger holds. Assumes nothing.
 use Prim.Native.Nat.{ℕ, zero, suc, _+_, _<_, _≤_}
-use mathlib.Core.Bool.{true, cond, not, and-eq-true-iff}
+use mathlib.Core.Bool.{true, cond, and-eq-true-iff}
 use mathlib.Core.Path.{_≡_, refl, ap, sym, _∙_, subst}
 use mathlib.Core.Option.{Option, none, some, Option·map}
 use mathlib.Core.List.{List, [], _∷_, _++_, map, append-nil, append-assoc}
@@ -31,7 +31,7 @@ use Rattle.gateway.specs.Bytes.{encode, decode}
 use Rattle.gateway.specs.Core.{Tests, Pass, Origin, system, Core, tests, core-step, accounts-after}
 use Rattle.gateway.specs.Rest.{Rest, no-session, stamped}
 use Rattle.gateway.specs.Entry.{bytes, Plan, refuse, quiet, records, unless, balance-with}
-use Rattle.gateway.specs.Calls.{Gateway, Call, checkpoint, replay-tests, plan, refused, done, carry-out, call}
+use Rattle.gateway.specs.Calls.{Gateway, Call, checkpoint, replay-tests, plan, done, carry-out, call}
 use Rattle.gateway.specs.Start.{Started, not-started, started, charging, entered, all-below, set-up, restore, restore-saved}
 use Rattle.gateway.specs.Fits.{Unsigned, AccountsFit, ListingFits, Bytes, CallFits, CallsFit}
 use Rattle.gateway.specs.Restart.{next-of, items-of, final, record-of, added, as-call, on-done, replay, later, all-later, forget, forgetting, ledger-of, SameBooks, Restarts}
@@ -42,8 +42,9 @@ use Rattle.gateway.proofs.Invariant.{core-ok, last-stays, fees-stay}
 use Rattle.gateway.proofs.Calls.{Good, plan-good, unless-pass, stamped-rest}
 use Rattle.gateway.proofs.Restore.{Accounts, begun-from, restores, opening-contents, view-now}
 use Rattle.gateway.proofs.Bytes.{decode-encode}
-use Rattle.gateway.proofs.Begin.{Begins, set-up-begins, restore-begins, contents-fit}
-use Rattle.gateway.specs.Invariant.{at, Known, RestOk, Ok}
+use Rattle.gateway.proofs.Begin.{Begins, Given, set-up-begins, set-up-given, restore-begins, restore-given, contents-fit}
+use Rattle.gateway.specs.Invariant.{at, Known, RestOk, Ok, AllOk}
+use Rattle.gateway.specs.Claims.{Demand3, RestartsFromAny}
 
 -- ---- one call, and a list of calls, keep the invariant
 
@@ -81,26 +82,31 @@ rest-known (account a) t last r ok =
 rest-known (command n k) t last r ok = ok
 rest-known (event n e) t last r ok = ok
 
-carry-ok : (g : Gateway) (p : Plan) → Ok g → Good (g .core) p → Ok (next-of g (carry-out (g .core) p))
-carry-ok g (refuse k) ok h = ok
-carry-ok g (quiet a ms r) ok h = record { core-is = ok .core-is; rest-is = stamped-rest _ _ ms r h }
-carry-ok g (records from i ms r) ok h =
+carry-ok : (F : Type 0) (g : Gateway) (p : Plan) → F → Ok g → Good F (g .core) p → Ok (next-of g (carry-out (g .core) p))
+carry-ok F g (refuse k) f ok h = ok
+carry-ok F g (quiet a ms r) f ok h = record { core-is = ok .core-is; rest-is = stamped-rest _ _ ms r h }
+carry-ok F g (records from i ms r) f ok h =
     record {
-      core-is = core-ok from i (g .core) (h .1 .0 .0) (h .1 .0 .1) (ok .core-is) (h .0);
+      core-is = core-ok from i (g .core) (h .1 .0 f .0) (h .1 .0 f .1) (ok .core-is) (h .0);
       rest-is =
           rest-known i (g .core .accounts) _ (stamped ms r)
           (rest-later _ _ _ (stamped ms r) (last-grows from i (g .core) (h .0)) (stamped-rest _ _ ms r (h .1 .1)));
     }
 
-good : (g : Gateway) (x : Call) → CallFits x → Ok g → Good (g .core) (plan (g .core) (g .rest) x)
-good g x f ok = plan-good (g .core) (g .rest) x f (ok .core-is) (ok .rest-is)
-
 pub call-ok : (g : Gateway) (x : Call) → CallFits x → Ok g → Ok (next-of g (call g x))
-call-ok g x f ok = carry-ok g (plan (g .core) (g .rest) x) ok (good g x f ok)
+call-ok g x f ok = carry-ok (CallFits x) g (plan (g .core) (g .rest) x) f ok (plan-good (CallFits x) (g .core) (g .rest) x (λ u. u) (ok .core-is) (ok .rest-is))
 
-pub final-ok : (g : Gateway) (xs : List Call) → CallsFit xs → Ok g → Ok (final g xs)
-final-ok g [] f ok = ok
-final-ok g (x ∷ xs) f ok = final-ok (next-of g (call g x)) xs (f .1) (call-ok g x (f .0) ok)
+-- what is recorded was tested, whatever the call's numbers
+pub good : (g : Gateway) (x : Call) → Ok g → Good ⊥ (g .core) (plan (g .core) (g .rest) x)
+good g x ok = plan-good ⊥ (g .core) (g .rest) x (λ u. absurd u) (ok .core-is) (ok .rest-is)
+
+pub calls-ok : (g : Gateway) (xs : List Call) → CallsFit xs → Ok g → AllOk g xs
+calls-ok g [] f ok = ok
+calls-ok g (x ∷ xs) f ok = (ok, calls-ok (next-of g (call g x)) xs (f .1) (call-ok g x (f .0) ok))
+
+pub final-ok : (g : Gateway) (xs : List Call) → AllOk g xs → Ok (final g xs)
+final-ok g [] ok = ok
+final-ok g (x ∷ xs) ok = final-ok (next-of g (call g x)) xs (ok .1)
 
 -- ---- the accounts of the moment
 
@@ -134,18 +140,18 @@ added-append (account a ∷ is) js = ap (λ l. a ∷ l) (added-append is js)
 added-append (command n k ∷ is) js = added-append is js
 added-append (event n e ∷ is) js = added-append is js
 
-carry-accounts : (fee : ℤ) (limit : ℕ) (l : List Account) (g : Gateway) (p : Plan) → Good (g .core) p → Accounts fee limit l (g .core) →
+carry-accounts : (fee : ℤ) (limit : ℕ) (l : List Account) (g : Gateway) (p : Plan) → Good ⊥ (g .core) p → Accounts fee limit l (g .core) →
     Accounts fee limit (l ++ added (items-of (carry-out (g .core) p))) (next-of g (carry-out (g .core) p) .core)
 carry-accounts fee limit l g (refuse k) h t = rw append-nil t
 carry-accounts fee limit l g (quiet a ms r) h t = rw append-nil t
 carry-accounts fee limit l g (records from i ms r) h t = item-accounts fee limit l from i (g .core) (h .0) t
 
-final-accounts : (fee : ℤ) (limit : ℕ) (l : List Account) (g : Gateway) (xs : List Call) → CallsFit xs → Ok g → Accounts fee limit l (g .core) →
+final-accounts : (fee : ℤ) (limit : ℕ) (l : List Account) (g : Gateway) (xs : List Call) → AllOk g xs → Accounts fee limit l (g .core) →
     Accounts fee limit (l ++ added (record-of g xs)) (final g xs .core)
-final-accounts fee limit l g [] f ok t = rw append-nil t
-final-accounts fee limit l g (x ∷ xs) f ok t =
-    let u = final-accounts fee limit (l ++ added (items-of (call g x))) (next-of g (call g x)) xs (f .1) (call-ok g x (f .0) ok)
-    (carry-accounts fee limit l g (plan (g .core) (g .rest) x) (good g x (f .0) ok) t) in
+final-accounts fee limit l g [] ok t = rw append-nil t
+final-accounts fee limit l g (x ∷ xs) ok t =
+    let u = final-accounts fee limit (l ++ added (items-of (call g x))) (next-of g (call g x)) xs (ok .1)
+    (carry-accounts fee limit l g (plan (g .core) (g .rest) x) (good g x (ok .0)) t) in
     rw (added-append (items-of (call g x)) (record-of (next-of g (call g x)) xs), ← append-assoc) u
 
 -- ---- replay
@@ -183,7 +189,7 @@ module _ (N : ℕ) where
         ap (replayed is) (sym (step-forget N (from .client-ref) i (c .ledger) u)) ∙ t .2,
       )
 
-  carry-leads : (g : Gateway) (p : Plan) (is : List Item) (d : Core) → Good (g .core) p → N ≤ g .core .ledger .last →
+  carry-leads : (g : Gateway) (p : Plan) (is : List Item) (d : Core) → Good ⊥ (g .core) p → N ≤ g .core .ledger .last →
       all-later N (items-of (carry-out (g .core) p) ++ is) →
       (N ≤ next-of g (carry-out (g .core) p) .core .ledger .last → all-later N is → Leads (next-of g (carry-out (g .core) p) .core) is d) →
       Leads (g .core) (items-of (carry-out (g .core) p) ++ is) d
@@ -192,11 +198,11 @@ module _ (N : ℕ) where
   carry-leads g (records from i ms r) is d h b l f =
       item-leads from i is (g .core) d (h .0) (above-of i (g .core) b (h .0) (l .0)) (f (omega (arith, last-grows from i (g .core) (h .0))) (l .1))
 
-  leads : (g : Gateway) (xs : List Call) → CallsFit xs → Ok g → N ≤ g .core .ledger .last → all-later N (record-of g xs) → Leads (g .core) (record-of g xs) (final g xs .core)
-  leads g [] f ok b l = λ r e. (r, refl, refl)
-  leads g (x ∷ xs) f ok b l =
-      carry-leads g (plan (g .core) (g .rest) x) (record-of (next-of g (call g x)) xs) (final (next-of g (call g x)) xs .core) (good g x (f .0) ok) b l
-      (λ b′ l′. leads (next-of g (call g x)) xs (f .1) (call-ok g x (f .0) ok) b′ l′)
+  leads : (g : Gateway) (xs : List Call) → AllOk g xs → N ≤ g .core .ledger .last → all-later N (record-of g xs) → Leads (g .core) (record-of g xs) (final g xs .core)
+  leads g [] ok b l = λ r e. (r, refl, refl)
+  leads g (x ∷ xs) ok b l =
+      carry-leads g (plan (g .core) (g .rest) x) (record-of (next-of g (call g x)) xs) (final (next-of g (call g x)) xs .core) (good g x (ok .0)) b l
+      (λ b′ l′. leads (next-of g (call g x)) xs (ok .1) b′ l′)
 
 -- ---- the checkpoint
 
@@ -209,7 +215,7 @@ checkpointed g (t ∷ ts) bs cs h e =
     split (λ b. carry-out (g .core) (cond b (unless ts refuse (quiet (bytes bs) [] (g .rest))) (refuse (t .0))) ≡ done (bytes cs) [] [] h → (cs ≡ bs) × (h ≡ g)) (t .1)
     (λ _ f. checkpointed g ts bs cs h f) (λ _ f. absurd (let z : _≡_ {A = ℕ} 0 1 = cc in omega (arith, z))) e
 
-final-append : (g : Gateway) (xs ys : List Call) → final g (xs ++ ys) ≡ final (final g xs) ys
+pub final-append : (g : Gateway) (xs ys : List Call) → final g (xs ++ ys) ≡ final (final g xs) ys
 final-append g [] ys = refl
 final-append g (x ∷ xs) ys = final-append (next-of g (call g x)) xs ys
 
@@ -238,20 +244,20 @@ same-books n c d e =
 -- ---- demand 3
 
 -- from a start g with the accounts l, any calls xs, an accepted checkpoint of the bytes bs there, and any calls ys after it
-restart : (fee : ℤ) (limit : ℕ) (l : List Account) (timing : Timing) (g : Gateway) → Ok g → Accounts fee limit l (g .core) →
-    (xs ys : List Call) (room : ℕ) (bs : List ℕ) (h : Gateway) → CallsFit xs → CallsFit ys →
+pub restart : (fee : ℤ) (limit : ℕ) (l : List Account) (timing : Timing) (g : Gateway) → Accounts fee limit l (g .core) →
+    (xs ys : List Call) (room : ℕ) (bs : List ℕ) (h : Gateway) → AllOk g xs → AllOk (final g xs) ys →
     call (final g xs) (checkpoint room) ≡ done (bytes bs) [] [] h →
     all-later (final g xs .core .ledger .last) (record-of (final g xs) ys) →
     Restarts fee limit (l ++ added (record-of g xs)) timing (final g xs .core .ledger .last) bs (record-of (final g xs) ys) (final g (xs ++ (checkpoint room ∷ ys)))
 unfolding plan at-view charging restore ledger-of
-restart fee limit l timing g ok t xs ys room bs h f f′ e late =
+restart fee limit l timing g t xs ys room bs h ok ok′ e late =
     let m = final g xs in
     let N = m .core .ledger .last in
-    let mok = final-ok g xs f ok in
-    let mat = final-accounts fee limit l g xs f ok t in
+    let mok = final-ok g xs ok in
+    let mat = final-accounts fee limit l g xs ok t in
     let k = checkpointed m _ (encode (contents (m .core .ledger))) bs h e in
     let d : decode bs ≡ some (contents (m .core .ledger)) = ap decode (k .0) ∙ decode-encode (contents (m .core .ledger)) (contents-fit (m .core) (mok .core-is)) in
-    let u = leads N m ys f′ mok (omega arith) late (begun-from timing (m .core) .rest) refl in
+    let u = leads N m ys ok′ (omega arith) late (begun-from timing (m .core) .rest) refl in
     let same : final g (xs ++ (checkpoint room ∷ ys)) ≡ final m ys =
     final-append g xs (checkpoint room ∷ ys) ∙ ap (λ o. final (next-of m o) ys) e ∙ ap (λ n. final n ys) (k .1) in
     record {
@@ -273,23 +279,24 @@ restart fee limit l timing g ok t xs ys room bs h f f′ e late =
           ∙ ap some (u .2);
     }
 
--- the claim of a list that begins with g: every accepted checkpoint in it, and all that follows it up to any moment
-pub record Demand3 (fee : ℤ) (limit : ℕ) (l : List Account) (g : Gateway) : Type 0 where
-  pub restarts : (timing : Timing) (xs ys : List Call) (room : ℕ) (bs : List ℕ) (h : Gateway) → CallsFit xs → CallsFit ys →
-      call (final g xs) (checkpoint room) ≡ done (bytes bs) [] [] h →
-      all-later (final g xs .core .ledger .last) (record-of (final g xs) ys) →
-      Restarts fee limit (l ++ added (record-of g xs)) timing (final g xs .core .ledger .last) bs (record-of (final g xs) ys) (final g (xs ++ (checkpoint room ∷ ys)))
-
-demand-3 : (fee : ℤ) (limit : ℕ) (l : List Account) (s : Started) (g : Gateway) → Begins fee limit l s → s ≡ started g → Demand3 fee limit l g
-demand-3 fee limit l s g b e =
-    let t : Begins fee limit l (started g) = subst (Begins fee limit l) e b in
-    record { restarts = λ timing. restart fee limit l timing g (t .0) (t .1) }
+demand-3 : (fee : ℤ) (limit : ℕ) (l : List Account) (s : Started) (g : Gateway) → Begins Ok s → Begins (Given fee limit l) s → s ≡ started g → Demand3 fee limit l g
+demand-3 fee limit l s g b a e =
+    let ok : Ok g = subst (Begins Ok) e b in
+    record {
+      restarts = λ timing xs ys room bs h f f′.
+          let m = calls-ok g xs f ok in
+          restart fee limit l timing g (subst (Begins (Given fee limit l)) e a) xs ys room bs h m (calls-ok (final g xs) ys f′ (final-ok g xs m));
+    }
 
 -- a list may start with set-up, and with restore
-pub after-set-up : (fee : ℤ) (limit last : ℕ) (l : List Account) (listing : List Listed) (timing : Timing) (g : Gateway) → Unsigned last → AccountsFit l → ListingFits listing →
+after-set-up : (fee : ℤ) (limit last : ℕ) (l : List Account) (listing : List Listed) (timing : Timing) (g : Gateway) → Unsigned last → AccountsFit l → ListingFits listing →
     set-up fee limit last l listing timing ≡ started g → Demand3 fee limit l g
-after-set-up fee limit last l listing timing g f a x e = demand-3 fee limit l _ g (set-up-begins fee limit last l listing timing f a x) e
+after-set-up fee limit last l listing timing g f a x e =
+    demand-3 fee limit l _ g (set-up-begins fee limit last l listing timing f a x) (set-up-given fee limit last l listing timing) e
 
-pub after-restore : (fee : ℤ) (limit : ℕ) (l : List Account) (timing : Timing) (bs : List ℕ) (g : Gateway) → AccountsFit l → Bytes bs →
+after-restore : (fee : ℤ) (limit : ℕ) (l : List Account) (timing : Timing) (bs : List ℕ) (g : Gateway) → AccountsFit l → Bytes bs →
     restore fee limit l timing bs ≡ started g → Demand3 fee limit l g
-after-restore fee limit l timing bs g a b e = demand-3 fee limit l _ g (restore-begins fee limit l timing bs a b) e
+after-restore fee limit l timing bs g a b e = demand-3 fee limit l _ g (restore-begins fee limit l timing bs a b) (restore-given fee limit l timing bs) e
+
+pub restarts : RestartsFromAny
+restarts = record { after-set-up = after-set-up; after-restore = after-restore }

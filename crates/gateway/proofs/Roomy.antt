@@ -1,8 +1,4 @@
--- A gateway with room serves. In plain words: where under 256 commands are in flight, none waits in the batch, a number is left, no order is live,
--- nothing rests, nothing waits to be published and the delivered number is the last one, no call at all is refused as full (5) or as not quiet (10),
--- and no received message is answered by the reject `Unavailable`. And where such a gateway receives a new order, cancel, modify or mass cancel of
--- a session logged in for an account without a wallet that has a token and an open limit above 0, it numbers the command and sends nothing, so no
--- reject either. So a gateway that refuses all, or sends the same reject to everyone, is not this one. Assumes nothing.
+-- A gateway with room serves: what `RoomServes` of specs/Claims.antt claims. Assumes nothing.
 use Prim.Native.Nat.{ℕ, suc, _+_, _<_}
 use mathlib.Core.Bool.{Bool, true, false, cond, not, _&&_, _||_, true≢false}
 use mathlib.Core.Path.{_≡_, refl, ap, ap₂, sym, _∙_, subst}
@@ -43,7 +39,7 @@ use Rattle.gateway.specs.Ledger.{Order, Ledger, New, Item, account, comm
 use Rattle.gateway.specs.Core.{Tests, Pass, Origin, Core, account-at, places, tests, fits-after}
 use Rattle.gateway.specs.Depth.{apply, add, levels-few, depth-few}
 use Rattle.gateway.specs.Rest.{Session, Mail, send, pending, Rest, at-time, with-sessions, with-buckets, session-at, account-of, is-present, update-session, set-received}
-use Rattle.gateway.specs.Entry.{Plan, refuse, quiet, records, unless, sends, wallet-at, ended, login-tests, logged-in, greet, reject, next, can-number, queued, numbered, command-of, paper-tests, is-zero, price-of, new-notice, most-open, new-tests, enter-new, enter-other, taken, with-token, publish-mail, published, hear, receive}
+use Rattle.gateway.specs.Entry.{Answer, Plan, refuse, quiet, records, unless, sends, wallet-at, ended, login-tests, logged-in, greet, reject, next, can-number, queued, numbered, command-of, paper-tests, is-zero, price-of, new-notice, most-open, new-tests, enter-new, enter-other, taken, with-token, publish-mail, published, hear, receive}
 use Rattle.gateway.specs.Deliver.{named, notices-of, tick-of, order-notices, deliver-tests, deliver}
 use Rattle.gateway.specs.Listing.{listing-agrees, listed-depth}
 use Rattle.gateway.specs.Calls.{Call, add-account, connect, set-paper-collar, wallet, last-seq, depth-levels, receive-from, tick, publish, end-session, shut-down, disconnect, detach, take-batch, deliver-event, replay-command, replay-event, finish, checkpoint}
@@ -53,22 +49,12 @@ use Rattle.gateway.proofs.Base.{split}
 use Rattle.gateway.proofs.Money.{between, zero-fits}
 use Rattle.gateway.proofs.Invariant.{Shrinks, empty, shrunk}
 use Rattle.gateway.proofs.Calls.{unless-pass}
-
-pub record Roomy (c : Core) (r : Rest) : Type 0 where
-  pub flying : length (c .flights) < most-in-flight
-  pub waiting : r .batch ≡ []
-  pub number : next c < modulus
-  pub orders : c .ledger .orders ≡ []
-  pub resting : r .depth .resting ≡ []
-  pub changed : r .depth .changed ≡ []
-  pub trades : r .trades ≡ []
-  pub notices : r .notices ≡ []
-  pub delivered : r .delivered ≡ c .ledger .last
+use Rattle.gateway.specs.Claims.{Roomy, spent, Member, RoomServes}
 
 -- such a gateway begins where no order is listed or saved
-pub begins-roomy : (timing : Timing) (l : Ledger) (t : List (Option Account)) → l .orders ≡ [] → l .last + 1 < modulus →
+begins : (timing : Timing) (l : Ledger) (t : List (Option Account)) → l .orders ≡ [] → l .last + 1 < modulus →
     (let g = begin timing l t empty-depth [] in Roomy (g .core) (g .rest))
-begins-roomy timing l t e h =
+begins timing l t e h =
     record { flying = omega arith; waiting = refl; number = h; orders = e; resting = refl; changed = refl; trades = refl; notices = refl; delivered = refl }
 
 -- ---- one order's hold is in range, whatever it is
@@ -375,22 +361,16 @@ never-full c r x h =
     (λ e. surely refl (subst Open e p), λ e. surely refl (subst Open e p))
 
 -- and `Unavailable` of no received message
-pub never-unavailable : (s : ℕ) (m : Inbound) (t room : ℕ) (c : Core) (r : Rest) → Roomy c r → Serves (plan c r (receive-from s m t room))
+receives : (s : ℕ) (m : Inbound) (t room : ℕ) (c : Core) (r : Rest) → Roomy c r → Serves (plan c r (receive-from s m t room))
 unfolding plan
-never-unavailable s m t room c r h =
+receives s m t room c r h =
     within-keeps Serves refl room (receive s m c (at-time t r)) (receive-serves s m c (at-time t r) (moved t (r .sessions) (r .buckets) c r h))
 
+never-unavailable : (c : Core) (r : Rest) (s : ℕ) (m : Inbound) (t room : ℕ) → Roomy c r → (a : Answer) (z ref : ℕ) (q : Rest) →
+    plan c r (receive-from s m t room) ≡ quiet a (send z (Out.Reject Unavailable ref) ∷ []) q → ⊥
+never-unavailable c r s m t room h a z ref q e = subst Serves e (receives s m t room c r h) z ref refl
+
 -- ---- a member is served
-
--- the rest once account a's token is taken
-abbrev pub spent : ℕ → Core → Rest → Rest
-spent a c r = with-buckets (set (r .buckets) a (taken a c r .bucket)) r
-
--- account a has no wallet, a token, and an open limit above 0
-pub record Member (a : ℕ) (c : Core) (r : Rest) : Type 0 where
-  pub no-wallet : wallet-at a c ≡ none
-  pub token : taken a c r .passed ≡ true
-  pub limit : 0 < most-open (account-at a c)
 
 pass-join : {A : Type 0} (xs ys : Tests A) → Pass xs → Pass ys → Pass (xs ++ ys)
 pass-join [] ys p q = q
@@ -411,10 +391,10 @@ module _ (s a : ℕ) (c : Core) (r : Rest) (h : Roomy c r) (m : Member a c r) wh
   )
 
   -- the new order is numbered under the client's reference, and nobody is sent anything
-  pub new-numbered : (o : NewOrder) → (let k = command-of (next c) a (o .side) (o .qty) (o .kind) in
+  new : (o : NewOrder) → (let k = command-of (next c) a (o .side) (o .qty) (o .kind) in
       hear s a (In.NewOrder o) c r ≡ records (record { client-ref = o .«client_ref»; session = some s }) (command (next c) k) [] (queued k (spent a c r)))
   unfolding hear
-  new-numbered o =
+  new o =
       let k = command-of (next c) a (o .side) (o .qty) (o .kind) in
       let told : List ℕ → Plan = λ ns.
       records (record { client-ref = o .«client_ref»; session = some s }) (command (next c) k) [] (queued k (pending (r .depth) (r .trades) ns (spent a c r))) in
@@ -428,29 +408,39 @@ module _ (s a : ℕ) (c : Core) (r : Rest) (h : Roomy c r) (m : Member a c r) wh
       tokened 0 (enter-other s own k c)
       ∙ unless-pass (reject s 0 (spent a c r)) (numbered (some s) k c (spent a c r)) (own ++ can-number Unavailable c (spent a c r)) (pass-join own _ p (can-pass Unavailable c (spent a c r) roomy-spent))
 
-  pub cancel-numbered : (i : ℕ) → hear s a (In.Cancel i) c r ≡ numbered (some s) (Cancel i a) c (spent a c r)
+  cancel : (i : ℕ) → hear s a (In.Cancel i) c r ≡ numbered (some s) (Cancel i a) c (spent a c r)
   unfolding hear
-  cancel-numbered i = other-numbered [] (Cancel i a) tt
+  cancel i = other-numbered [] (Cancel i a) tt
 
-  pub modify-numbered : (i : ℕ) (p : ℤ) (q : ℕ) → hear s a (In.Modify i p q) c r ≡ numbered (some s) (Modify i a p q) c (spent a c r)
+  modify : (i : ℕ) (p : ℤ) (q : ℕ) → hear s a (In.Modify i p q) c r ≡ numbered (some s) (Modify i a p q) c (spent a c r)
   unfolding hear
-  modify-numbered i p q = other-numbered ((NotAllowed, not (is-some (wallet-at a c))) ∷ []) (Modify i a p q) (rw (m .no-wallet) refl, tt)
+  modify i p q = other-numbered ((NotAllowed, not (is-some (wallet-at a c))) ∷ []) (Modify i a p q) (rw (m .no-wallet) refl, tt)
 
-  pub mass-numbered : hear s a In.MassCancel c r ≡ numbered (some s) (CancelAll a) c (spent a c r)
+  mass : hear s a In.MassCancel c r ≡ numbered (some s) (CancelAll a) c (spent a c r)
   unfolding hear
-  mass-numbered = other-numbered [] (CancelAll a) tt
+  mass = other-numbered [] (CancelAll a) tt
 
 -- what is heard of an open session is what the call does, where it sends nothing
-abbrev pub received : ℕ → ℕ → Rest → Rest
-received s t r = update-session s (set-received t) (at-time t r)
-
-pub call-hears : (s a t room : ℕ) (x : Inbound) (y : Session) (c : Core) (r : Rest) (from : Origin) (i : Item) (q : Rest) → session-at s r ≡ some y →
-    y .account ≡ some a → y .closing ≡ false → hear s a x c (received s t r) ≡ records from i [] q → plan c r (receive-from s x t room) ≡ records from i [] q
+heard : (s a t room : ℕ) (x : Inbound) (y : Session) (c : Core) (r : Rest) (from : Origin) (i : Item) (q : Rest) → session-at s r ≡ some y →
+    y .account ≡ some a → y .closing ≡ false → hear s a x c (update-session s (set-received t) (at-time t r)) ≡ records from i [] q → plan c r (receive-from s x t room) ≡ records from i [] q
 unfolding plan receive within
-call-hears s a t room x y c r from i q e f g h =
-    let after = received s t r in
+heard s a t room x y c r from i q e f g h =
+    let after = update-session s (set-received t) (at-time t r) in
     let hears : Bool → Option ℕ → Plan = λ b o. cond b (option (greet s x c after) (λ z. hear s z x c after) o) (sends [] (at-time t r)) in
     ap (λ z. within room (hears (is-present z) (account-of z))) e
     ∙ ap₂ (λ b o. within room (hears (not b) o)) g f
     ∙ ap (within room) h
     ∙ unless-pass refuse (records from i [] q) _ (le-leb 0 room (omega arith), tt)
+
+pub room-serves : RoomServes
+room-serves =
+    record {
+      begins = begins;
+      never-full = never-full;
+      never-unavailable = never-unavailable;
+      new = new;
+      cancel = cancel;
+      modify = modify;
+      mass = mass;
+      heard = heard;
+    }

@@ -36,7 +36,7 @@ alike-ok t e ok =
 pub alike-refl : (xs : List (Option Session)) → Alike xs xs
 alike-refl xs = record { len = refl; acct = λ i. refl }
 
-pub alike-trans : {xs ys zs : List (Option Session)} → Alike xs ys → Alike ys zs → Alike xs zs
+alike-trans : {xs ys zs : List (Option Session)} → Alike xs ys → Alike ys zs → Alike xs zs
 alike-trans p q = record { len = q .len ∙ p .len; acct = λ i. q .acct i ∙ p .acct i }
 
 set-acct : (xs : List (Option Session)) (s : ℕ) (v : Option Session) → account-of v ≡ at xs s → (i : ℕ) → at (set xs s v) i ≡ at xs i

@@ -1,8 +1,4 @@
--- An accepted trade settles exactly. In plain words: the wallets after it are those before, where the taker's account is paid and then the maker's,
--- each with its order's own side at the trade's price, a buy's with the fee; an account that neither order names keeps its wallet. Where the numbers fit, a buy's cash falls
--- by (price + fee) × quantity and its seats rise by the quantity, and a sell's go the other way. What an account holds on a side moves by the new hold less
--- the old, and the new hold is that of the order's own side and charged price with what is left: the trade's price has no part in it. So a gateway that echoes
--- reports and moves no wallet, or releases a buy's hold at the trade's price, is not this one. Assumes nothing.
+-- An accepted trade settles: what `Settling` of specs/Claims.antt claims. Assumes nothing.
 use Prim.Native.Nat.{ℕ}
 use mathlib.Core.Bool.{Bool, true, false, not, _&&_, and-eq-true-iff, true≢false}
 use mathlib.Core.Path.{_≡_, refl, ap, ap₂, sym, _∙_}
@@ -20,20 +16,21 @@ use Rattle.orderbook.specs.declared.Event.the-variants.{Trade}
 use Rattle.accounts.specs.declared.Funds.{Funds}
 use Rattle.words.specs.Words.{place-of, inside}
 use Rattle.wallet.specs.Wallet as W
-use Rattle.gateway.specs.Ledger.{Order, Ledger, Change, event, find, fill, changes, change, changed, pay, step, same-side, order-hold, held, fits}
+use Rattle.gateway.specs.Ledger.{Order, Ledger, Change, event, find, fill, changes, change, changed, pay, step, same-side, order-hold, fits}
 use Rattle.gateway.specs.Deliver.{hold-after}
 use Rattle.gateway.specs.Core.{Pass, Origin, Core, numbers-agree, tests, core-step}
 use Rattle.gateway.proofs.Money.{bounds}
 use Rattle.gateway.proofs.Invariant.{Rise}
-use Rattle.gateway.proofs.Moves.{fills, find-changed, rise-changed, hold-move, held-changed}
+use Rattle.gateway.proofs.Moves.{fills, find-changed, rise-changed, held-changed}
 use Rattle.gateway.proofs.Calls.{held-slot}
 use Rattle.gateway.specs.Invariant.{CoreOk}
+use Rattle.gateway.specs.Claims.{Settles, exactly, hold-move, Settling}
 
 -- ---- wallets
 
 module _ (fee p : ℤ) (q : ℕ) (ws : List (Option Funds)) where
   -- the account of a filled order is paid
-  pub pay-own : (x : Option Order) (o : Order) (w : Funds) → x ≡ some o → getD ws (o .account) none ≡ some w →
+  pay-own : (x : Option Order) (o : Order) (w : Funds) → x ≡ some o → getD ws (o .account) none ≡ some w →
       getD (pay fee p q x ws) (o .account) none ≡ some (W.settle (o .side) (W.charged fee (o .side) p) q w)
   unfolding pay
   pay-own x o w h e =
@@ -41,7 +38,7 @@ module _ (fee p : ℤ) (q : ℕ) (ws : List (Option Funds)) where
       ∙ getD-set-same ws (o .account) _ none (held-slot ws (o .account) w e) ∙ ap (Option·map (W.settle (o .side) (W.charged fee (o .side) p) q)) e
 
   -- and no other
-  pub pay-other : (x : Option Order) (b : ℕ) → ((o : Order) → x ≡ some o → b ≡ o .account → ⊥) → getD (pay fee p q x ws) b none ≡ getD ws b none
+  pay-other : (x : Option Order) (b : ℕ) → ((o : Order) → x ≡ some o → b ≡ o .account → ⊥) → getD (pay fee p q x ws) b none ≡ getD ws b none
   unfolding pay
   pay-other none b h = refl
   pay-other (some o) b h = getD-set-other ws (o .account) b _ none (h o refl)
@@ -51,33 +48,23 @@ fit-inside : (z : ℤ) → fits z ≡ true → place-of z ≡ inside z
 unfolding place-of
 fit-inside z h = let b = bounds z h in rw (b .0, b .1) refl
 
-abbrev pub exactly : Side → ℤ → ℤ → Funds → Funds
-exactly Buy amount lots f = record { cash = f .cash -ℤ amount; position = f .position +ℤ lots }
-exactly Sell amount lots f = record { cash = f .cash +ℤ amount; position = f .position -ℤ lots }
-
-pub settles-exactly : (s : Side) (p : ℤ) (q : ℕ) (f : Funds) → fits (p *ℤ pos q) ≡ true → fits (pos q) ≡ true →
+exact : (s : Side) (p : ℤ) (q : ℕ) (f : Funds) → fits (p *ℤ pos q) ≡ true → fits (pos q) ≡ true →
     fits (exactly s (p *ℤ pos q) (pos q) f .cash) ≡ true → fits (exactly s (p *ℤ pos q) (pos q) f .position) ≡ true →
     W.settle s p q f ≡ exactly s (p *ℤ pos q) (pos q) f
-settles-exactly Buy p q f a b c d = simp (fit-inside _ a, fit-inside _ b, fit-inside _ c, fit-inside _ d)
-settles-exactly Sell p q f a b c d = simp (fit-inside _ a, fit-inside _ b, fit-inside _ c, fit-inside _ d)
+exact Buy p q f a b c d = simp (fit-inside _ a, fit-inside _ b, fit-inside _ c, fit-inside _ d)
+exact Sell p q f a b c d = simp (fit-inside _ a, fit-inside _ b, fit-inside _ c, fit-inside _ d)
 
 -- ---- holds
 
 -- for the order's own account and side: what it holds afterwards, less what it held
-pub own-move : (fee : ℤ) (x : Change) (o : Order) → hold-move fee (o .account) (o .side) x (some o) ≡ hold-after fee x o -ℤ order-hold fee o
-own-move fee x o = simp (eq-eqb (o .account) (o .account) refl, self (o .side))
+own-hold : (fee : ℤ) (x : Change) (o : Order) → hold-move fee (o .account) (o .side) x (some o) ≡ hold-after fee x o -ℤ order-hold fee o
+own-hold fee x o = simp (eq-eqb (o .account) (o .account) refl, self (o .side))
   where
     self : (s : Side) → same-side s s ≡ true
     self Buy = refl
     self Sell = refl
 
 -- ---- an accepted trade
-
--- c before and d after a trade of q at p between the two orders, with so much left of each
-pub record Settles (c d : Ledger) (taker maker : ℕ) (p : ℤ) (q tl ml : ℕ) : Type 0 where
-  pub wallets : d .wallets ≡ pay (c .fee) p q (find maker (c .orders)) (pay (c .fee) p q (find taker (c .orders)) (c .wallets))
-  pub fee : d .fee ≡ c .fee
-  pub holds : (a : ℕ) (s : Side) → held (c .fee) a s (d .orders) ≡ held (c .fee) a s (c .orders) +ℤ hold-move (c .fee) a s (fill taker p q tl) (find taker (c .orders)) +ℤ hold-move (c .fee) a s (fill maker p q ml) (find maker (c .orders))
 
 trade-settles : (n t taker maker : ℕ) (s : Side) (p : ℤ) (q tl ml : ℕ) (l : Ledger) → (taker ≡ maker → ⊥) → Rise 0 (l .orders) →
     Settles l (changed (changes n (Trade t taker maker s p q tl ml)) l) taker maker p q tl ml
@@ -108,21 +95,24 @@ accepted-settles from n t taker maker s p q tl ml c ok h =
 -- ---- one side of it
 
 -- the taker's account, where the maker's order is not of it; and the maker's likewise
-pub side-settles : (c d : Ledger) (taker maker : ℕ) (p : ℤ) (q tl ml : ℕ) → Settles c d taker maker p q tl ml → (i j : ℕ) → ((i ≡ taker) × (j ≡ maker)) ⊎ ((i ≡ maker) × (j ≡ taker)) →
+one-side : (c d : Ledger) (taker maker : ℕ) (p : ℤ) (q tl ml : ℕ) → Settles c d taker maker p q tl ml → (i j : ℕ) → ((i ≡ taker) × (j ≡ maker)) ⊎ ((i ≡ maker) × (j ≡ taker)) →
     (o : Order) (w : Funds) → find i (c .orders) ≡ some o → getD (c .wallets) (o .account) none ≡ some w →
     ((x : Order) → find j (c .orders) ≡ some x → o .account ≡ x .account → ⊥) → getD (d .wallets) (o .account) none ≡ some (W.settle (o .side) (W.charged (c .fee) (o .side) p) q w)
-side-settles c d taker maker p q tl ml h i j (inl z) o w e f g =
+one-side c d taker maker p q tl ml h i j (inl z) o w e f g =
     ap (λ ws. getD ws (o .account) none) (h .wallets)
     ∙ pay-other (c .fee) p q _ (find maker (c .orders)) (o .account) (λ x k. g x (ap (λ m. find m (c .orders)) (z .1) ∙ k))
     ∙ pay-own (c .fee) p q (c .wallets) (find taker (c .orders)) o w (ap (λ m. find m (c .orders)) (sym (z .0)) ∙ e) f
-side-settles c d taker maker p q tl ml h i j (inr z) o w e f g =
+one-side c d taker maker p q tl ml h i j (inr z) o w e f g =
     ap (λ ws. getD ws (o .account) none) (h .wallets)
     ∙ pay-own (c .fee) p q _ (find maker (c .orders)) o w (ap (λ m. find m (c .orders)) (sym (z .0)) ∙ e)
     (pay-other (c .fee) p q (c .wallets) (find taker (c .orders)) (o .account) (λ x k. g x (ap (λ m. find m (c .orders)) (z .1) ∙ k)) ∙ f)
 
 -- an account that neither order names
-pub others-keep : (c d : Ledger) (taker maker : ℕ) (p : ℤ) (q tl ml : ℕ) → Settles c d taker maker p q tl ml → (b : ℕ) →
+others : (c d : Ledger) (taker maker : ℕ) (p : ℤ) (q tl ml : ℕ) → Settles c d taker maker p q tl ml → (b : ℕ) →
     ((o : Order) → find taker (c .orders) ≡ some o → b ≡ o .account → ⊥) → ((o : Order) → find maker (c .orders) ≡ some o → b ≡ o .account → ⊥) →
     getD (d .wallets) b none ≡ getD (c .wallets) b none
-others-keep c d taker maker p q tl ml h b u v =
+others c d taker maker p q tl ml h b u v =
     ap (λ ws. getD ws b none) (h .wallets) ∙ pay-other (c .fee) p q _ (find maker (c .orders)) b v ∙ pay-other (c .fee) p q (c .wallets) (find taker (c .orders)) b u
+
+pub settling : Settling
+settling = record { settles = accepted-settles; one-side = one-side; others = others; exact = exact; own-hold = own-hold }

@@ -16,9 +16,10 @@ use Rattle.gateway.specs.Ledger.{Order, Ledger, number-of, holds-fit}
 use Rattle.gateway.specs.Core.{Flight, Core}
 use Rattle.gateway.specs.Depth.{Depth, resting-number, levels-fit, depth-few}
 use Rattle.gateway.specs.Rest.{Session, Rest, account-of}
-use Rattle.gateway.specs.Calls.{Gateway}
+use Rattle.gateway.specs.Calls.{Gateway, Call, call}
 use Rattle.gateway.specs.Start.{funds-in}
 use Rattle.gateway.specs.Fits.{Unsigned, PriceFits, FundsFit}
+use Rattle.gateway.specs.Restart.{next-of}
 
 -- ---- numbers fit their Rust types
 
@@ -106,3 +107,8 @@ pub record RestOk (t : List (Option Account)) (last : ℕ) (r : Rest) : Type 0 w
 pub record Ok (g : Gateway) : Type 0 where
   pub core-is : CoreOk (g .core)
   pub rest-is : RestOk (g .core .accounts) (g .core .ledger .last) (g .rest)
+
+-- before each of these calls, and after the last
+abbrev pub AllOk : Gateway → List Call → Type 0
+AllOk g [] = Ok g
+AllOk g (x ∷ xs) = Ok g × AllOk (next-of g (call g x)) xs

@@ -15,3 +15,6 @@ pub mod Start
 pub mod Fits
 pub mod Invariant
 pub mod Restart
+pub mod Examples
+pub mod FromRust
+pub mod Claims

@@ -1,3 +1,4 @@
 pub mod Collar
 pub mod Meter
 pub mod Throttle
+pub mod Claims

@@ -1,4 +1,4 @@
--- An account's throttle: RFC 2697's meter, with all the updates of a time made at once (proofs/Meter.antt shows that it's the same).
+-- An account's throttle: RFC 2697's meter, with all the updates of a time made at once (Claims.antt claims that it's the same).
 -- Tc is counted in billionths of a message, so that `rate` updates fall in each nanosecond.
 use mathlib.Core.Bool.{Bool, true, false}
 use Prim.Native.Nat.{ℕ, _+_, _*_, _-_, min, max}

@@ -7,6 +7,7 @@ ghost use Rattle.words.specs.Words.{int};
 ghost use Rattle.risk.specs.Collar as C;
 ghost use Rattle.risk.specs.Meter as M;
 ghost use Rattle.risk.specs.Throttle as T;
+ghost use Rattle.risk.specs.Claims.{Claims};
 
 // |price - mark| * 100 <= mark * percent, exact and signed.
 pub fn near(price: u64, mark: u64, percent: u64) -> bool
@@ -117,3 +118,8 @@ pub fn take_token(bucket: Bucket, rate: u32, now: u64) -> Taken
         }
     }
 }
+
+// What is claimed of the throttle holds. Nothing calls this: it is here for its proof.
+pub fn claims()
+    ensures { λ r. ⌜ Claims ⌝ }
+{}
