@@ -17,6 +17,7 @@ use Rattle.gateway.proofs.Bytes.{encode-length}
 use Rattle.store.specs.Cells as C
 use Rattle.store.specs.Layout.{cell}
 use Rattle.store.specs.View.{listed, word, command, gateway}
+use Rattle.outcome.specs.Answers.{Unsent}
 use Rattle.outcome.specs.Between.{Between}
 use Rattle.outcome.specs.Parts.{rest-of}
 use Rattle.outcome.proofs.Calls.{refuses, answers}
@@ -58,8 +59,8 @@ module _ (xs out : List ℕ) (b : Between xs) (q : Bool) (q-is : q ≡ quiet (ga
   pub loud : q ≡ false → Writes (call (gateway (cell xs)) x) (record { code = 10; count = 0 }) xs xs out out
   unfolding plan unless
   loud t =
-      refuses xs x tt b (out ≡ out) (λ a ms. Written a ms 0 out out) not-quiet
-      (go (is-empty (rest-of xs .batch)) (eqb (rest-of xs .delivered) (gateway (cell xs) .core .ledger .last)) (leb (length bs) (length out)) (Entry.quiet (bytes bs) [] (rest-of xs)) (sym q-is ∙ t)) refl
+      refuses xs x tt b (Unsent 0 out out) (λ a ms. Written a ms 0 out out) not-quiet
+      (go (is-empty (rest-of xs .batch)) (eqb (rest-of xs .delivered) (gateway (cell xs) .core .ledger .last)) (leb (length bs) (length out)) (Entry.quiet (bytes bs) [] (rest-of xs)) (sym q-is ∙ t)) (refl, refl)
     where
       go : (u v c : Bool) (p : Plan) → (u && v) ≡ false → unless ((not-quiet, u) ∷ (not-quiet, v) ∷ (too-short, c) ∷ []) refuse p ≡ refuse not-quiet
       go true true c p h = absurd (false≢true (sym h))
@@ -78,12 +79,12 @@ module _ (xs out : List ℕ) (b : Between xs) (q : Bool) (q-is : q ≡ quiet (ga
 
     pub short : length out < 25 + 20 * w + 37 * n → Writes (call (gateway (cell xs)) x) (record { code = 6; count = 0 }) xs xs out out
     unfolding unless
-    short l = refuses xs x tt b (out ≡ out) (λ a ms. Written a ms 0 out out) too-short (judged false (lt-leb (length bs) (length out) (omega (arith, size-is)))) refl
+    short l = refuses xs x tt b (Unsent 0 out out) (λ a ms. Written a ms 0 out out) too-short (judged false (lt-leb (length bs) (length out) (omega (arith, size-is)))) (refl, refl)
 
     pub saved : (end : List ℕ) → 25 + 20 * w + 37 * n ≤ length out → end ≡ put-bytes 0 bs out → Writes (call (gateway (cell xs)) x) (record { code = 0; count = 25 + 20 * w + 37 * n }) xs xs out end
     unfolding unless
     saved end l e =
-        answers xs x tt b (end ≡ out) (λ a ms. Written a ms (25 + 20 * w + 37 * n) out end) (bytes bs) [] (rest-of xs) (judged true (le-leb (length bs) (length out) (omega (arith, size-is))))
+        answers xs x tt b (Unsent (25 + 20 * w + 37 * n) out end) (λ a ms. Written a ms (25 + 20 * w + 37 * n) out end) (bytes bs) [] (rest-of xs) (judged true (le-leb (length bs) (length out) (omega (arith, size-is))))
         (record { state = b .state; gateway-is = refl }) (record { no-mail = refl; count-is = sym size-is; written = e ∙ put-front bs out (omega (arith, size-is)) })
 
 pub ruleset laws = (stores, walks, not-true, not-false, quiet-waiting, quiet-is, loud, short, saved, arith)

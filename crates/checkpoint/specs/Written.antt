@@ -7,7 +7,7 @@ use Rattle.gateway.specs.Rest.{Mail}
 use Rattle.gateway.specs.Entry.{Answer, nothing, account-was, wallet-is, number-is, levels-are, commands, bytes}
 use Rattle.gateway.specs.Calls.{Outcome}
 use Rattle.outcome.specs.declared.Reply.{Reply}
-use Rattle.outcome.specs.Answers.{Answers}
+use Rattle.outcome.specs.Answers.{Answers, Unsent}
 
 -- the bytes of an answer
 abbrev pub answer-bytes : Answer → List ℕ
@@ -26,4 +26,4 @@ pub record Written (a : Answer) (ms : List Mail) (count : ℕ) (out end : List �
   pub written : end ≡ answer-bytes a ++ drop (length (answer-bytes a)) out
 
 abbrev pub Writes : Outcome → Reply → (xs ys out end : List ℕ) → Type 0
-Writes o r xs ys out end = Answers o (end ≡ out) (λ a ms. Written a ms (r .count) out end) (r .code) xs ys
+Writes o r xs ys out end = Answers o (Unsent (r .count) out end) (λ a ms. Written a ms (r .count) out end) (r .code) xs ys

@@ -23,7 +23,7 @@ use Rattle.sound.specs.Sound.{Becomes}
 use Rattle.mailbox.specs.Mailbox.{places, mailed}
 use Rattle.outcome.specs.declared.Reply.{Reply}
 use Rattle.outcome.specs.Between.{Between}
-use Rattle.outcome.specs.Answers.{verdict, Gives, Sent}
+use Rattle.outcome.specs.Answers.{verdict, Gives, Unsent, Sent}
 use Rattle.outcome.specs.Parts.{with-rest, rest-of, Sends}
 use Rattle.outcome.proofs.Calls.{codes, judged, refuses, recorded}
 use Rattle.outcome.proofs.Laws.{then-becomes}
@@ -104,13 +104,13 @@ module _ (xs out : List ℕ) (n : ℕ) (e : Event) (f : EventFits e) (b : Betwee
 
   pub deliver-refused : (v ≡ 0 → ⊥) → Gives (call (gateway (cell xs)) it) (record { code = v; count = 0 }) xs xs out out
   deliver-refused h =
-      refuses xs it f b (out ≡ out) (λ a ms. Sent a ms 0 out out) v (plan-is ∙ ap (λ (t : Bool). cond t (deliver n e c r) (refuse v)) (ne-eqb v 0 h)) refl
+      refuses xs it f b (Unsent 0 out out) (λ a ms. Sent a ms 0 out out) v (plan-is ∙ ap (λ (t : Bool). cond t (deliver n e c r) (refuse v)) (ne-eqb v 0 h)) (refl, refl)
 
   pub deliver-done : {ys zs end : List ℕ} → v ≡ 0 → (ms : List Mail) → ms ≡ reports n e c r → (k : ℕ) → k ≡ length ms → Becomes ys (after n e (gateway (cell xs))) → Sends 0 ms (λ q. q) ys zs out end →
       Gives (call (gateway (cell xs)) it) (record { code = 0; count = k }) xs zs out end
   deliver-done {ys} {zs} {end} z ms ms-are k count d s =
       let t = then-becomes (with-rest (stamped ms)) d (s .becomes) in
-      recorded xs it f b (end ≡ out) (λ a ns. Sent a ns k out end) system (event n e) (reports n e c r) (rest-after n e c r)
+      recorded xs it f b (Unsent k out end) (λ a ns. Sent a ns k out end) system (event n e) (reports n e c r) (rest-after n e c r)
       (plan-is ∙ ap (λ (t : Bool). cond t (deliver n e c r) (refuse v)) (eq-eqb v 0 z))
       (record { state = t .state; gateway-is = t .gateway-is ∙ ap (λ (l : List Mail). record { core = core-step system (event n e) c; rest = stamped l (rest-after n e c r) }) ms-are })
       (record { no-answer = refl; count-is = count ∙ ap length ms-are; posted = s .posted ∙ ap (λ l. mailed 0 l out) ms-are })

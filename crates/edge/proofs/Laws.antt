@@ -2,8 +2,8 @@
 use Prim.Native.Nat.{ℕ, _*_}
 use mathlib.Core.Path.{_≡_, refl, sym, ap, subst, _∙_}
 use mathlib.Core.Bool.{Bool, true, false, cond, _&&_, and-true, and-false, and-eq-true-iff}
-use mathlib.Core.Option.{Option}
-use mathlib.Core.List.{List}
+use mathlib.Core.Option.{Option, none, some}
+use mathlib.Core.List.{List, []}
 use borrow.Author.Needs.{needs}
 use borrow.Author.Tests.{eq-eqb, ne-eqb, eqb-true}
 use lib.Dec.{eqb}
@@ -11,6 +11,7 @@ use lib.ListN.{length}
 use Rattle.orderbook.specs.declared.Side.{Side}
 use Rattle.orderbook.specs.declared.Event.{Event}
 use Rattle.orderbook.specs.declared.Command.{Command}
+use Rattle.protocol.specs.declared.Balance.{Balance}
 use Rattle.protocol.specs.declared.Inbound.{Inbound}
 use Rattle.protocol.specs.declared.LogoutReason.{LogoutReason}
 use Rattle.protocol.specs.Codes.{logoutOf}
@@ -19,7 +20,7 @@ use Rattle.risk.specs.declared.MaybePercent as Percent
 use Rattle.risk.specs.Collar.{percent-of}
 use Rattle.gateway.specs.Limits.{malformed}
 use Rattle.gateway.specs.Rest.{Mail}
-use Rattle.gateway.specs.Entry.{Answer, nothing, account-was, wallet-is}
+use Rattle.gateway.specs.Entry.{Answer, account-was, wallet-is, number-is}
 use Rattle.gateway.specs.Calls as C
 use Rattle.gateway.specs.Calls.{Call, call, Outcome, refused}
 use Rattle.store.specs.Layout.{cell, cells, Holds}
@@ -27,17 +28,19 @@ use Rattle.store.specs.View as View
 use Rattle.store.specs.View.{gateway, maybe}
 use Rattle.outcome.specs.Between.{Between}
 use Rattle.outcome.specs.Answers.{Ends, Answers, Said}
+use Rattle.outcome.proofs.Calls.{ends-as}
 use Rattle.balances.specs.declared.MaybeBalance as Ba
 use Rattle.balances.specs.Balances.{maybe-balance}
 use Rattle.commands.specs.declared.MaybeId as Id
 use Rattle.commands.specs.Commands.{maybe-id}
 use Rattle.script.specs.Script.{word-at, message-of, event-of}
 use Rattle.script.specs.Strict.{is-message, is-event, is-command, is-account, message-fits, event-fits, owned-fits, account-fits}
-use Rattle.script.specs.Records.{command-of, account-of}
+use Rattle.script.specs.Records.{command-of}
+use Rattle.script.specs.Records as Records
 use Rattle.numbers.specs.declared.Wallet.{Wallet}
 use Rattle.numbers.specs.declared.Account as A
-use Rattle.edge.specs.Entering.{Lent, whole, asked, Enters}
-use Rattle.numbers.specs.Numbers.{reason-or, wallet-in, no-wallet, IsWallet, account-in, IsAccount}
+use Rattle.edge.specs.Entering.{Lent, whole, asked, Enters, Lands, Tells}
+use Rattle.numbers.specs.Numbers.{reason-or, number-in, number-of, wallet-in, no-wallet, wallet-row, wallet-of, account-in, account-row, account-of}
 
 -- ---- the length
 
@@ -138,7 +141,7 @@ module _ (xs ys : List ℕ) (b d ok : Bool) (kept : Type 0) (tells : Answer → 
   pub replayed : (n : ℕ) (row : List ℕ) (v : Command) → v ≡ command-of row → Answers (call (gateway (cell xs)) (C.replay-command n v)) kept tells code xs ys → Enters (asked ok xs (C.replay-command n (command-of row))) kept tells code xs ys
   replayed n row v q h = entered-as _ _ (ap (C.replay-command n) q) h
 
-  pub joined : (row : List ℕ) (v : Account) → v ≡ account-of row → Answers (call (gateway (cell xs)) (C.add-account v)) kept tells code xs ys → Enters (asked ok xs (C.add-account (account-of row))) kept tells code xs ys
+  pub joined : (row : List ℕ) (v : Account) → v ≡ Records.account-of row → Answers (call (gateway (cell xs)) (C.add-account v)) kept tells code xs ys → Enters (asked ok xs (C.add-account (Records.account-of row))) kept tells code xs ys
   joined row v q h = entered-as _ _ (ap C.add-account q) h
 
   pub ended : (s why room : ℕ) (v : LogoutReason) → v ≡ reason-or (logoutOf why) → Answers (call (gateway (cell xs)) (C.end-session s v room)) kept tells code xs ys → Enters (asked ok xs (C.end-session s (reason-or (logoutOf why)) room)) kept tells code xs ys
@@ -152,22 +155,54 @@ module _ (xs ys : List ℕ) (b d ok : Bool) (kept : Type 0) (tells : Answer → 
 
 -- ---- an answer in numbers
 
-module _ (xs ys : List ℕ) where
-  pub wallet-told : (a : ℕ) (v : Ba.MaybeBalance) (w : Wallet) → length xs ≡ 467592 → IsWallet v w → Answers (call (gateway (cell xs)) (C.wallet a)) (Unit {0}) (Said (wallet-is (maybe-balance v))) 0 xs ys → Enters (asked true xs (C.wallet a)) (Unit {0}) (Said (wallet-is (wallet-in w))) (w .code) xs ys
-  wallet-told a v w t i h =
-      subst (λ (c : ℕ). Enters (asked true xs (C.wallet a)) (Unit {0}) (Said (wallet-is (wallet-in w))) c xs ys) (sym (i .code-is))
-      (subst (λ (o : _). Enters (asked true xs (C.wallet a)) (Unit {0}) (Said (wallet-is o)) 0 xs ys) (i .same)
-      (held xs (Unit {0}) (Said (wallet-is (maybe-balance v))) (C.wallet a) 0 ys t h))
+module _ (xs : List ℕ) (x : Call) where
+  asked-yes : length xs ≡ 467592 → asked true xs x ≡ call (gateway (cell xs)) x
+  unfolding asked
+  asked-yes h = ap (λ (z : Bool). cond z (call (gateway (cell xs)) x) (refused malformed)) (sym (whole-yes xs h))
 
-  pub wallet-malformed : (a : ℕ) (w : Wallet) → (length xs ≡ 467592 → ⊥) → Lent xs → w ≡ no-wallet 11 → Enters (asked true xs (C.wallet a)) (Unit {0}) (Said (wallet-is (wallet-in w))) (w .code) xs xs
-  wallet-malformed a w t l q =
-      subst (λ (c : ℕ). Enters (asked true xs (C.wallet a)) (Unit {0}) (Said (wallet-is (wallet-in w))) c xs xs) (sym (ap (λ (z : Wallet). z .code) q))
-      (held-no xs (Unit {0}) (Said (wallet-is (wallet-in w))) (C.wallet a) t l tt)
+  asked-no : (length xs ≡ 467592 → ⊥) → asked true xs x ≡ refused malformed
+  unfolding asked
+  asked-no h = ap (λ (z : Bool). cond z (call (gateway (cell xs)) x) (refused malformed)) (sym (whole-no xs h))
 
-  pub account-told : (s : ℕ) (v : Id.MaybeId) (a : A.Account) → length xs ≡ 467592 → IsAccount v a → Answers (call (gateway (cell xs)) (C.detach s)) (Unit {0}) (Said (account-was (maybe-id v))) 0 xs ys → Enters (asked true xs (C.detach s)) (Unit {0}) (Said (account-was (account-in a))) (a .code) xs ys
-  account-told s v a t i h =
-      subst (λ (c : ℕ). Enters (asked true xs (C.detach s)) (Unit {0}) (Said (account-was (account-in a))) c xs ys) (sym (i .code-is))
-      (subst (λ (o : Option ℕ). Enters (asked true xs (C.detach s)) (Unit {0}) (Said (account-was o)) 0 xs ys) (i .same)
-      (held xs (Unit {0}) (Said (account-was (maybe-id v))) (C.detach s) 0 ys t h))
+  lands : (ys : List ℕ) (b : Answer) (code : ℕ) → length xs ≡ 467592 → Answers (call (gateway (cell xs)) x) (Unit {0}) (Said b) code xs ys → Lands (asked true xs x) code xs ys
+  lands ys b code h r =
+      held xs (Unit {0}) (λ a ms. ms ≡ []) x code ys h
+      (record { ends = ends-as (call (gateway (cell xs)) x) code xs ys (λ k. k) (λ a ms t. t .no-mail) (r .ends); between = r .between })
 
-pub ruleset laws = (needs, is-whole-yes, is-whole-no, lent-between, between, held, held-no, message-sized, event-sized, command-sized, account-sized, entered, malformed-no, received, redelivered, replayed, joined, ended, levelled, collared, wallet-told, wallet-malformed, account-told)
+  pub not-told : {A : Type 0} (from : Outcome → A) (r : A) → (length xs ≡ 467592 → ⊥) → Lent xs → r ≡ from (refused malformed) → Tells from r (asked true xs x) 11 xs xs
+  not-told from r h l e = (held-no xs (Unit {0}) (λ a ms. ms ≡ []) x h l tt, e ∙ ap from (sym (asked-no h)))
+
+pub no-wallet-told : (xs : List ℕ) (a : ℕ) (w : Wallet) → (length xs ≡ 467592 → ⊥) → Lent xs → w ≡ no-wallet 11 → Tells wallet-of w (asked true xs (C.wallet a)) (w .code) xs xs
+no-wallet-told xs a w h l e = subst (λ (v : Wallet). Tells wallet-of v (asked true xs (C.wallet a)) (v .code) xs xs) (sym e) (not-told xs (C.wallet a) wallet-of (no-wallet 11) h l refl)
+
+module _ (xs ys : List ℕ) (h : length xs ≡ 467592) where
+  pub number-told : (n : ℕ) → Answers (call (gateway (cell xs)) C.last-seq) (Unit {0}) (Said (number-is n)) 0 xs ys → Tells number-of (record { code = 0; number = n }) (asked true xs C.last-seq) 0 xs ys
+  unfolding Ends C.plan
+  number-told n r =
+      (lands xs C.last-seq ys (number-is n) 0 h r, ap (λ a. record { code = 0; number = number-in a }) (sym (r .ends .tells .answer-is)) ∙ ap number-of (sym (asked-yes xs C.last-seq h)))
+
+  pub wallet-told : (a : ℕ) (v : Ba.MaybeBalance) (w : Wallet) → w ≡ wallet-row (maybe-balance v) → Answers (call (gateway (cell xs)) (C.wallet a)) (Unit {0}) (Said (wallet-is (maybe-balance v))) 0 xs ys →
+      Tells wallet-of w (asked true xs (C.wallet a)) (w .code) xs ys
+  unfolding Ends C.plan
+  wallet-told a v w e r = (
+    subst (λ k. Lands (asked true xs (C.wallet a)) k xs ys) (sym (ap (λ (z : Wallet). z .code) e ∙ coded (maybe-balance v))) (lands xs (C.wallet a) ys (wallet-is (maybe-balance v)) 0 h r),
+    e ∙ ap (λ b. wallet-row (wallet-in b)) (sym (r .ends .tells .answer-is)) ∙ ap wallet-of (sym (asked-yes xs (C.wallet a) h)),
+  )
+    where
+      coded : (o : Option Balance) → wallet-row o .code ≡ 0
+      coded none = refl
+      coded (some b) = refl
+
+  pub account-told : (s : ℕ) (v : Id.MaybeId) (w : A.Account) → w ≡ account-row (maybe-id v) → Answers (call (gateway (cell xs)) (C.detach s)) (Unit {0}) (Said (account-was (maybe-id v))) 0 xs ys →
+      Tells account-of w (asked true xs (C.detach s)) (w .code) xs ys
+  unfolding Ends C.plan
+  account-told s v w e r = (
+    subst (λ k. Lands (asked true xs (C.detach s)) k xs ys) (sym (ap (λ (z : A.Account). z .code) e ∙ coded (maybe-id v))) (lands xs (C.detach s) ys (account-was (maybe-id v)) 0 h r),
+    e ∙ ap (λ b. account-row (account-in b)) (sym (r .ends .tells .answer-is)) ∙ ap account-of (sym (asked-yes xs (C.detach s) h)),
+  )
+    where
+      coded : (o : Option ℕ) → account-row o .code ≡ 0
+      coded none = refl
+      coded (some b) = refl
+
+pub ruleset laws = (needs, is-whole-yes, is-whole-no, lent-between, between, held, held-no, message-sized, event-sized, command-sized, account-sized, entered, malformed-no, received, redelivered, replayed, joined, ended, levelled, collared, not-told, no-wallet-told, number-told, wallet-told, account-told)

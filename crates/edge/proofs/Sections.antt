@@ -27,7 +27,7 @@ module _ (xs : List ℕ) (small : (i : ℕ) → getD xs i 0 < 256) where
   pub section-fits : (s : List ℕ) → s ≡ order-section xs → length s ≤ length xs
   section-fits s e = omega (arith, size, ap length e)
 
-  pub section-at : (s : List ℕ) → s ≡ order-section xs → drop (length xs - length s) xs ≡ order-section xs
+  pub section-at : (s : List ℕ) → s ≡ order-section xs → (length xs - length s ≡ length xs - length (order-section xs)) × (drop (length xs - length s) xs ≡ order-section xs)
   section-at s e =
       let q : length xs - length s ≡ at .0 = omega (arith, size, ap length e, at .1 .within) in
-      ap (λ (n : ℕ). drop n xs) q ∙ at .1 .is
+      (ap (λ t. length xs - length t) e, ap (λ (n : ℕ). drop n xs) q ∙ at .1 .is)

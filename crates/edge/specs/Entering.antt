@@ -2,7 +2,7 @@
 use Prim.Native.Nat.{ℕ, _*_}
 use mathlib.Core.Path.{_≡_}
 use mathlib.Core.Bool.{Bool, cond, _&&_}
-use mathlib.Core.List.{List}
+use mathlib.Core.List.{List, []}
 use lib.Dec.{eqb}
 use lib.ListN.{length}
 use Rattle.gateway.specs.Limits.{malformed}
@@ -13,7 +13,7 @@ use Rattle.gateway.specs.Start.{Started, not-started}
 use Rattle.store.specs.Layout.{cell, cells, Holds}
 use Rattle.store.specs.View.{gateway}
 use Rattle.outcome.specs.Between.{Between}
-use Rattle.outcome.specs.Answers.{Ends, Sent, Listed, Said}
+use Rattle.outcome.specs.Answers.{Ends, Unsent, Sent, Listed, Said}
 use Rattle.checkpoint.specs.Written.{Written}
 use Rattle.numbers.specs.declared.Reply.{Reply}
 
@@ -39,13 +39,22 @@ pub record Enters (o : Outcome) (kept : Type 0) (tells : Answer → List Mail �
 -- ---- how an answer is given, as in outcome/specs/Answers.antt
 
 abbrev pub Gives : Outcome → Reply → (xs ys out end : List ℕ) → Type 0
-Gives o r xs ys out end = Enters o (end ≡ out) (λ a ms. Sent a ms (r .count) out end) (r .code) xs ys
+Gives o r xs ys out end = Enters o (Unsent (r .count) out end) (λ a ms. Sent a ms (r .count) out end) (r .code) xs ys
 
 abbrev pub Lists : ℕ → Outcome → Reply → (xs ys out end : List ℕ) → Type 0
-Lists w o r xs ys out end = Enters o (end ≡ out) (λ a ms. Listed w a ms (r .count) out end) (r .code) xs ys
+Lists w o r xs ys out end = Enters o (Unsent (r .count) out end) (λ a ms. Listed w a ms (r .count) out end) (r .code) xs ys
 
 abbrev pub Writes : Outcome → Reply → (xs ys out end : List ℕ) → Type 0
-Writes o r xs ys out end = Enters o (end ≡ out) (λ a ms. Written a ms (r .count) out end) (r .code) xs ys
+Writes o r xs ys out end = Enters o (Unsent (r .count) out end) (λ a ms. Written a ms (r .count) out end) (r .code) xs ys
 
+-- a call that sends nothing and is lent nothing but the state
+abbrev pub Lands : Outcome → (code : ℕ) → (xs ys : List ℕ) → Type 0
+Lands o code xs ys = Enters o (Unit {0}) (λ a ms. ms ≡ []) code xs ys
+
+-- and answers r, the numbers that `from` reads off the outcome
+abbrev pub Tells : {A : Type 0} → (from : Outcome → A) → (r : A) → Outcome → (code : ℕ) → (xs ys : List ℕ) → Type 0
+Tells from r o code xs ys = Lands o code xs ys × (r ≡ from o)
+
+-- and answers with its code alone
 abbrev pub Says : Answer → Outcome → (code : ℕ) → (xs ys : List ℕ) → Type 0
 Says b o code xs ys = Enters o (Unit {0}) (Said b) code xs ys

@@ -10,12 +10,12 @@ use script::records;
 use script::strict;
 ghost use mathlib.Core.Path.{_≡_};
 ghost use mathlib.Core.Bool.{true};
-ghost use Prim.Native.Nat.{_/_};
+ghost use Prim.Native.Nat.{_/_, _-_};
 ghost use lib.Dec.{leb};
 ghost use lib.ListN.{length, drop};
 ghost use Rattle.words.specs.Words.{int};
 ghost use Rattle.protocol.specs.Codes.{logoutOf};
-ghost use Rattle.gateway.specs.Entry.{nothing, account-was, wallet-is, number-is};
+ghost use Rattle.gateway.specs.Entry.{nothing};
 ghost use Rattle.gateway.specs.Calls as C;
 ghost use Rattle.gateway.specs.Start.{set-up, restore};
 ghost use Rattle.store.specs.View as View;
@@ -28,7 +28,7 @@ ghost use Rattle.script.specs.Records.{command-of, account-of, accounts-in};
 ghost use Rattle.opening.specs.Starts.{Starts};
 ghost use Rattle.lists.specs.Lists.{is-listing, are-rows};
 ghost use Rattle.numbers.specs.Numbers as P;
-ghost use Rattle.edge.specs.Entering.{Lent, whole, begins, asked, Gives, Lists, Writes, Says};
+ghost use Rattle.edge.specs.Entering.{Lent, whole, begins, asked, Gives, Lists, Writes, Tells, Says};
 
 // Whether the bytes have a state's length, and what is lent beside them is well formed.
 fn is_whole(m: &[u8], ok: bool) -> bool
@@ -96,7 +96,7 @@ pub extern "C" fn rowanchess_restore(
 #[no_mangle]
 pub extern "C" fn rowanchess_last_seq(m: &[u8]) -> Number
     requires { ⌜ Lent (now m) ⌝ }
-    ensures { λ r. ⌜ Says (number-is (r .number)) (asked true (now (m .entry)) C.last-seq) (r .code) (now (m .entry)) (now (m .entry)) ⌝ }
+    ensures { λ r. ⌜ Tells P.number-of r (asked true (now (m .entry)) C.last-seq) (r .code) (now (m .entry)) (now (m .entry)) ⌝ }
 {
     if m.len() == store::SIZE {
         return Number {
@@ -113,7 +113,7 @@ pub extern "C" fn rowanchess_last_seq(m: &[u8]) -> Number
 #[no_mangle]
 pub extern "C" fn rowanchess_wallet(m: &[u8], account: u32) -> Wallet
     requires { ⌜ Lent (now m) ⌝ }
-    ensures { λ r. ⌜ Says (wallet-is (P.wallet-in r)) (asked true (now (m .entry)) (C.wallet account)) (r .code) (now (m .entry)) (now (m .entry)) ⌝ }
+    ensures { λ r. ⌜ Tells P.wallet-of r (asked true (now (m .entry)) (C.wallet account)) (r .code) (now (m .entry)) (now (m .entry)) ⌝ }
 {
     if m.len() == store::SIZE {
         let b = balances::wallet(m, account);
@@ -283,7 +283,7 @@ pub extern "C" fn rowanchess_disconnect(m: &mut [u8], session: usize) -> u64
 #[no_mangle]
 pub extern "C" fn rowanchess_detach(m: &mut [u8], session: usize) -> Account
     requires { ⌜ Lent (now m) ⌝ }
-    ensures { λ r. ⌜ Says (account-was (P.account-in r)) (asked true (now (m .entry)) (C.detach session)) (r .code) (now (m .entry)) (now (m .exit)) ⌝ }
+    ensures { λ r. ⌜ Tells P.account-of r (asked true (now (m .entry)) (C.detach session)) (r .code) (now (m .entry)) (now (m .exit)) ⌝ }
 {
     if m.len() == store::SIZE {
         let a = commands::detach(m, session);
@@ -410,7 +410,7 @@ pub extern "C" fn rowanchess_checkpoint(m: &[u8], out: &mut [u8]) -> Reply
 // Where the order section of a checkpoint's bytes starts; it goes to their end. The end itself where they are no checkpoint.
 #[no_mangle]
 pub extern "C" fn rowanchess_order_section(bytes: &[u8]) -> usize
-    ensures { λ r. ⌜ drop r (now (bytes .entry)) ≡ order-section (now (bytes .entry)) ⌝ }
+    ensures { λ r. ⌜ (r ≡ length (now (bytes .entry)) - length (order-section (now (bytes .entry)))) × (drop r (now (bytes .entry)) ≡ order-section (now (bytes .entry))) ⌝ }
 {
     bytes.len() - saved::order_section(bytes).len()
 }

@@ -1,6 +1,6 @@
 -- The answers in numbers are the calls'. Assumes nothing.
 use Prim.Native.Nat.{ℕ}
-use mathlib.Core.Path.{_≡_, refl, sym, ap, subst}
+use mathlib.Core.Path.{_≡_, refl, sym, ap, _∙_}
 use mathlib.Core.Option.{none, some}
 use borrow.Author.Needs.{needs}
 use borrow.Author.Tests.{eq-eqb, ne-eqb}
@@ -13,19 +13,19 @@ use Rattle.balances.specs.Balances.{maybe-balance}
 use Rattle.commands.specs.declared.MaybeId as Id
 use Rattle.commands.specs.Commands.{maybe-id}
 use Rattle.numbers.specs.declared.Wallet.{Wallet}
-use Rattle.numbers.specs.Numbers.{no-wallet, IsWallet}
+use Rattle.numbers.specs.Numbers.{no-wallet, wallet-row, account-row}
 
-pub some-balance : (v : Ba.MaybeBalance) (x : Balance) → v ≡ Ba.the-variants.Some x → maybe-balance v ≡ some x
-some-balance v x e = ap maybe-balance e
+pub some-balance : (v : Ba.MaybeBalance) (x : Balance) → v ≡ Ba.the-variants.Some x → wallet-row (some x) ≡ wallet-row (maybe-balance v)
+some-balance v x e = ap (λ o. wallet-row (maybe-balance o)) (sym e)
 
-pub no-balance : (v : Ba.MaybeBalance) (w : Wallet) → v ≡ Ba.the-variants.None → w ≡ no-wallet 0 → IsWallet v w
-no-balance v w e f = subst (IsWallet v) (sym f) (record { code-is = refl; same = ap maybe-balance e })
+pub no-balance : (v : Ba.MaybeBalance) (w : Wallet) → v ≡ Ba.the-variants.None → w ≡ no-wallet 0 → w ≡ wallet-row (maybe-balance v)
+no-balance v w e f = f ∙ ap (λ o. wallet-row (maybe-balance o)) (sym e)
 
-pub some-id : (v : Id.MaybeId) (i : ℕ) → v ≡ Id.the-variants.Some i → maybe-id v ≡ some i
-some-id v i e = ap maybe-id e
+pub some-id : (v : Id.MaybeId) (i : ℕ) → v ≡ Id.the-variants.Some i → account-row (some i) ≡ account-row (maybe-id v)
+some-id v i e = ap (λ o. account-row (maybe-id o)) (sym e)
 
-pub no-id : (v : Id.MaybeId) → v ≡ Id.the-variants.None → maybe-id v ≡ none
-no-id v e = ap maybe-id e
+pub no-id : (v : Id.MaybeId) → v ≡ Id.the-variants.None → account-row none ≡ account-row (maybe-id v)
+no-id v e = ap (λ o. account-row (maybe-id o)) (sym e)
 
 pub no-percent : (n p : ℕ) → n ≡ 0 → percent-of Percent.the-variants.None ≡ maybe n p
 no-percent n p h = rw (eq-eqb n 0 h) refl

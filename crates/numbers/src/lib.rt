@@ -9,6 +9,8 @@ ghost use mathlib.Core.Path.{_≡_};
 ghost use Rattle.protocol.specs.Codes.{logoutOf};
 ghost use Rattle.risk.specs.Collar.{percent-of};
 ghost use Rattle.store.specs.View as View;
+ghost use Rattle.balances.specs.Balances.{maybe-balance};
+ghost use Rattle.commands.specs.Commands.{maybe-id};
 ghost use Rattle.numbers.specs.Numbers as P;
 
 // A code, and how many rows (of a checkpoint: bytes) were written.
@@ -76,7 +78,7 @@ pub fn reason(why: u8) -> LogoutReason
 // ---- what is answered
 
 pub fn wallet_of(b: MaybeBalance) -> Wallet
-    ensures { λ r. ⌜ P.IsWallet b r ⌝ }
+    ensures { λ r. ⌜ r ≡ P.wallet-row (maybe-balance b) ⌝ }
 {
     match b {
         MaybeBalance::Some(x) => Wallet {
@@ -105,7 +107,7 @@ pub fn no_wallet(code: u64) -> Wallet
 }
 
 pub fn account_of(a: MaybeId) -> Account
-    ensures { λ r. ⌜ P.IsAccount a r ⌝ }
+    ensures { λ r. ⌜ r ≡ P.account-row (maybe-id a) ⌝ }
 {
     match a {
         MaybeId::Some(id) => Account {

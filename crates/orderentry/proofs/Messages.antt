@@ -42,7 +42,7 @@ use Rattle.mailbox.specs.Mailbox.{places}
 use Rattle.mailbox.proofs.Rows.{mailed-none}
 use Rattle.outcome.specs.declared.Reply.{Reply}
 use Rattle.outcome.specs.Parts.{with-rest, rest-of, heard, Sends, Speaks}
-use Rattle.outcome.specs.Answers.{Ends, Sent, Gives}
+use Rattle.outcome.specs.Answers.{Ends, Unsent, Sent, Gives}
 use Rattle.outcome.proofs.Laws.{then-becomes}
 use Rattle.outcome.proofs.Calls.{within-short, within-fits, ended}
 use Rattle.outcome.proofs.Heard.{hear-plan}
@@ -79,7 +79,7 @@ module _ (xs out : List ℕ) where
   pub does-short : (q : Plan) (n p : ℕ) → n ≡ length (mail-of q) → p ≡ places (length out) → p < n → Does q (record { code = 6; count = 0 }) xs xs out out
   unfolding Ends
   does-short q n p e h l =
-      rw (within-short (places (length out)) q (omega arith)) (record { code-is = refl; state-kept = refl; rest-kept = refl })
+      rw (within-short (places (length out)) q (omega arith)) (record { code-is = refl; state-kept = refl; rest-kept = (refl, refl) })
 
   pub does-send : {ys zs end : List ℕ} (m : Mail) (f : Rest → Rest) (p : ℕ) → p ≡ places (length out) → 1 ≤ p → Becomes ys (with-rest f (gateway (cell xs))) → Sends 0 (m ∷ []) (λ x. x) ys zs out end →
       Does (sends (m ∷ []) (f (rest-of xs))) (record { code = 0; count = 1 }) xs zs out end
@@ -98,7 +98,7 @@ module _ (xs out : List ℕ) where
 pub gives : (xs out ys end : List ℕ) (s a : ℕ) (m : Inbound) (t : ℕ) (r : Reply) → Speaks s (some a) xs → InboundFits m → Does (hear s a m (gateway (cell xs) .core) (heard s t (rest-of xs))) r xs ys out end →
     Gives (call (gateway (cell xs)) (receive-from s m t (places (length out)))) r xs ys out end
 gives xs out ys end s a m t r h fits d =
-    ended xs (receive-from s m t (places (length out))) fits (h .between) (end ≡ out) (λ b ms. Sent b ms (r .count) out end)
+    ended xs (receive-from s m t (places (length out))) fits (h .between) (Unsent (r .count) out end) (λ b ms. Sent b ms (r .count) out end)
     (carry-out (gateway (cell xs) .core) (within (places (length out)) (hear s a m (gateway (cell xs) .core) (heard s t (rest-of xs)))))
     (ap (carry-out (gateway (cell xs) .core)) (hear-plan xs s m t (places (length out)) a h)) ys (r .code) d
 

@@ -23,7 +23,7 @@ use Rattle.live.specs.Live as Live
 use Rattle.mailbox.specs.Mailbox.{places}
 use Rattle.outcome.specs.declared.Reply.{Reply}
 use Rattle.outcome.specs.Parts.{with-rest, heard}
-use Rattle.outcome.specs.Answers.{Ends, Sent}
+use Rattle.outcome.specs.Answers.{Ends, Unsent, Sent}
 use Rattle.commands.specs.Commands as Commands
 use Rattle.pretrade.specs.Pretrade.{the-command}
 
@@ -64,4 +64,4 @@ placed s a o g =
 -- what a plan gives, within the places lent
 abbrev pub Does : Plan → Reply → (xs ys out end : List ℕ) → Type 0
 Does p r xs ys out end =
-    Ends (carry-out (gateway (cell xs) .core) (within (places (length out)) p)) (end ≡ out) (λ a ms. Sent a ms (r .count) out end) (r .code) xs ys
+    Ends (carry-out (gateway (cell xs) .core) (within (places (length out)) p)) (Unsent (r .count) out end) (λ a ms. Sent a ms (r .count) out end) (r .code) xs ys

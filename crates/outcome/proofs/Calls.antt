@@ -26,7 +26,7 @@ use Rattle.sound.specs.Sound.{Becomes}
 use Rattle.outcome.specs.Between.{Between}
 use Rattle.outcome.specs.declared.Reply.{Reply}
 use Rattle.outcome.specs.Parts.{with-rest, rest-of, Tries, short, sent}
-use Rattle.outcome.specs.Answers.{Ends, Answers, Sent, Gives, Said, Says, answer-rows, Listed, Lists, verdict, failed}
+use Rattle.outcome.specs.Answers.{Ends, Answers, Unsent, Sent, Gives, Said, Says, answer-rows, Listed, Lists, verdict, failed}
 
 -- ---- judging
 
@@ -56,6 +56,14 @@ within-short room p l = rw (lt-leb (length (mail-of p)) room l) refl
 pub within-fits : (room : ℕ) (p : Plan) → length (mail-of p) ≤ room → within room p ≡ p
 unfolding within unless
 within-fits room p l = rw (le-leb (length (mail-of p)) room l) refl
+
+-- ---- less said of an answer
+
+pub ends-as : {kept kept′ : Type 0} {tells tells′ : Answer → List Mail → Type 0} (o : Outcome) (code : ℕ) (xs ys : List ℕ) → (kept → kept′) → ((a : Answer) (ms : List Mail) → tells a ms → tells′ a ms) →
+    Ends o kept tells code xs ys → Ends o kept′ tells′ code xs ys
+unfolding Ends
+ends-as (refused k) code xs ys f h e = record { code-is = e .code-is; state-kept = e .state-kept; rest-kept = f (e .rest-kept) }
+ends-as (done a is ms g) code xs ys f h e = record { code-is = e .code-is; becomes = e .becomes; tells = h a ms (e .tells) }
 
 -- ---- any call: that its numbers fit comes of their types
 
@@ -95,7 +103,7 @@ module _ (xs : List ℕ) (x : Call) (fits : CallFits x) (b : Between xs) (kept :
 module _ (xs out : List ℕ) (x : Call) (fits : CallFits x) (b : Between xs) (q : Plan) (is-plan : plan (gateway (cell xs) .core) (rest-of xs) x ≡ within (places (length out)) q) where
   pub gives-short : (n p : ℕ) → n ≡ length (mail-of q) → p ≡ places (length out) → p < n → Gives (call (gateway (cell xs)) x) (record { code = 6; count = 0 }) xs xs out out
   gives-short n p e h l =
-      refuses xs x fits b (out ≡ out) (λ a ms. Sent a ms 0 out out) too-short (is-plan ∙ within-short (places (length out)) q (omega arith)) refl
+      refuses xs x fits b (Unsent 0 out out) (λ a ms. Sent a ms 0 out out) too-short (is-plan ∙ within-short (places (length out)) q (omega arith)) (refl, refl)
 
 module _ (xs out : List ℕ) (x : Call) (fits : CallFits x) (b : Between xs) (ms : List Mail) (r : Rest) (is-plan : plan (gateway (cell xs) .core) (rest-of xs) x ≡ within (places (length out)) (sends ms r)) where
   pub sends-short : (n p : ℕ) → n ≡ length ms → p ≡ places (length out) → p < n → Gives (call (gateway (cell xs)) x) (record { code = 6; count = 0 }) xs xs out out
@@ -104,20 +112,7 @@ module _ (xs out : List ℕ) (x : Call) (fits : CallFits x) (b : Between xs) (ms
   pub sends-done : {ys end : List ℕ} (n p : ℕ) → n ≡ length ms → p ≡ places (length out) → n ≤ p →
       Becomes ys (with-rest (λ _. stamped ms r) (gateway (cell xs))) → end ≡ mailed 0 ms out → Gives (call (gateway (cell xs)) x) (record { code = 0; count = n }) xs ys out end
   sends-done {ys} {end} n p e h l d t =
-      answers xs x fits b (end ≡ out) (λ a ns. Sent a ns n out end) nothing ms r (is-plan ∙ within-fits (places (length out)) (sends ms r) (omega arith)) d
-      (record { no-answer = refl; count-is = e; posted = t })
-
--- one that also records an item
-module _ (xs out : List ℕ) (x : Call) (fits : CallFits x) (b : Between xs) (from : Origin) (i : Item) (ms : List Mail) (r : Rest)
-    (is-plan : plan (gateway (cell xs) .core) (rest-of xs) x ≡ within (places (length out)) (records from i ms r)) where
-  pub records-short : (n p : ℕ) → n ≡ length ms → p ≡ places (length out) → p < n → Gives (call (gateway (cell xs)) x) (record { code = 6; count = 0 }) xs xs out out
-  records-short = gives-short xs out x fits b (records from i ms r) is-plan
-
-  pub records-done : {ys end : List ℕ} (n p : ℕ) → n ≡ length ms → p ≡ places (length out) → n ≤ p →
-      Becomes ys (record { core = core-step from i (gateway (cell xs) .core); rest = stamped ms r }) → end ≡ mailed 0 ms out →
-      Gives (call (gateway (cell xs)) x) (record { code = 0; count = n }) xs ys out end
-  records-done {ys} {end} n p e h l d t =
-      recorded xs x fits b (end ≡ out) (λ a ns. Sent a ns n out end) from i ms r (is-plan ∙ within-fits (places (length out)) (records from i ms r) (omega arith)) d
+      answers xs x fits b (Unsent n out end) (λ a ns. Sent a ns n out end) nothing ms r (is-plan ∙ within-fits (places (length out)) (sends ms r) (omega arith)) d
       (record { no-answer = refl; count-is = e; posted = t })
 
 -- ---- a call that sends nothing
@@ -138,12 +133,12 @@ says-recorded xs x fits b from i r e d = recorded xs x fits b (Unit {0}) (Said n
 
 module _ (xs out : List ℕ) (x : Call) (fits : CallFits x) (b : Between xs) (w : ℕ) where
   pub lists-short : plan (gateway (cell xs) .core) (rest-of xs) x ≡ refuse too-short → Lists w (call (gateway (cell xs)) x) (record { code = 6; count = 0 }) xs xs out out
-  lists-short e = refuses xs x fits b (out ≡ out) (λ a ms. Listed w a ms 0 out out) too-short e refl
+  lists-short e = refuses xs x fits b (Unsent 0 out out) (λ a ms. Listed w a ms 0 out out) too-short e (refl, refl)
 
   pub lists-done : {ys end : List ℕ} (a : Answer) (r : Rest) (n : ℕ) → plan (gateway (cell xs) .core) (rest-of xs) x ≡ quiet a [] r → n ≡ length (answer-rows a) →
       Becomes ys (with-rest (λ _. r) (gateway (cell xs))) → end ≡ put-rows w 0 (answer-rows a) out → Lists w (call (gateway (cell xs)) x) (record { code = 0; count = n }) xs ys out end
   lists-done {ys} {end} a r n e h d t =
-      answers xs x fits b (end ≡ out) (λ c ms. Listed w c ms n out end) a [] r e d (record { no-mail = refl; count-is = h; listed = t })
+      answers xs x fits b (Unsent n out end) (λ c ms. Listed w c ms n out end) a [] r e d (record { no-mail = refl; count-is = h; listed = t })
 
 -- ---- a call that is one attempt to send
 

@@ -42,6 +42,10 @@ pub record Answers (o : Outcome) (kept : Type 0) (tells : Answer → List Mail �
 
 -- ---- how an answer is given
 
+-- nothing: no row is counted, and what was lent is as it was
+abbrev pub Unsent : (count : ℕ) → (out end : List ℕ) → Type 0
+Unsent count out end = (end ≡ out) × (count ≡ 0)
+
 -- a call that sends: how many rows of mail there are, and the rows
 pub record Sent (a : Answer) (ms : List Mail) (count : ℕ) (out end : List ℕ) : Type 0 where
   pub no-answer : a ≡ nothing
@@ -49,7 +53,7 @@ pub record Sent (a : Answer) (ms : List Mail) (count : ℕ) (out end : List ℕ)
   pub posted : end ≡ mailed 0 ms out
 
 abbrev pub Gives : Outcome → Reply → (xs ys out end : List ℕ) → Type 0
-Gives o r xs ys out end = Answers o (end ≡ out) (λ a ms. Sent a ms (r .count) out end) (r .code) xs ys
+Gives o r xs ys out end = Answers o (Unsent (r .count) out end) (λ a ms. Sent a ms (r .count) out end) (r .code) xs ys
 
 -- a call that answers b (where it is not refused), sends nothing and is lent nothing but the state
 pub record Said (b a : Answer) (ms : List Mail) : Type 0 where
@@ -80,7 +84,7 @@ pub record Listed (w : ℕ) (a : Answer) (ms : List Mail) (count : ℕ) (out end
   pub listed : end ≡ put-rows w 0 (answer-rows a) out
 
 abbrev pub Lists : ℕ → Outcome → Reply → (xs ys out end : List ℕ) → Type 0
-Lists w o r xs ys out end = Answers o (end ≡ out) (λ a ms. Listed w a ms (r .count) out end) (r .code) xs ys
+Lists w o r xs ys out end = Answers o (Unsent (r .count) out end) (λ a ms. Listed w a ms (r .count) out end) (r .code) xs ys
 
 -- ---- judging
 

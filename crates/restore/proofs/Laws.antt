@@ -221,7 +221,7 @@ module _ (fee : ℤ) (limit : ℕ) (timing : Timing) (r : Roster) (bytes : List 
                 subst (λ (s : Started). Starts s 0 xs ys) (sym (begins l h))
                 (record {
                   is-done = record { code-is = refl; becomes = record { state = d .becomes .state; gateway-is = d .becomes .gateway-is ∙ same l h }; tells = tt };
-                  between = record { state = d .becomes .state; ok = subst Ok (sym (d .becomes .gateway-is)) (fine .0) };
+                  between = record { state = d .becomes .state; ok = subst Ok (sym (d .becomes .gateway-is)) fine };
                 });
           }
         where
@@ -234,7 +234,7 @@ module _ (fee : ℤ) (limit : ℕ) (timing : Timing) (r : Roster) (bytes : List 
           own : Gathered limit (present r owner-slots) r
           own = record { numbered = num; below = entries .1 .0 ∙ sym (d .below); table = λ few. sym (present-table limit r num few) }
 
-          fine : Begin.Begins fee limit (present r owner-slots) (started (restored fee limit timing (present r owner-slots) (saved-of bytes)))
-          fine = subst (Begin.Begins fee limit (present r owner-slots)) (begins (present r owner-slots) own) (restore-begins fee limit (present r owner-slots) timing bytes (d .fit) (all-bytes bytes small))
+          fine : Begin.Begins Ok (started (restored fee limit timing (present r owner-slots) (saved-of bytes)))
+          fine = subst (Begin.Begins Ok) (begins (present r owner-slots) own) (restore-begins fee limit (present r owner-slots) timing bytes (d .fit) (all-bytes bytes small))
 
 pub ruleset laws = (order-late, order-above, order-fine, order-judged, limit-above, account-above, wallet-above, orders-decide, no-checkpoint, is-checkpoint, entry-fails, total-outside, all-fine, open-empty, is-restored, restore-refused, fee-below, fee-fine, arith)

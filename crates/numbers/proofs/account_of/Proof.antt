@@ -16,7 +16,7 @@ returns : tie.Need-returns
 returns c = search laws
 
 returns-2 : tie.Need-returns-2
-returns-2 c = search needs
+returns-2 c = search laws
 
 pub account-of-spec : {M : Type 1} → statement M
 account-of-spec = tie.close (tie.spec enum-known-a cast-t4 enum-told returns returns-2)
