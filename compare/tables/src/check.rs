@@ -1,6 +1,6 @@
 //! The same random steps on both: every answer is compared, and at the end every row.
 
-use crate::proved::{State, key};
+use crate::proved::{ROWS, State, WIDTHS, key};
 use crate::random::{Draw, Random};
 use crate::standard::{Levels, Orders};
 use crate::table::{LevelTable, Live, OrderTable, Side};
@@ -17,13 +17,17 @@ const ORDER_MAP: usize = 15;
 const ORDER_ROWS: usize = 12;
 const LIVE_ORDERS: usize = 13;
 const HINTS: usize = 11;
-const ROWS: [usize; 16] =
-    [1, 256, 64, 256, 256, 2048, 512, 512, 256, 2049, 1024, 4096, 2048, 8, 8, 32];
-const WIDTHS: [usize; 16] = [32, 16, 8, 4, 12, 16, 4, 4, 6, 1, 3, 1, 1, 1, 1, 1];
 
 /// Most live orders, and most levels of a side.
-const MOST_LIVE: usize = 2_047;
+const MOST_LIVE: usize = 2_048;
 const MOST_LEVELS: usize = 512;
+
+/// Codes of refusals.
+const SEQUENCE: u64 = 4;
+const FULL: u64 = 5;
+const OUTSIDE: u64 = 7;
+const INCONSISTENT: u64 = 8;
+const MALFORMED: u64 = 11;
 
 fn equal<T: PartialEq + std::fmt::Debug>(what: &str, proved: T, standard: T) -> Result<(), String> {
     match proved == standard {
@@ -44,6 +48,8 @@ struct Both {
     shown: Vec<(Side, i64, u64)>,
     squeezes: usize,
     most_levels: usize,
+    /// How often each code was the reason of a refusal.
+    refused: [usize; 12],
 }
 
 impl Both {
@@ -58,6 +64,7 @@ impl Both {
             shown: Vec::new(),
             squeezes: 0,
             most_levels: 0,
+            refused: [0; 12],
         }
     }
 
@@ -95,6 +102,76 @@ impl Both {
         )?;
         self.live.retain(|&live| live != number);
         Ok(())
+    }
+
+    /// A call that has to be refused with this code, and to change nothing.
+    fn refuse(&mut self, wanted: u64, call: impl Fn(&mut State) -> u64) -> Result<(), String> {
+        let before = self.state.clone();
+        equal("a refusal", call(&mut self.state), wanted)?;
+        equal("a refused state is as before", self.state == before, true)?;
+        self.refused[wanted as usize] += 1;
+        Ok(())
+    }
+
+    /// Any number, where it has to be refused.
+    fn refuse_order(&mut self) -> Result<(), String> {
+        let (number, live) = (self.number(), self.random.live());
+        let rows = self.state.cell(HEADER, 0, ORDER_ROWS) as usize;
+        let last = rows
+            .checked_sub(1)
+            .map(|row| self.state.cell(ORDERS, row, 0));
+        if last.is_some_and(|last| number <= last) {
+            return self.refuse(SEQUENCE, |state| state.add_code(number, live));
+        }
+        if self.live.len() == MOST_LIVE {
+            return self.refuse(FULL, |state| state.add_code(number, live));
+        }
+        Ok(())
+    }
+
+    /// Any side, price and quantities, where they have to be refused.
+    fn refuse_level(&mut self, prices: u64) -> Result<(), String> {
+        let price = self.price(prices);
+        let (v, w) = (
+            self.random.bits() >> self.random.below(64),
+            self.random.bits(),
+        );
+        if self.random.chance(10) {
+            let side = 2 + self.random.bits() % (u64::MAX - 1);
+            self.refuse(MALFORMED, |state| state.join_code(side, price, v))?;
+            self.refuse(MALFORMED, |state| state.show_code(side, price, v, w))?;
+            return self.refuse(MALFORMED, |state| state.leave_code(side, price, v));
+        }
+        let side = self.random.side();
+        let half = self.levels.half(side);
+        let (found, many) = (half.get(&price).copied(), half.len() == MOST_LEVELS);
+        let side = side as u64;
+        let Some(level) = found else {
+            if many {
+                self.refuse(FULL, |state| state.join_code(side, price, v))?;
+            }
+            self.refuse(INCONSISTENT, |state| state.show_code(side, price, v, w))?;
+            return self.refuse(INCONSISTENT, |state| state.leave_code(side, price, v));
+        };
+        if level.qty.checked_add(w).is_none() {
+            self.refuse(OUTSIDE, |state| state.join_code(side, price, w))?;
+        }
+        if level.qty < v {
+            self.refuse(INCONSISTENT, |state| state.show_code(side, price, v, w))?;
+            self.refuse(INCONSISTENT, |state| state.leave_code(side, price, v))?;
+        } else if (level.qty - v).checked_add(w).is_none() {
+            self.refuse(OUTSIDE, |state| state.show_code(side, price, v, w))?;
+        }
+        Ok(())
+    }
+
+    /// Bytes of another length.
+    fn refuse_short(&mut self) -> Result<(), String> {
+        let before = self.state.clone();
+        for short in [1, 8, 467_592] {
+            equal("short", self.state.codes_of_short(short), [MALFORMED; 9])?;
+        }
+        equal("a refused state is as before", self.state == before, true)
     }
 
     /// One step with about `many` live orders, whose numbers are up to `gap` apart.
@@ -297,21 +374,34 @@ pub fn check() -> Result<(), String> {
     // (live orders, gap of their numbers, orders in the levels, prices)
     let parts = [
         (950, 2, 400, 120),
-        (2_047, 2, 3_000, 2_000),
+        (2_048, 2, 3_000, 2_000),
         (3, 1, 20, 8),
         (950, 9_000, 1_000, 500),
-        (2_047, u64::MAX / STEPS as u64 / 2, 6_000, 9_000),
+        (2_048, u64::MAX / STEPS as u64 / 2, 6_000, 9_000),
     ];
     for (live, gap, shown, prices) in parts {
-        for _ in 0..STEPS / parts.len() {
+        for step in 0..STEPS / parts.len() {
             both.order_step(live, gap)?;
             both.level_step(shown, prices)?;
+            if step % 16 == 0 {
+                both.refuse_order()?;
+                both.refuse_level(prices)?;
+            }
         }
         both.rows()?;
+        both.refuse_short()?;
     }
+    let codes = [SEQUENCE, FULL, OUTSIDE, INCONSISTENT, MALFORMED];
+    equal(
+        "every code is met",
+        codes.iter().all(|&code| both.refused[code as usize] > 0),
+        true,
+    )?;
     println!(
-        "tables: {STEPS} steps on the orders, with {} squeezes, and as many on up to {} levels are equal",
-        both.squeezes, both.most_levels
+        "tables: {STEPS} steps on the orders, with {} squeezes, and as many on up to {} levels are equal; {} calls refused",
+        both.squeezes,
+        both.most_levels,
+        both.refused.iter().sum::<usize>()
     );
     Ok(())
 }

@@ -1,49 +1,42 @@
 // The price levels of a side, best price first, in a lent list: `depth_levels` of exchange.rs.
-use levels::Row;
+use levels::listed;
+use levels::listed::Level;
 use orderbook::Side;
 use outcome::Reply;
 ghost use mathlib.Core.Path.{_≡_};
 ghost use mathlib.Core.List.{map};
 ghost use Prim.Native.Nat.{_+_, _*_, _/_, _≤_};
-ghost use lib.ListN.{length};
+ghost use lib.ListN.{length, take};
+ghost use Rattle.gateway.specs.Limits.{most-levels};
 ghost use Rattle.gateway.specs.Calls.{call, depth-levels};
 ghost use Rattle.store.specs.Layout.{cell};
 ghost use Rattle.store.specs.View.{gateway};
-ghost use Rattle.levels.specs.Levels as L;
+ghost use Rattle.levels.specs.Listed.{seen};
 ghost use Rattle.rows.specs.Rows.{put-row, put-rows};
-ghost use Rattle.sound.specs.Sound.{State};
 ghost use Rattle.outcome.specs.Between.{Between};
-ghost use Rattle.outcome.specs.Parts.{rest-of};
 ghost use Rattle.outcome.specs.Answers.{Lists, level-row};
-ghost use Rattle.depth.specs.Levels as P;
 
 // The bytes of a level's row: price, quantity, number of orders.
 pub const ROW: usize = 24;
 
 // A level in place j.
-fn put_level(r: Row, j: usize, out: &mut [u8])
+fn put_level(l: Level, j: usize, out: &mut [u8])
     requires { ⌜ 24 * j + 24 ≤ length (now out) ⌝ }
-    ensures { λ x. ⌜ now (out .exit) ≡ put-row (now (out .entry)) (24 * j) (level-row (L.level r)) ⌝ }
+    ensures { λ x. ⌜ now (out .exit) ≡ put-row (now (out .entry)) (24 * j) (level-row (seen l)) ⌝ }
 {
-    let price = words::lowered(r.key);
-    rows::put(out, ROW * j, &[price, r.qty, r.orders]);
+    let price = words::of_i64(l.price);
+    rows::put(out, ROW * j, &[price, l.qty, l.orders]);
 }
 
-// All of them: the rows from the best price on, but for the dead ones.
-fn put_levels(m: &[u8], side: Side, out: &mut [u8])
-    requires { ⌜ State (now m) × (L.size side (cell (now m)) ≤ length (now out) / 24) ⌝ }
-    ensures { λ r. ⌜ now (out .exit) ≡ put-rows 24 0 (map level-row (P.side-levels side (rest-of (now (m .entry))))) (now (out .entry)) ⌝ }
+// The first n levels of a row.
+fn put_levels(row: [Level; 512], n: usize, out: &mut [u8])
+    requires { ⌜ (n ≤ most-levels) × (n ≤ length (now out) / 24) ⌝ }
+    ensures { λ r. ⌜ now (out .exit) ≡ put-rows 24 0 (map level-row (map seen (take n row))) (now (out .entry)) ⌝ }
 {
-    let n = levels::used(m, side);
     let mut i: usize = 0;
-    let mut j: usize = 0;
     while i < n {
-        let r = levels::read_row(m, side, levels::listed::nth(side, n, i));
+        put_level(row[i], i, out);
         i += 1;
-        if r.orders != 0 {
-            put_level(r, j, out);
-            j += 1;
-        }
     }
 }
 
@@ -59,6 +52,7 @@ pub fn levels(m: &[u8], side: Side, out: &mut [u8]) -> Reply
             count: 0,
         };
     }
-    put_levels(m, side, out);
+    let rows = listed::listed(m);
+    put_levels(listed::side_of(rows, side), n, out);
     Reply { code: 0, count: n }
 }

@@ -4,8 +4,8 @@ use mathlib.Core.List.{List, [], _∷_, _++_, map, map-append, append-nil, appen
 use Prim.Native.Nat.{ℕ, zero, suc, _+_, _-_, _≤_, _<_}
 use native.Mathlib.Numerals.{add-one}
 use native.Mathlib.Omega.{arith}
-use lib.ListN.{length, length-append, length-map, getD, take, drop, set, replicate, length-set, List·getD-map}
-use lib.Seq.{drop-drop, drop-set-lt, getD-take, take-suc-set}
+use lib.ListN.{length, length-append, length-map, getD, take, drop, set, replicate, length-set}
+use lib.Seq.{drop-drop, drop-set-lt, take-suc-set}
 use Rattle.orderbook.specs.declared.Side.{Side}
 use Rattle.orderbook.specs.declared.Side.the-variants.{Buy, Sell}
 use Rattle.table.specs.Live.{pick, live}
@@ -160,11 +160,6 @@ module _ (z : Side) (s : Store) (n : ℕ) where
       let b : firsts z s i ≡ best z (entries z s) = ap (firsts z s) m ∙ firsts-all z s in
       let k-is : k ≡ size z s = omega (arith, f .count, c, ap length b, best-length z (entries z s)) in
       record { levels = ap (λ y. map seen (take y l)) (sym k-is) ∙ f .front ∙ b; rest = rw (← k-is) (f .behind) }
-
--- the element i is the level i
-pub level-is : (z : Side) (s : Store) (l : List Level) → Lists z s l → (i : ℕ) → i < size z s → seen (getD l i nothing) ≡ getD (best z (entries z s)) i (seen nothing)
-level-is z s l p i h =
-    sym (List·getD-map seen (take (size z s) l) i nothing ∙ ap seen (getD-take (size z s) l i nothing h)) ∙ ap (λ ls. getD ls i (seen nothing)) (p .levels)
 
 -- ---- both sides
 

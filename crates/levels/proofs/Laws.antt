@@ -258,7 +258,7 @@ module _ (s : Side) {xs : List ℕ} (t : Table s xs) where
         }
 
     -- a level goes: its row stays, dead
-    pub struck-did : {zs : List ℕ} (u v : ℕ) → 0 < row s (cell xs) i .orders → r .orders ≡ 0 → r .key ≡ row s (cell xs) i .key →
+    struck-did : {zs : List ℕ} (u v : ℕ) → 0 < row s (cell xs) i .orders → r .orders ≡ 0 → r .key ≡ row s (cell xs) i .key →
         u ≡ used s (cell xs) → v ≡ size s (cell xs) → Recounted s ys zs u (v - 1) i 0 → Did s xs zs (without key (r .key) (entries s (cell xs)))
     unfolding entries
     struck-did u v old dead e u-is v-is c =

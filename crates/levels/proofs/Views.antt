@@ -11,7 +11,7 @@ use lib.ListN.{length}
 use Rattle.orderbook.specs.declared.Side.{Side}
 use Rattle.orderbook.specs.declared.Side.the-variants.{Buy, Sell}
 use Rattle.store.specs.Cells as C
-use Rattle.store.specs.Layout.{cell}
+use Rattle.store.specs.Layout.{cell, Holds}
 use Rattle.store.specs.View.{Store, Same, Bounds, gateway}
 use Rattle.store.proofs.Frames.{gateway-same}
 use Rattle.table.proofs.Live.{live-ext, ascends-ext}
@@ -68,7 +68,38 @@ module _ (z : Side) {xs ys : List ℕ} {l : List Row} (d : Did z xs ys l) where
   pub levels-view : Bounds (cell xs) → gateway (cell ys) ≡ gateway (cell xs)
   levels-view b = sym (gateway-same (cell xs) (mixed z (cell xs) (cell ys)) b mixed-same ∙ unseen z (cell xs) (cell ys))
 
--- the other side's
+-- ---- a table that is left alone
+
+-- t has the side's rows, map and counts of s
+pub record Untouched (w : Side) (s t : Store) : Type 0 where
+  pub used-is : used w t ≡ used w s
+  pub size-is : size w t ≡ size w s
+  pub rows-are : (j k : ℕ) → j < most-levels → k < 4 → t (block w) j k ≡ s (block w) j k
+  pub map-is : (j : ℕ) → j < most-levels → t (map-block w) (j / 64) C.map-bits ≡ s (map-block w) (j / 64) C.map-bits
+
+module _ (w : Side) (xs ys : List ℕ) (h : Holds ys) (e : Untouched w (cell xs) (cell ys)) (t : Table w xs) where
+  row-kept : (j : ℕ) → j < used w (cell xs) → row w (cell ys) j ≡ row w (cell xs) j
+  row-kept j l = λ i. record { key = at 0 (omega arith) i; qty = at 1 (omega arith) i; orders = at 2 (omega arith) i }
+    where
+      at : (k : ℕ) → k < 4 → cell ys (block w) j k ≡ cell xs (block w) j k
+      at k q = e .rows-are j k (omega (arith, t .few)) q
+
+  pub entries-kept : entries w (cell ys) ≡ entries w (cell xs)
+  unfolding entries
+  entries-kept = rw (e .used-is) (live-ext orders (row w (cell xs)) (row w (cell ys)) (used w (cell xs)) row-kept)
+
+  pub table-kept : Table w ys
+  table-kept =
+      record {
+        holds = h;
+        few = rw (e .used-is) (t .few);
+        asc = rw (e .used-is) (ascends-ext key (row w (cell xs)) (row w (cell ys)) (used w (cell xs)) (λ j l. ap key (row-kept j l)) (t .asc));
+        counted = e .size-is ∙ t .counted ∙ sym (ap length entries-kept);
+        mapped = rw (e .used-is) (mapped-ext (map-block w) most-levels (cell xs) (cell ys) (λ j l. same-bit (map-block w) (cell ys) (cell xs) j (e .map-is j l)) (λ j l. levels-alike (row w (cell xs)) (row w (cell ys)) (used w (cell xs)) j (λ m. inl (ap orders (row-kept j m)))) (t .mapped));
+      }
+
+-- ---- the other side's
+
 pub record Apart (z w : Side) : Type 0 where
   pub rows : block w ≡ block z → ⊥
   pub rows-map : block w ≡ map-block z → ⊥
@@ -77,39 +108,15 @@ pub record Apart (z w : Side) : Type 0 where
   pub used-cells : Other z C.header (used-cell w)
   pub size-cells : Other z C.header (size-cell w)
 
-module _ (z w : Side) {xs ys : List ℕ} {l : List Row} (d : Did z xs ys l) (t : Table w xs) (n : Apart z w) where
-  used-kept : used w (cell ys) ≡ used w (cell xs)
-  unfolding used
-  used-kept = d .kept C.header 0 (used-cell w) (used-place w) (header-not-block z) (λ e. map-not-header z (sym e)) (n .used-cells)
-
-  size-kept : size w (cell ys) ≡ size w (cell xs)
-  unfolding size
-  size-kept = d .kept C.header 0 (size-cell w) (size-place w) (header-not-block z) (λ e. map-not-header z (sym e)) (n .size-cells)
-
-  row-kept : (j : ℕ) → j < used w (cell xs) → row w (cell ys) j ≡ row w (cell xs) j
-  row-kept j h = λ i. record { key = at 0 (omega arith) i; qty = at 1 (omega arith) i; orders = at 2 (omega arith) i }
-    where
-      at : (k : ℕ) → k < 4 → cell ys (block w) j k ≡ cell xs (block w) j k
-      at k q = d .kept (block w) j k (block-cell w j k (omega (arith, t .few)) q) (n .rows) (n .rows-map) (λ e _. header-not-block w (sym e), λ e _. header-not-block w (sym e))
-
-  bits-kept : (j : ℕ) → j < most-levels → bits w (cell ys) j ≡ bits w (cell xs) j
-  bits-kept j h =
-      same-bit (map-block w) (cell ys) (cell xs) j
-      (d .kept (map-block w) (j / 64) 0 (map-cell w j h) (n .map-rows) (n .maps) (λ e _. map-not-header w e, λ e _. map-not-header w e))
-
-  other-entries : entries w (cell ys) ≡ entries w (cell xs)
-  unfolding entries
-  other-entries = rw used-kept (live-ext orders (row w (cell xs)) (row w (cell ys)) (used w (cell xs)) row-kept)
-
-  other-table : Table w ys
-  other-table =
-      record {
-        holds = d .table .holds;
-        few = rw used-kept (t .few);
-        asc = rw used-kept (ascends-ext key (row w (cell xs)) (row w (cell ys)) (used w (cell xs)) (λ j h. ap key (row-kept j h)) (t .asc));
-        counted = size-kept ∙ t .counted ∙ sym (ap length other-entries);
-        mapped = rw used-kept (mapped-ext (map-block w) most-levels (cell xs) (cell ys) bits-kept (λ j h. levels-alike (row w (cell xs)) (row w (cell ys)) (used w (cell xs)) j (λ l. inl (ap orders (row-kept j l)))) (t .mapped));
-      }
+other-untouched : {z w : Side} {xs ys : List ℕ} {l : List Row} → Did z xs ys l → Apart z w → Untouched w (cell xs) (cell ys)
+unfolding used size
+other-untouched {z} {w} d n =
+    record {
+      used-is = d .kept C.header 0 (used-cell w) (used-place w) (header-not-block z) (λ e. map-not-header z (sym e)) (n .used-cells);
+      size-is = d .kept C.header 0 (size-cell w) (size-place w) (header-not-block z) (λ e. map-not-header z (sym e)) (n .size-cells);
+      rows-are = λ j k l q. d .kept (block w) j k (block-cell w j k l q) (n .rows) (n .rows-map) (λ e _. header-not-block w (sym e), λ e _. header-not-block w (sym e));
+      map-is = λ j l. d .kept (map-block w) (j / 64) C.map-bits (map-cell w j l) (n .map-rows) (n .maps) (λ e _. map-not-header w e, λ e _. map-not-header w e);
+    }
 
 -- a buy leaves the asks, a sell the bids
 buys-apart : Apart Buy Sell
@@ -135,7 +142,7 @@ sells-apart =
     }
 
 pub asks-stay : {xs ys : List ℕ} {l : List Row} → Did Buy xs ys l → Table Sell xs → Table Sell ys × (entries Sell (cell ys) ≡ entries Sell (cell xs))
-asks-stay d t = (other-table Buy Sell d t buys-apart, other-entries Buy Sell d t buys-apart)
+asks-stay {xs} {ys} d t = let e = other-untouched d buys-apart in (table-kept Sell xs ys (d .table .holds) e t, entries-kept Sell xs ys (d .table .holds) e t)
 
 pub bids-stay : {xs ys : List ℕ} {l : List Row} → Did Sell xs ys l → Table Buy xs → Table Buy ys × (entries Buy (cell ys) ≡ entries Buy (cell xs))
-bids-stay d t = (other-table Sell Buy d t sells-apart, other-entries Sell Buy d t sells-apart)
+bids-stay {xs} {ys} d t = let e = other-untouched d sells-apart in (table-kept Buy xs ys (d .table .holds) e t, entries-kept Buy xs ys (d .table .holds) e t)

@@ -2,11 +2,8 @@
 use crate::Row;
 use orderbook::Side;
 ghost use mathlib.Core.Path.{_≡_};
-ghost use Prim.Native.Nat.{_≤_, _<_};
-ghost use lib.ListN.{getD};
-ghost use Rattle.gateway.specs.Limits.{most-levels};
-ghost use Rattle.store.specs.Layout.{cell, Holds};
-ghost use Rattle.store.specs.View.{Ready};
+ghost use Prim.Native.Nat.{_<_};
+ghost use Rattle.store.specs.Layout.{cell};
 ghost use Rattle.levels.specs.Levels as L;
 ghost use Rattle.levels.specs.Listed as D;
 
@@ -86,12 +83,4 @@ pub fn side_of(rows: [[Level; 512]; 2], side: Side) -> [Level; 512]
     ensures { λ r. ⌜ r ≡ D.side-of rows side ⌝ }
 {
     rows[index_of(side)]
-}
-
-// The level i of a side, counted from the best.
-pub fn level_at(rows: [[Level; 512]; 2], side: Side, i: usize) -> Level
-    requires { ⌜ i < most-levels ⌝ }
-    ensures { λ r. ⌜ r ≡ getD (D.side-of rows side) i D.nothing ⌝ }
-{
-    rows[index_of(side)][i]
 }

@@ -1,3 +1,4 @@
+pub mod Shown
 pub mod Few
 pub mod Snapshot
 pub mod Kept

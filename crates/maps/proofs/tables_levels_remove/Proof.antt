@@ -1,21 +1,42 @@
+use Rattle.maps.proofs.Entering.{entered, entering}
 use borrow.Author.Needs.{needs}
 use Rattle.maps.proofs.tables_levels_remove.Statement.{statement}
 use Rattle.maps.proofs.tables_levels_remove.Tie as tie
 
+is-whole-requires : tie.Need-is-whole-requires
+is-whole-requires c κs = search needs
+
 side-of-requires : tie.Need-side-of-requires
 side-of-requires c κs = search needs
 
-remove-requires : tie.Need-remove-requires
-remove-requires c κs = rw (c .side-of .ensures) (c .before .before .before .pre)
+leave-requires : tie.Need-leave-requires
+leave-requires c κs = search entering
 
 same-length : tie.Need-same-length
 same-length c = search needs
 
 returns : tie.Need-returns
 returns c =
-    let a = c .before .before in
-    rw (← a .before .side-of .ensures) (a .remove .ensures)
+    let d = c .before .before in
+    let t = d .before .before .before in
+    let w = t .before in
+    let s = w .before .before .before in
+    rw (← d .before .side-of .ensures) (entered (s .args .m .now) _ _ (w .is-whole .ensures) (t .if1 .taken) (d .leave .ensures))
+
+same-length-2 : tie.Need-same-length-2
+same-length-2 c = search needs
+
+returns-2 : tie.Need-returns-2
+returns-2 c = search entering
 
 pub tables-levels-remove-spec : {M : Type 1} → statement M
 tables-levels-remove-spec =
-    tie.close (tie.spec side-of-requires remove-requires same-length returns)
+    tie.close
+    (tie.spec
+    is-whole-requires
+    side-of-requires
+    leave-requires
+    same-length
+    returns
+    same-length-2
+    returns-2)

@@ -1,20 +1,42 @@
+use Rattle.maps.proofs.Entering.{entered, entering}
 use borrow.Author.Needs.{needs}
 use Rattle.maps.proofs.tables_levels_show.Statement.{statement}
 use Rattle.maps.proofs.tables_levels_show.Tie as tie
+
+is-whole-requires : tie.Need-is-whole-requires
+is-whole-requires c κs = search needs
 
 side-of-requires : tie.Need-side-of-requires
 side-of-requires c κs = search needs
 
 show-requires : tie.Need-show-requires
-show-requires c κs = rw (c .side-of .ensures) (c .before .before .before .pre)
+show-requires c κs = search entering
 
 same-length : tie.Need-same-length
 same-length c = search needs
 
 returns : tie.Need-returns
 returns c =
-    let a = c .before .before in
-    rw (← a .before .side-of .ensures) (a .show .ensures)
+    let d = c .before .before in
+    let t = d .before .before .before in
+    let w = t .before in
+    let s = w .before .before .before in
+    rw (← d .before .side-of .ensures) (entered (s .args .m .now) _ _ (w .is-whole .ensures) (t .if1 .taken) (d .show .ensures))
+
+same-length-2 : tie.Need-same-length-2
+same-length-2 c = search needs
+
+returns-2 : tie.Need-returns-2
+returns-2 c = search entering
 
 pub tables-levels-show-spec : {M : Type 1} → statement M
-tables-levels-show-spec = tie.close (tie.spec side-of-requires show-requires same-length returns)
+tables-levels-show-spec =
+    tie.close
+    (tie.spec
+    is-whole-requires
+    side-of-requires
+    show-requires
+    same-length
+    returns
+    same-length-2
+    returns-2)

@@ -1,27 +1,24 @@
-use Rattle.maps.proofs.Laws.{laws}
+use Rattle.maps.proofs.Entering.{told, entering}
 use borrow.Author.Needs.{needs}
 use Rattle.maps.proofs.tables_orders_find.Statement.{statement}
 use Rattle.maps.proofs.tables_orders_find.Tie as tie
 
-find-live-requires : tie.Need-find-live-requires
-find-live-requires c κs = search needs
+is-whole-requires : tie.Need-is-whole-requires
+is-whole-requires c κs = search needs
 
-enum-known-i : tie.Need-enum-known-i
-enum-known-i c = search needs
-
-live-at-requires : tie.Need-live-at-requires
-live-at-requires c κs = search laws
-
-enum-told : tie.Need-enum-told
-enum-told c = search needs
+leaves-of-requires : tie.Need-leaves-of-requires
+leaves-of-requires c κs = search entering
 
 returns : tie.Need-returns
-returns c = search laws
+returns c =
+    let t = c .before in
+    let w = t .before in
+    let s = w .before .before in
+    told (s .args .m .now) _ _ (w .is-whole .ensures) (t .if1 .taken) (c .leaves-of .ensures)
 
 returns-2 : tie.Need-returns-2
-returns-2 c = search laws
+returns-2 c = search entering
 
 pub tables-orders-find-spec : {M : Type 1} → statement M
 tables-orders-find-spec =
-    tie.close
-    (tie.spec find-live-requires enum-known-i live-at-requires enum-told returns returns-2)
+    tie.close (tie.spec is-whole-requires leaves-of-requires returns returns-2)

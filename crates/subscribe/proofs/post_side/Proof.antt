@@ -1,6 +1,6 @@
 use Prim.Native.Nat.{_-_, _≤_}
 use native.Mathlib.Omega.{arith}
-use Rattle.depth.proofs.Shown.{row-small, Shown, shown-none, shown-skip, shown-below, shown-more, shown-all}
+use Rattle.subscribe.proofs.Shown.{row-small, Shown, shown-none, shown-skip, shown-below, shown-more, shown-all}
 use Rattle.subscribe.proofs.Snapshot.{orders-few, level-mail, levels-posted}
 use borrow.Author.Needs.{needs}
 use Rattle.subscribe.proofs.post_side.Statement.{statement}
