@@ -1,27 +1,18 @@
 // A row of a stored file on one gateway: its call is made by the entry points, and the answer held to the stored one.
-use stored::word;
+ghost use Rattle.stored.specs.Rows as R;
 ghost use Rattle.edge.specs.Entering.{Lent};
-
-fn call(m: &mut [u8], row: &[u8], given: &[u8], got: &mut [u8], out: &mut [u8])
-    requires { ⌜ Lent (now m) ⌝ }
-    ensures { λ r. ⌜ Lent (now (m .exit)) ⌝ }
-{
-    match word(row, 0) {
-        2..=11 => playing::call(m, row, got, out),
-        _ => replaying::call(m, row, given, got, out),
-    }
-}
+ghost use Rattle.conformance.specs.Played as P;
 
 // Makes the call with places that hold 0xA5; whether all is as the file has it.
 fn play(m: &mut [u8], row: [u8; 128], rows: [u8; 24576]) -> bool
     requires { ⌜ Lent (now m) ⌝ }
-    ensures { λ r. ⌜ Lent (now (m .exit)) ⌝ }
+    ensures { λ r. ⌜ P.Played rows row (now (m .entry)) (now (m .exit)) r ⌝ }
 {
     let mut out = [0xa5u8; 24576];
     let mut got = stored::unanswered(row);
     let lent = stored::lent(&row);
     let given = stored::given(&row);
-    call(m, &row, &rows[..given], &mut got, &mut out[..lent]);
+    replaying::call(m, &row, &rows[..given], &mut got, &mut out[..lent]);
     stored::agree(&row, &got, &rows, &out)
 }
 
@@ -29,6 +20,7 @@ fn play(m: &mut [u8], row: [u8; 128], rows: [u8; 24576]) -> bool
 fn play_run(m: &mut [u8], row: [u8; 128], rows: [u8; 24576]) -> bool
     requires { ⌜ Lent (now m) ⌝ }
     ensures { λ r. ⌜ Lent (now (m .exit)) ⌝ }
+    ensures { λ r. ⌜ P.Plays rows (R.times row) row (now (m .entry)) (now (m .exit)) r ⌝ }
 {
     let mut same = play(m, row, rows);
     let mut next = row;
@@ -41,35 +33,23 @@ fn play_run(m: &mut [u8], row: [u8; 128], rows: [u8; 24576]) -> bool
     same
 }
 
-fn play_row(fd: i32, m: &mut [u8], row: [u8; 128]) -> bool
+fn play_start(m: &mut [u8], row: [u8; 128], accounts: &[u8], rows: [u8; 24576]) -> bool
     requires { ⌜ Lent (now m) ⌝ }
-    ensures { λ r. ⌜ Lent (now (m .exit)) ⌝ }
+    ensures { λ r. ⌜ P.Started-as row (now (accounts .entry)) rows (now (m .entry)) (now (m .exit)) r ⌝ }
 {
-    let rows = stored::read_rows(fd, &row);
-    play_run(m, row, rows)
-}
-
-// A start has its accounts' rows before the others.
-fn play_start(fd: i32, m: &mut [u8], row: [u8; 128]) -> bool
-    requires { ⌜ Lent (now m) ⌝ }
-    ensures { λ r. ⌜ Lent (now (m .exit)) ⌝ }
-{
-    let n = stored::at_most(word(&row, 4), 256);
-    let mut accounts = [0u8; 14336];
-    stored::read_accounts(fd, &mut accounts, n);
-    let rows = stored::read_rows(fd, &row);
     let given = stored::given(&row);
-    let end = 56 * n;
-    let code = replaying::start(m, &row, &accounts[..end], &rows[..given]);
+    let code = replaying::start(m, &row, accounts, &rows[..given]);
     stored::answers_code(row, code)
 }
 
-pub fn play_any(fd: i32, m: &mut [u8], row: [u8; 128]) -> bool
+// `accounts` has the rows of a start's accounts, and `rows` those that follow the row, filled up with 0xA5.
+pub fn play_any(m: &mut [u8], row: [u8; 128], accounts: &[u8], rows: [u8; 24576]) -> bool
     requires { ⌜ Lent (now m) ⌝ }
     ensures { λ r. ⌜ Lent (now (m .exit)) ⌝ }
+    ensures { λ r. ⌜ P.PlaysAny row (now (accounts .entry)) rows (now (m .entry)) (now (m .exit)) r ⌝ }
 {
     if stored::is_start(&row) {
-        return play_start(fd, m, row);
+        return play_start(m, row, accounts, rows);
     }
-    play_row(fd, m, row)
+    play_run(m, row, rows)
 }

@@ -1,7 +1,65 @@
 // Plays the stored lists of calls on the proved entry points, and says the first difference from the stored answers, or how many calls agreed: the
 // Rust's answers, and the written rule's for lists with a fee.
+use accounts::Timing;
+use libc::STDOUT_FILENO;
 use stored::Tally;
+ghost use Prim.Native.Nat.{_*_, _≤_};
+ghost use lib.ListN.{length};
+ghost use Rattle.store.specs.Layout.{Holds};
 ghost use Rattle.edge.specs.Entering.{Lent};
+
+// ---- the file
+
+// The first 7 words of a row of 16.
+fn read_account(fd: i32, to: &mut [u8]) {
+    let mut rest = [0u8; 72];
+    io::read_full(fd, to);
+    io::read_full(fd, &mut rest);
+}
+
+// The rows of n accounts.
+fn read_accounts(fd: i32, rows: &mut [u8], n: usize)
+    requires { ⌜ 56 * n ≤ length (now rows) ⌝ }
+{
+    let mut i: usize = 0;
+    while i < n {
+        let from = 56 * i;
+        let to = from + 56;
+        read_account(fd, &mut rows[from..to]);
+        i += 1;
+    }
+}
+
+// The rows that follow the call's, in whole words.
+fn read_rows(fd: i32, row: &[u8]) -> [u8; 24576] {
+    let mut rows = [0xa5u8; 24576];
+    let n = stored::given(row);
+    let whole = 8 * ((n + 7) / 8);
+    io::read_full(fd, &mut rows[..whole]);
+    rows
+}
+
+// How many accounts' rows follow: only a start has them, before the others.
+fn accounts_of(row: &[u8]) -> usize
+    ensures { λ r. ⌜ r ≤ 256 ⌝ }
+{
+    if stored::is_start(row) {
+        return stored::at_most(stored::word(row, 4), 256);
+    }
+    0
+}
+
+fn play_any(fd: i32, m: &mut [u8], row: [u8; 128]) -> bool
+    requires { ⌜ Lent (now m) ⌝ }
+    ensures { λ r. ⌜ Lent (now (m .exit)) ⌝ }
+{
+    let n = accounts_of(&row);
+    let mut accounts = [0u8; 14336];
+    read_accounts(fd, &mut accounts, n);
+    let rows = read_rows(fd, &row);
+    let end = 56 * n;
+    conformance::play_any(m, row, &accounts[..end], rows)
+}
 
 // ---- two gateways
 
@@ -9,7 +67,7 @@ fn play_second(fd: i32, m: &[u8], s: &mut [u8], row: [u8; 128]) -> bool
     requires { ⌜ Lent (now m) × Lent (now s) ⌝ }
     ensures { λ r. ⌜ Lent (now (s .exit)) ⌝ }
 {
-    let same = conformance::play_any(fd, s, stored::plain(row));
+    let same = play_any(fd, s, stored::plain(row));
     if same && stored::gateway_of(&row) == 2 {
         return playing::are_alike(m, s);
     }
@@ -21,12 +79,23 @@ fn play_both(fd: i32, m: &mut [u8], s: &mut [u8], row: [u8; 128]) -> bool
     ensures { λ r. ⌜ Lent (now (m .exit)) × Lent (now (s .exit)) ⌝ }
 {
     if stored::gateway_of(&row) == 0 {
-        return conformance::play_any(fd, m, row);
+        return play_any(fd, m, row);
     }
     play_second(fd, m, s, row)
 }
 
-// ---- the file
+// ---- all rows
+
+fn say(text: &[u8], n: u64) {
+    io::write_all(STDOUT_FILENO, text);
+    io::print_decimal(STDOUT_FILENO, n);
+}
+
+fn say_where(t: Tally) {
+    say(b" in list ", t.lists);
+    say(b", row ", t.rows);
+    io::write_all(STDOUT_FILENO, b"\n");
+}
 
 fn next_row(fd: i32, m: &mut [u8], s: &mut [u8], row: [u8; 128], t: Tally) -> Tally
     requires { ⌜ Lent (now m) × Lent (now s) ⌝ }
@@ -35,7 +104,7 @@ fn next_row(fd: i32, m: &mut [u8], s: &mut [u8], row: [u8; 128], t: Tally) -> Ta
     let more = play_both(fd, m, s, row);
     let after = stored::counted(row, t, more);
     if !more {
-        stored::say_where(after);
+        say_where(after);
     }
     after
 }
@@ -68,10 +137,62 @@ fn play_all(fd: i32, m: &mut [u8], s: &mut [u8])
     }
 }
 
-// An empty start comes first, so that there are states whatever the file has.
+// ---- the beginning
+
+// Set-up with no accounts, no orders and the timing's defaults.
+fn begin(m: &mut [u8]) -> u64
+    requires { ⌜ Holds (now m) ⌝ }
+    ensures { λ r. ⌜ Lent (now (m .exit)) ⌝ }
+{
+    let none = [0u8; 8];
+    let list = [0u8; 8];
+    let t = Timing::default();
+    let heartbeat = t.heartbeat;
+    let idle = t.idle_timeout;
+    edge::rowanchess_set_up(m, 0, 0, 0, heartbeat, idle, &none[..0], &list[..0])
+}
+
+// The second from a checkpoint of the first.
+fn begin_again(m: &[u8], s: &mut [u8]) -> u64
+    requires { ⌜ Lent (now m) × Lent (now s) ⌝ }
+    ensures { λ r. ⌜ Lent (now (s .exit)) ⌝ }
+{
+    let mut bytes = [0u8; 64];
+    let r = edge::rowanchess_checkpoint(m, &mut bytes);
+    if r.code != 0 {
+        return r.code;
+    }
+    let n = stored::at_most(r.count as u64, 64);
+    let none = [0u8; 8];
+    let t = Timing::default();
+    let heartbeat = t.heartbeat;
+    let idle = t.idle_timeout;
+    edge::rowanchess_restore(s, 0, 0, heartbeat, idle, &none[..0], &bytes[..n])
+}
+
+// Both are states, whatever the file has. 0, or the code of what was refused.
+fn begin_both(m: &mut [u8], s: &mut [u8]) -> u64
+    requires { ⌜ Holds (now m) × Holds (now s) ⌝ }
+    ensures { λ r. ⌜ Lent (now (m .exit)) × Lent (now (s .exit)) ⌝ }
+{
+    let first = begin(m);
+    let second = begin(s);
+    if first != 0 {
+        return first;
+    }
+    if second != 0 {
+        return second;
+    }
+    begin_again(m, s)
+}
+
 fn run(fd: i32, m: &mut [u8; 467592], s: &mut [u8; 467592]) {
-    replaying::begin(m);
-    replaying::begin(s);
+    let code = begin_both(m, s);
+    if code != 0 {
+        say(b"no start: ", code);
+        io::write_all(STDOUT_FILENO, b"\n");
+        return;
+    }
     play_all(fd, m, s);
 }
 

@@ -1,8 +1,7 @@
 // The rows of a stored file of lists of calls: their words, read, compared and said. compare/README.md has the file's rows.
 use libc::STDOUT_FILENO;
 ghost use mathlib.Core.Path.{_≡_};
-ghost use Prim.Native.Nat.{_*_, _≤_, min};
-ghost use lib.ListN.{length};
+ghost use Prim.Native.Nat.{_≤_, min};
 ghost use Rattle.stored.specs.Rows as R;
 
 // ---- the words of a row
@@ -110,26 +109,6 @@ pub fn agrees(text: &[u8], want: &[u8], got: &[u8]) -> bool
 
 // ---- the file
 
-// The first 7 words of a row of 16.
-fn read_account(fd: i32, to: &mut [u8]) {
-    let mut rest = [0u8; 72];
-    io::read_full(fd, to);
-    io::read_full(fd, &mut rest);
-}
-
-// The rows of n accounts.
-pub fn read_accounts(fd: i32, rows: &mut [u8], n: usize)
-    requires { ⌜ 56 * n ≤ length (now rows) ⌝ }
-{
-    let mut i: usize = 0;
-    while i < n {
-        let from = 56 * i;
-        let to = from + 56;
-        read_account(fd, &mut rows[from..to]);
-        i += 1;
-    }
-}
-
 pub fn at_most(n: u64, most: usize) -> usize
     ensures { λ r. ⌜ r ≤ most ⌝ }
     ensures { λ r. ⌜ r ≡ min n most ⌝ }
@@ -167,15 +146,6 @@ pub fn given(row: &[u8]) -> usize
     ensures { λ r. ⌜ r ≡ R.bytes-at (now (row .entry)) (R.word-at (now (row .entry)) 3) ⌝ }
 {
     bytes_of(row, word(row, 3))
-}
-
-// The rows that follow the call's, in whole words.
-pub fn read_rows(fd: i32, row: &[u8]) -> [u8; 24576] {
-    let mut rows = [0xa5u8; 24576];
-    let n = given(row);
-    let whole = 8 * ((n + 7) / 8);
-    io::read_full(fd, &mut rows[..whole]);
-    rows
 }
 
 pub fn answers(row: &[u8; 128], got: &[u8; 128]) -> bool
@@ -306,12 +276,6 @@ fn sum(n: u64, more: u64) -> u64
     ensures { λ r. ⌜ r ≡ R.sum n more ⌝ }
 {
     std::num::wrapping_add_u64(n, more)
-}
-
-pub fn say_where(t: Tally) {
-    say(b" in list ", t.lists);
-    say(b", row ", t.rows);
-    io::write_all(STDOUT_FILENO, b"\n");
 }
 
 // A list begins with a start of the first gateway.

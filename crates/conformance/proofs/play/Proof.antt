@@ -1,6 +1,7 @@
 use lib.ListN.{length-take}
 use native.Mathlib.Omega.{arith}
 use borrow.Author.Needs.{needs}
+use Rattle.conformance.proofs.Laws.{laws}
 use Rattle.conformance.proofs.play.Statement.{statement}
 use Rattle.conformance.proofs.play.Tie as tie
 
@@ -47,7 +48,7 @@ same-length : tie.Need-same-length
 same-length c = search needs
 
 returns : tie.Need-returns
-returns c = search needs
+returns c = search laws
 
 pub play-spec : {M : Type 1} → statement M
 play-spec =

@@ -1,16 +1,20 @@
-use Prim.Native.Nat.{_-_}
+use Prim.Native.Nat.{_-_, _≤_}
+use Rattle.playing.proofs.Laws.{laws, alike-more}
+use Rattle.playing.specs.Steps.{Alike}
+use native.Mathlib.Omega.{arith}
 use borrow.Author.Needs.{needs}
+use borrow.Author.Tests.{not-false}
 use Rattle.playing.proofs.are_alike.Statement.{statement}
 use Rattle.playing.proofs.are_alike.Tie as tie
 
 abbrev Inv-loop : tie.InvT-loop
-Inv-loop m s a₀ t6 a = Unit {0}
+Inv-loop m s a₀ t6 a = (a ≤ 256) × Alike a m s
 
 abbrev μ-loop : tie.MeasureT-loop
 μ-loop m s a₀ t6 a = 256 - a
 
 loop-holds : tie.Need-loop-holds Inv-loop μ-loop
-loop-holds c = search needs
+loop-holds c = search laws
 
 standing-requires : tie.Need-standing-requires Inv-loop μ-loop
 standing-requires c κs = search needs
@@ -31,7 +35,7 @@ agrees-requires : tie.Need-agrees-requires Inv-loop μ-loop
 agrees-requires c κs = search needs
 
 returns : tie.Need-returns Inv-loop μ-loop
-returns c = search needs
+returns c = search laws
 
 add-a : tie.Need-add-a Inv-loop μ-loop
 add-a c = search needs
@@ -40,10 +44,13 @@ loop-less : tie.Need-loop-less Inv-loop μ-loop
 loop-less c = search needs
 
 loop-again : tie.Need-loop-again Inv-loop μ-loop
-loop-again c = search needs
+loop-again c =
+    let s = c .before .before .before .before .before in
+    let l = s .before .before .before in
+    (omega arith, alike-more _ _ _ _ _ _ (s .before .standing .ensures) (s .standing2 .ensures) (c .before .agrees .ensures) (l .loop .inv .1) (not-false _ (c .if1 .left)))
 
 returns-2 : tie.Need-returns-2 Inv-loop μ-loop
-returns-2 c = search needs
+returns-2 c = search laws
 
 pub are-alike-spec : {M : Type 1} → statement M
 are-alike-spec =

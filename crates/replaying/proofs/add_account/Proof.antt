@@ -1,5 +1,6 @@
 use lib.ListN.{length-take}
 use native.Mathlib.Omega.{arith}
+use Rattle.replaying.proofs.Laws.{laws}
 use borrow.Author.Needs.{needs}
 use Rattle.replaying.proofs.add_account.Statement.{statement}
 use Rattle.replaying.proofs.add_account.Tie as tie
@@ -26,7 +27,7 @@ same-length-2 : tie.Need-same-length-2
 same-length-2 c = search needs
 
 returns : tie.Need-returns
-returns c = search needs
+returns c = search laws
 
 pub add-account-spec : {M : Type 1} → statement M
 add-account-spec =

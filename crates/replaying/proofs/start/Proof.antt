@@ -1,4 +1,4 @@
-use Rattle.replaying.proofs.Laws.{starts-lent}
+use Rattle.replaying.proofs.Laws.{laws}
 use borrow.Author.Needs.{needs}
 use Rattle.replaying.proofs.start.Statement.{statement}
 use Rattle.replaying.proofs.start.Tie as tie
@@ -28,7 +28,7 @@ same-length : tie.Need-same-length
 same-length c = search needs
 
 returns : tie.Need-returns
-returns c = search (needs, starts-lent)
+returns c = search laws
 
 rowanchess-restore-requires : tie.Need-rowanchess-restore-requires
 rowanchess-restore-requires c κs = search needs
@@ -37,7 +37,7 @@ same-length-2 : tie.Need-same-length-2
 same-length-2 c = search needs
 
 returns-2 : tie.Need-returns-2
-returns-2 c = search (needs, starts-lent)
+returns-2 c = search laws
 
 pub start-spec : {M : Type 1} → statement M
 start-spec =

@@ -2,8 +2,8 @@ use Prim.Native.Nat.{_-_, _≤_}
 use mathlib.Core.Path.{_≡_}
 use lib.ListN.{length}
 use borrow.Author.Needs.{needs}
-use Rattle.stored.proofs.read_accounts.Statement.{statement}
-use Rattle.stored.proofs.read_accounts.Tie as tie
+use Rattle.player.proofs.read_accounts.Statement.{statement}
+use Rattle.player.proofs.read_accounts.Tie as tie
 
 abbrev Inv-loop : tie.InvT-loop
 Inv-loop fd rows₀ n i₀ rows i = (length rows ≡ length rows₀) × (i ≤ n)

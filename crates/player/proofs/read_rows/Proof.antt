@@ -1,8 +1,8 @@
 use lib.ListN.{length-take}
 use native.Mathlib.Omega.{arith}
 use borrow.Author.Needs.{needs}
-use Rattle.stored.proofs.read_rows.Statement.{statement}
-use Rattle.stored.proofs.read_rows.Tie as tie
+use Rattle.player.proofs.read_rows.Statement.{statement}
+use Rattle.player.proofs.read_rows.Tie as tie
 
 given-requires : tie.Need-given-requires
 given-requires c κs = search needs
