@@ -1,7 +1,7 @@
--- An accepted set-up or restore begins with a gateway for which demand 3 holds. Assumes nothing.
+-- An accepted set-up or restore leaves a state that keeps the invariant and has the accounts and the fee. Assumes nothing.
 use Prim.Native.Nat.{ℕ}
 use mathlib.Core.Bool.{Bool, true, false, cond, not, and-eq-true-iff}
-use mathlib.Core.Path.{_≡_, refl, sym, ap}
+use mathlib.Core.Path.{_≡_, sym, ap, subst}
 use mathlib.Core.Option.{Option, none, some}
 use mathlib.Core.List.{List, [], _∷_}
 use native.Mathlib.Omega.{arith}
@@ -18,14 +18,16 @@ use Rattle.gateway.specs.Saved.{Saved}
 use Rattle.gateway.specs.Bytes.{decode}
 use Rattle.gateway.specs.Calls.{Gateway}
 use Rattle.gateway.specs.Start.{Started, not-started, started, start-unless, charging, set-up-tests, restore-tests, set-up, restore, restore-saved}
-use Rattle.gateway.proofs.Restart.{Demand3, after-set-up, after-restore}
+use Rattle.gateway.proofs.Restore.{Accounts}
+use Rattle.gateway.proofs.Begin.{Begins, Given, set-up-given, restore-given}
 use Rattle.store.specs.Layout.{cell}
 use Rattle.store.specs.View.{gateway}
 use Rattle.outcome.specs.Between.{Between}
 use Rattle.outcome.proofs.Calls.{codes}
 use Rattle.opening.specs.Starts.{Starts}
 use Rattle.opening.proofs.Codes.{set-up-codes, restore-codes, code-not-0}
-use Rattle.restart.specs.Chain.{Opened, by-set-up, by-restore}
+use Rattle.edge.specs.Entering as Entering
+use Rattle.restart.specs.Chain.{Tries, entered, begun, Opened, by-set-up, by-restore}
 
 -- ---- no refusal has the code 0
 
@@ -53,25 +55,36 @@ restore-not-0 fee limit l timing s = go (leZ (pos 0) fee) s
     go true none e = omega (arith, e)
     go true (some s) e = refused-not-0 (restore-tests fee limit l s) _ (restore-codes fee limit l s) e
 
--- what the contract says of a start that answers 0
-record Begins (s : Started) (ys : List ℕ) : Type 0 where
+-- ---- what the contract says of a start
+
+-- an entry point that is handed a state's length, and rows that are ones, starts as `beginning` does
+pub tried : (s : Started) (k : ℕ) (xs ys : List ℕ) → Tries s k xs ys → Starts s k xs ys
+unfolding Entering.begins
+tried s k xs ys (entered ok w h) = subst (λ b. Starts (cond b s (not-started malformed)) k xs ys) w h
+tried s k xs ys (begun h) = h
+
+-- that answers 0
+record Begun (s : Started) (ys : List ℕ) : Type 0 where
   is : s ≡ started (gateway (cell ys))
   between : Between ys
 
-begins : (s : Started) (xs ys : List ℕ) → (fails s ≡ 0 → ⊥) → Starts s 0 xs ys → Begins s ys
+begins : (s : Started) (xs ys : List ℕ) → (fails s ≡ 0 → ⊥) → Starts s 0 xs ys → Begun s ys
 unfolding Starts
 begins (not-started k) xs ys n h = absurd (n (sym (h .code-is)))
 begins (started g) xs ys n h = record { is = ap started (sym (h .is-done .becomes .gateway-is)); between = h .between }
 
-module _ (fee : ℤ) (limit : ℕ) (l : List Account) (ys : List ℕ) where
-  pub opened-between : Opened fee limit l ys → Between ys
-  unfolding restore
-  opened-between (by-set-up last listing timing xs f a x h) = begins _ xs ys (set-up-not-0 fee limit last l listing timing) h .between
-  opened-between (by-restore timing bs xs a b h) = begins _ xs ys (restore-not-0 fee limit l timing (decode bs)) h .between
+-- it keeps the invariant, and has the accounts and the fee
+pub record Stands (fee : ℤ) (limit : ℕ) (l : List Account) (ys : List ℕ) : Type 0 where
+  pub between : Between ys
+  pub accounts : Accounts fee limit l (gateway (cell ys) .core)
 
-  pub opened-demand : Opened fee limit l ys → Demand3 fee limit l (gateway (cell ys))
+module _ (fee : ℤ) (limit : ℕ) (l : List Account) (ys : List ℕ) where
+  stands : (s : Started) (xs : List ℕ) → (fails s ≡ 0 → ⊥) → Begins (Given fee limit l) s → Tries s 0 xs ys → Stands fee limit l ys
+  stands s xs n a h =
+      let b = begins s xs ys n (tried s 0 xs ys h) in
+      record { between = b .between; accounts = subst (Begins (Given fee limit l)) (b .is) a }
+
+  pub opened : Opened fee limit l ys → Stands fee limit l ys
   unfolding restore
-  opened-demand (by-set-up last listing timing xs f a x h) =
-      after-set-up fee limit last l listing timing (gateway (cell ys)) f a x (begins _ xs ys (set-up-not-0 fee limit last l listing timing) h .is)
-  opened-demand (by-restore timing bs xs a b h) =
-      after-restore fee limit l timing bs (gateway (cell ys)) a b (begins _ xs ys (restore-not-0 fee limit l timing (decode bs)) h .is)
+  opened (by-set-up last listing timing xs h) = stands _ xs (set-up-not-0 fee limit last l listing timing) (set-up-given fee limit last l listing timing) h
+  opened (by-restore timing bs xs h) = stands _ xs (restore-not-0 fee limit l timing (decode bs)) (restore-given fee limit l timing bs) h

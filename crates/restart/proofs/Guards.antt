@@ -1,8 +1,8 @@
--- What no silly gateway does, of the bytes and the contracts alone. In plain words: an event of a trade that is accepted, delivered or replayed, leaves wallets
--- in which exactly its settlement was made, and holds that moved by exactly the two orders' new holds less the old (gateway/proofs/Settled.antt); and
--- bytes whose tables are empty, with a number left, get neither 5 nor 10 from any call (gateway/proofs/Roomy.antt). Assumes nothing.
+-- What no silly gateway does (`Settled`, `RoomServes` of specs/Claims.antt), from the contracts and what gateway/proofs/Settled.antt and Roomy.antt prove of the
+-- definitions. Assumes nothing.
 use Prim.Native.Nat.{ℕ}
 use mathlib.Core.Path.{_≡_, refl, sym, ap, subst, _∙_}
+use mathlib.Core.Bool.{Bool, true, false, cond}
 use mathlib.Core.Logic.{_⊎_, inl, inr, ⊎-elim}
 use mathlib.Core.List.{List, [], _∷_}
 use native.Mathlib.Omega.{arith}
@@ -12,22 +12,26 @@ use lib.ListN.{length}
 use Rattle.orderbook.specs.declared.Side.{Side}
 use Rattle.orderbook.specs.declared.Event.{Event}
 use Rattle.orderbook.specs.declared.Event.the-variants.{Trade}
-use Rattle.gateway.specs.Limits.{full, too-short, not-quiet}
+use Rattle.gateway.specs.Limits.{full, too-short, not-quiet, malformed}
 use Rattle.gateway.specs.Ledger.{event}
 use Rattle.gateway.specs.Core.{Pass, Core, system, core-step, tests}
 use Rattle.gateway.specs.Rest.{Mail, Rest, with-delivered}
 use Rattle.gateway.specs.Entry.{Answer, Plan, refuse, quiet, records}
 use Rattle.gateway.specs.Deliver.{deliver, deliver-tests, reports, rest-after}
 use Rattle.gateway.specs.Calls.{Gateway, Call, deliver-event, replay-event, replay-tests, Outcome, refused, done, within, plan, carry-out, call}
-use Rattle.gateway.specs.Fits.{EventFits}
-use Rattle.gateway.proofs.Calls.{Good, plan-good}
-use Rattle.gateway.proofs.Settled.{Settles, accepted-settles}
-use Rattle.gateway.proofs.Roomy.{Roomy, never-full}
+use Rattle.gateway.proofs.Calls.{Good}
+use Rattle.gateway.proofs.Restart.{good}
+use Rattle.gateway.specs.Claims.{Settles, Roomy}
+use Rattle.gateway.proofs.Settled.{accepted-settles}
+use Rattle.gateway.proofs.Roomy.{never-full}
 use Rattle.store.specs.Layout.{cell}
 use Rattle.store.specs.View.{ledger, gateway}
 use Rattle.outcome.specs.Between.{Between}
 use Rattle.outcome.specs.Answers.{Ends}
-use Rattle.restart.specs.Chain.{Made}
+use Rattle.edge.specs.Entering.{whole, asked}
+use Rattle.restart.specs.Chain.{Asking, Made}
+use Rattle.restart.specs.Claims.{Settled, RoomServes}
+use Rattle.restart.proofs.Chains.{Ended, heard-step}
 use Rattle.restart.proofs.Plans.{unless-either}
 
 -- ---- a trade
@@ -48,50 +52,64 @@ unfolding Records plan tests
 replay-records c r n e =
     ⊎-elim (λ h. inl h) (λ h. inr ([], with-delivered n r, h)) (unless-either (replay-tests (event n e) c r) (records system (event n e) [] (with-delivered n r)) refl)
 
-module _ (xs : List ℕ) (b : Between xs) (n t taker maker : ℕ) (s : Side) (p : ℤ) (q tl ml : ℕ) (fits : EventFits (Trade t taker maker s p q tl ml)) where
+module _ (xs : List ℕ) (b : Between xs) (n t taker maker : ℕ) (s : Side) (p : ℤ) (q tl ml : ℕ) where
   abbrev trade : Event
   trade = Trade t taker maker s p q tl ml
 
   abbrev g : Gateway
   g = gateway (cell xs)
 
+  abbrev asking : Call → Asking
+  asking x = record { formed = true; for = x }
+
   -- of a call whose plan is a refusal or the trade
-  accepted : (x : Call) (m : Made x xs) → Good (g .core) (plan (g .core) (g .rest) x) → Records (g .core) n trade (plan (g .core) (g .rest) x) → m .code ≡ 0 →
-      Settles (ledger (cell xs)) (ledger (cell (m .left))) taker maker p q tl ml
+  accepted : (x : Call) (m : Made (asking x) xs) → Records (g .core) n trade (plan (g .core) (g .rest) x) → m .code ≡ 0 → Settles (ledger (cell xs)) (ledger (cell (m .left))) taker maker p q tl ml
   unfolding Ends Records
-  accepted x m h (inl (k, e, z)) c =
-      let f : Ends (refused k) (m .kept) (m .tells) (m .code) xs (m .left) = subst (λ o. Ends (carry-out (g .core) o) (m .kept) (m .tells) (m .code) xs (m .left)) e (m .answers .ends) in
+  accepted x m (inl (k, e, z)) c =
+      let f : Ended (refused k) (m .code) xs (m .left) = subst (λ o. Ended (carry-out (g .core) o) (m .code) xs (m .left)) e (heard-step xs (b .state .holds) x (m .code) (m .left) (m .enters .ends)) in
       absurd (z (sym (f .code-is) ∙ c))
-  accepted x m h (inr (ms, r, e)) c =
-      let f = subst (λ o. Ends (carry-out (g .core) o) (m .kept) (m .tells) (m .code) xs (m .left)) e (m .answers .ends) in
-      let pass : Pass (tests (event n trade) (g .core)) = subst (Good (g .core)) e h .0 in
+  accepted x m (inr (ms, r, e)) c =
+      let f = subst (λ o. Ended (carry-out (g .core) o) (m .code) xs (m .left)) e (heard-step xs (b .state .holds) x (m .code) (m .left) (m .enters .ends)) in
+      let pass : Pass (tests (event n trade) (g .core)) = subst (Good ⊥ (g .core)) e (good g x (b .ok)) .0 in
       subst (λ (k : Gateway). Settles (ledger (cell xs)) (k .core .ledger) taker maker p q tl ml) (sym (f .becomes .gateway-is))
       (accepted-settles system n t taker maker s p q tl ml (g .core) (b .ok .core-is) pass)
 
-  pub delivered-settles : (room : ℕ) (m : Made (deliver-event n trade room) xs) → m .code ≡ 0 → Settles (ledger (cell xs)) (ledger (cell (m .left))) taker maker p q tl ml
-  delivered-settles room m c =
-      accepted (deliver-event n trade room) m (plan-good (g .core) (g .rest) (deliver-event n trade room) fits (b .ok .core-is) (b .ok .rest-is)) (deliver-records (g .core) (g .rest) n trade room) c
-
-  pub replayed-settles : (m : Made (replay-event n trade) xs) → m .code ≡ 0 → Settles (ledger (cell xs)) (ledger (cell (m .left))) taker maker p q tl ml
-  replayed-settles m c =
-      accepted (replay-event n trade) m (plan-good (g .core) (g .rest) (replay-event n trade) fits (b .ok .core-is) (b .ok .rest-is)) (replay-records (g .core) (g .rest) n trade) c
+pub settled : Settled
+settled =
+    record {
+      delivered = λ xs b n t taker maker s p q tl ml room m c.
+          let g = gateway (cell xs) in
+          accepted xs b n t taker maker s p q tl ml (deliver-event n (Trade t taker maker s p q tl ml) room) m (deliver-records (g .core) (g .rest) n (Trade t taker maker s p q tl ml) room) c;
+      replayed = λ xs b n t taker maker s p q tl ml m c.
+          let g = gateway (cell xs) in
+          accepted xs b n t taker maker s p q tl ml (replay-event n (Trade t taker maker s p q tl ml)) m (replay-records (g .core) (g .rest) n (Trade t taker maker s p q tl ml)) c;
+    }
 
 -- ---- room
 
-module _ (xs : List ℕ) (x : Call) (m : Made x xs) (room : Roomy (gateway (cell xs) .core) (gateway (cell xs) .rest)) where
+module _ (xs : List ℕ) (x : Asking) (m : Made x xs) (room : Roomy (gateway (cell xs) .core) (gateway (cell xs) .rest)) where
   abbrev h : Gateway
   h = gateway (cell xs)
 
   -- a code that is not 0 is the plan's refusal
-  refusal : (k : ℕ) (p : Plan) → (k ≡ 0 → ⊥) → Ends (carry-out (h .core) p) (m .kept) (m .tells) k xs (m .left) → p ≡ refuse k
+  refusal : (k : ℕ) (p : Plan) → (k ≡ 0 → ⊥) → Ended (carry-out (h .core) p) k xs (m .left) → p ≡ refuse k
   unfolding Ends
   refusal k (refuse j) z e = ap refuse (sym (e .code-is))
   refusal k (quiet a ms r) z e = absurd (z (e .code-is))
   refusal k (records from i ms r) z e = absurd (z (e .code-is))
 
-  never : (k : ℕ) → (k ≡ 0 → ⊥) → (plan (h .core) (h .rest) x ≡ refuse k → ⊥) → m .code ≡ k → ⊥
-  never k z f e = f (refusal k (plan (h .core) (h .rest) x) z (subst (λ j. Ends (call h x) (m .kept) (m .tells) j xs (m .left)) e (m .answers .ends)))
+  -- and where the call is not heard, it is 11
+  never : (k : ℕ) → (k ≡ 0 → ⊥) → (k ≡ malformed → ⊥) → (plan (h .core) (h .rest) (x .for) ≡ refuse k → ⊥) → m .code ≡ k → ⊥
+  unfolding Ends asked
+  never k z y f e = go (whole (x .formed) xs) (m .enters .ends)
+    where
+      go : (w : Bool) → Ended (cond w (call h (x .for)) (refused malformed)) (m .code) xs (m .left) → ⊥
+      go true d = f (refusal k (plan (h .core) (h .rest) (x .for)) z (subst (λ j. Ended (call h (x .for)) j xs (m .left)) e d))
+      go false d = y (sym e ∙ d .code-is)
 
-  pub room-serves : (m .code ≡ full → ⊥) × (m .code ≡ not-quiet → ⊥)
-  room-serves =
-      (never full (λ e. omega (arith, e)) (never-full (h .core) (h .rest) x room .0), never not-quiet (λ e. omega (arith, e)) (never-full (h .core) (h .rest) x room .1))
+pub room-serves : RoomServes
+room-serves xs x m room =
+    let h = gateway (cell xs) in (
+      never xs x m room full (λ e. omega (arith, e)) (λ e. omega (arith, e)) (never-full (h .core) (h .rest) (x .for) room .0),
+      never xs x m room not-quiet (λ e. omega (arith, e)) (λ e. omega (arith, e)) (never-full (h .core) (h .rest) (x .for) room .1),
+    )

@@ -4,3 +4,5 @@ pub mod Chains
 pub mod Begun
 pub mod Demand
 pub mod Guards
+pub mod Batches
+pub mod Claimed
