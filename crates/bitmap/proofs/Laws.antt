@@ -12,13 +12,9 @@ use Rattle.store.specs.Layout.{cell, Cell, Holds, Set}
 use Rattle.store.specs.View.{Store, Same, Is}
 use Rattle.store.proofs.Rows.{is-itself, same-write, same-trans, then-set}
 use Rattle.bitmap.specs.Bitmap.{digit, with-digit, FirstZero, LastZero, Map, bit, put-cell, put-bit, emptied, Taken, FirstFree, LastFree, far, Nearest}
-use Rattle.bitmap.proofs.Digits.{digit-small, digit-beyond, digit-put, digit-kept}
+use Rattle.bitmap.proofs.Digits.{digit-beyond, digit-put, digit-kept}
 
 -- ---- a bit of a block
-
-pub bit-small : (b : ℕ) (s : Store) (j : ℕ) → bit b s j ≤ 1
-unfolding bit
-bit-small b s j = digit-small (s b (j / 64) 0) (j % 64)
 
 -- a block of zeros
 pub zeros-bit : (b : ℕ) (s : Store) (j : ℕ) → s b (j / 64) 0 ≡ 0 → bit b s j ≡ 0
@@ -70,11 +66,6 @@ put-other b i j v s h n =
     ∙ digit-kept (s b (j / 64) 0) (j % 64) v (omega arith) h (i % 64) (λ f. n (omega arith))))
     (λ ne. ap (λ w. digit w (i % 64)) (put-there b j v s b (i / 64) 0 (λ d e k. ne e)))
     (same? (i / 64) (j / 64))
-
--- the bits of another block
-pub put-elsewhere : (b d i j v : ℕ) (s : Store) → (d ≡ b → ⊥) → bit d (put-bit b j v s) i ≡ bit d s i
-unfolding bit
-put-elsewhere b d i j v s n = ap (λ f. digit (f (i / 64) 0) (i % 64)) (put-block b j v s d n)
 
 -- ---- what is written
 

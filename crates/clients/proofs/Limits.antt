@@ -10,9 +10,7 @@ use Rattle.risk.specs.declared.Bucket.{Bucket}
 use Rattle.table.proofs.Live.{same?}
 use Rattle.gateway.specs.Limits.{owner-slots}
 use Rattle.store.specs.Cells as C
-use Rattle.store.specs.Layout.{cell}
-use Rattle.store.specs.View.{Row, Store, Is, write, flag, zeros}
-use Rattle.store.proofs.Places.{account-cell}
+use Rattle.store.specs.View.{Row, Store, write, flag, zeros}
 use Rattle.clients.specs.Clients as P
 use Rattle.clients.specs.Clients.{put-cells, LimitsFit, Limited}
 use Rattle.clients.proofs.Rows.{write-cell, spares, cells-spare}
@@ -25,12 +23,6 @@ same-limits q r e f h = record { max-open-fits = rw e (h .max-open-fits); rate-f
 pub limited-ext : (s t : Store) → ((i : ℕ) → i < owner-slots → t C.accounts i C.account-max-open ≡ s C.accounts i C.account-max-open) →
     ((i : ℕ) → i < owner-slots → t C.accounts i C.account-rate ≡ s C.accounts i C.account-rate) → Limited s → Limited t
 limited-ext s t p q k = record { limits = λ i l. same-limits (t C.accounts i) (s C.accounts i) (p i l) (q i l) (k .limits i l) }
-
--- bytes that hold the store
-pub limited-is : {ys : List ℕ} {s : Store} → Is ys s → Limited s → Limited (cell ys)
-limited-is {ys} {s} h k =
-    limited-ext s (cell ys) (λ i l. h .same C.accounts i C.account-max-open (account-cell i C.account-max-open l (omega arith)))
-    (λ i l. h .same C.accounts i C.account-rate (account-cell i C.account-rate l (omega arith))) k
 
 pub limited-zeros : Limited zeros
 limited-zeros = record { limits = λ i l. record { max-open-fits = omega arith; rate-fits = omega arith } }

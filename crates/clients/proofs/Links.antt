@@ -20,10 +20,8 @@ use Rattle.gateway.specs.Limits.{owner-slots, session-slots}
 use Rattle.gateway.specs.Rest as Rest
 use Rattle.gateway.specs.Rest.{account-of, logged-in, session-from, session-of}
 use Rattle.store.specs.Cells as C
-use Rattle.store.specs.Layout.{cell}
-use Rattle.store.specs.View.{Row, Store, Is, write, listed, optional, session, gateway, zeros}
+use Rattle.store.specs.View.{Row, Store, write, listed, optional, session, gateway, zeros}
 use Rattle.store.proofs.Listed.{listed-at, listed-length}
-use Rattle.store.proofs.Places.{session-cell, account-cell}
 use Rattle.clients.specs.Clients as P
 use Rattle.clients.specs.Clients.{put-cells, Linked}
 use Rattle.clients.proofs.Laws.{plus-one, account-known}
@@ -105,15 +103,6 @@ pub two-cells : (q r : Row) → q C.session-connected ≡ r C.session-connected 
 two-cells q r e f =
     let g : P.logged-in q ≡ P.logged-in r = rw (e, f) refl in
     sym (account-known q) ∙ ap optional g ∙ account-known r
-
--- bytes that hold the store
-pub linked-is : {ys : List ℕ} {s : Store} → Is ys s → Linked s → Linked (cell ys)
-linked-is {ys} {s} h k =
-    linked-ext s (cell ys)
-    (λ i l.
-    two-cells (cell ys C.sessions i) (s C.sessions i) (h .same C.sessions i C.session-connected (session-cell i C.session-connected l (omega arith)))
-    (h .same C.sessions i C.session-account (session-cell i C.session-account l (omega arith))))
-    (λ a l. h .same C.accounts a C.account-session (account-cell a C.account-session l (omega arith))) k
 
 pub linked-zeros : Linked zeros
 linked-zeros =

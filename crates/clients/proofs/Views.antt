@@ -12,7 +12,6 @@ use Rattle.accounts.specs.declared.Account.{Account}
 use Rattle.accounts.specs.declared.Funds.{Funds}
 use Rattle.accounts.specs.declared.MaybeFunds as F
 use Rattle.words.specs.Words.{int, word-of}
-use Rattle.wallet.specs.Wallet as W
 use Rattle.risk.specs.declared.Bucket.{Bucket}
 use Rattle.risk.specs.Throttle as Throttle
 use Rattle.gateway.specs.Limits.{owner-slots, session-slots}
@@ -225,10 +224,6 @@ module _ (i : ℕ) (s : Store) where
 
   pub bucket-at-row : i < owner-slots → bucket-at i (gateway s .rest) ≡ bucket (s C.accounts i)
   bucket-at-row l = listed-at (λ j. bucket (s C.accounts j)) owner-slots i (Throttle.full 0) l
-
--- the funds of a wallet's words
-pub wallet-is-funds : (r : Row) → flag (r C.account-funded) ≡ true → wallet r ≡ some (W.funds (W.balance-of (P.wallet-words r)))
-wallet-is-funds r e = rw e refl
 
 -- ---- a new account
 

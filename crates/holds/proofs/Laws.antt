@@ -24,7 +24,7 @@ use Rattle.gateway.proofs.Invariant.{fees-stay}
 use Rattle.gateway.proofs.Moves.{Of, names, find-changed, wallets-changed, marked-alike, changed-alike, holds-alike, notices-alike}
 use Rattle.store.specs.Cells as C
 use Rattle.store.specs.Layout.{cell}
-use Rattle.store.specs.View.{Store, word, side, order, ledger, gateway}
+use Rattle.store.specs.View.{word, side, order, ledger, gateway}
 use Rattle.orders.specs.Orders.{Sees}
 use Rattle.sound.specs.Sound.{Becomes, InPlace}
 use Rattle.sound.proofs.Kept.{seen-live}
@@ -102,7 +102,7 @@ paper-same n l k e f = ap (option none (λ o. cond (is-some (wallet-of (k .walle
 hold-same : (n : ℕ) (x : Move) (w : ℕ) (l k : Ledger) → k .fee ≡ l .fee → find n (k .orders) ≡ find n (l .orders) → NewHold n x w l → NewHold n x w k
 hold-same n x w l k q e h o f = h o (sym e ∙ f) ∙ ap (λ y. hold-after y (change-of n x) o) (sym q)
 
-pub weighs-same : {n : ℕ} {x : Move} {s : Shift} {g : Gateway} → Weighs n x s g → (h : Gateway) → h .core .ledger .fee ≡ g .core .ledger .fee → find n (h .core .ledger .orders) ≡ find n (g .core .ledger .orders) →
+weighs-same : {n : ℕ} {x : Move} {s : Shift} {g : Gateway} → Weighs n x s g → (h : Gateway) → h .core .ledger .fee ≡ g .core .ledger .fee → find n (h .core .ledger .orders) ≡ find n (g .core .ledger .orders) →
     ((a : ℕ) → is-some (getD (h .core .ledger .wallets) a none) ≡ is-some (getD (g .core .ledger .wallets) a none)) → Weighs n x s h
 weighs-same {n} {x} {s} {g} w h q d f =
     let l = g .core .ledger in
@@ -162,11 +162,6 @@ pub weighed : (xs : List ℕ) (i : ℕ) (x : Move) (h : Shift) → Weighs i x h 
 weighed xs i x h w = record { owned = w .owned; few = omega (arith, weighs-few w) }
 
 -- ---- code 5
-
--- k notices more
-pub notices-fit : (s : Store) (ns : List ℕ) (k : ℕ) → length ns ≡ k → leb (k + word s C.notice-rows) most-notices ≡ leb (length (gateway s .rest .notices ++ ns)) most-notices
-notices-fit s ns k e =
-    ap (λ m. leb m most-notices) (let q : k + word s C.notice-rows ≡ length (gateway s .rest .notices ++ ns) = omega (arith, notices-count s, length-append (gateway s .rest .notices) ns) in q)
 
 -- those of one change
 pub notices-come : {i : ℕ} {x : Move} {h : Shift} (g : Gateway) → Weighs i x h g →

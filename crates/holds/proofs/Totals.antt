@@ -19,7 +19,8 @@ use Rattle.gateway.specs.Deliver.{hold-after}
 use Rattle.gateway.proofs.Base.{split}
 use Rattle.gateway.proofs.Invariant.{Rise, fees-stay}
 use Rattle.gateway.proofs.Holds.{Total, totals-fit, Other, holds-listed, side-is}
-use Rattle.gateway.proofs.Moves.{Of, mine, hold-move, held-changed, find-changed, rise-changed, wallets-changed}
+use Rattle.gateway.specs.Claims.{hold-move}
+use Rattle.gateway.proofs.Moves.{Of, mine, held-changed, find-changed, rise-changed, wallets-changed}
 use Rattle.holds.specs.Holds.{Part, part-of, paper-order}
 
 -- ---- parts of totals change

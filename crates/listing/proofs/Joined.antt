@@ -12,7 +12,8 @@ use Rattle.orderbook.specs.declared.Side.{Side}
 use Rattle.words.specs.Words.{modulus}
 use Rattle.gateway.specs.Depth.{Level, same-price, joined, level-in, quantities-fit}
 use Rattle.gateway.proofs.Base.{split}
-use Rattle.gateway.proofs.Counted.{Best, same-is, better-trans, joins}
+use Rattle.gateway.specs.Claims.{Best}
+use Rattle.gateway.proofs.Counted.{same-is, better-trans, joins}
 use Rattle.gateway.proofs.Levels.{same-itself, better-apart, better-differs, one, more, at-level, before-level, after-level, compared}
 use Rattle.gateway.proofs.AtPrice.{worse-none, joined-at}
 use Rattle.table.proofs.Lists.{each-map}

@@ -1,4 +1,4 @@
--- Events: what happens to an order where it rests, and that each is the definition's `apply`. Assumes nothing.
+-- Events: what happens to an order where it rests. Assumes nothing.
 use mathlib.Core.Path.{_≡_, refl, sym, ap, subst, _∙_}
 use mathlib.Core.Bool.{true, cond}
 use mathlib.Core.List.{List, [], _∷_, _++_}
@@ -7,12 +7,7 @@ use Prim.Native.Nat.{ℕ, _-_, _≤_, _<_}
 use native.Mathlib.Omega.{arith}
 use borrow.Author.Tests.{leb-true}
 use lib.Dec.{eqb, leb}
-use lib.IntN.{ℤ}
 use lib.ListN.{length, length-append}
-use Rattle.orderbook.specs.declared.Side.{Side}
-use Rattle.orderbook.specs.declared.CancelReason.{CancelReason}
-use Rattle.orderbook.specs.declared.Event.the-variants.{Rested, Trade, Replenished, Cancelled, Modified}
-use Rattle.words.specs.Words.{int}
 use Rattle.table.specs.declared.Found.{Found}
 use Rattle.table.specs.declared.Found.the-variants.{At, Nothing}
 use Rattle.gateway.specs.Basics.{option, is-some}
@@ -21,37 +16,14 @@ use Rattle.gateway.proofs.Base.{split}
 use Rattle.gateway.proofs.Sorted.{look-key, look-without, look-replace}
 use Rattle.store.specs.Cells as C
 use Rattle.store.specs.Layout.{cell, Holds}
-use Rattle.store.specs.View.{side, resting, depth, gateway, order-room}
+use Rattle.store.specs.View.{resting, depth, gateway, order-room}
 use Rattle.orders.specs.declared.Resting.{Resting}
 use Rattle.orders.specs.Orders.{Sees, resting-row}
 use Rattle.sound.specs.Sound.{State, InPlace}
 use Rattle.sound.proofs.Kept.{seen-resting}
 use Rattle.orders.proofs.Kept.{stays-same, stays-then}
 use Rattle.marketdata.specs.Marketdata as P
-use Rattle.marketdata.specs.Marketdata.{with-depth, resting-at, Roomy, Judged, CanFill, CanTrade, replenished, traded}
-use Rattle.orders.specs.Orders.{resting-of}
-
--- ---- each is the definition's `apply`
-
-pub trade-applies : (t taker maker : ℕ) (z : Side) (p : ℤ) (q tl ml : ℕ) (d : D.Depth) → D.apply (Trade t taker maker z p q tl ml) d ≡ traded taker maker q tl ml d
-unfolding D.apply
-trade-applies t taker maker z p q tl ml d = refl
-
-pub replenished-applies : (n : ℕ) (z : Side) (p : ℤ) (v : ℕ) (d : D.Depth) → D.apply (Replenished n z p v) d ≡ D.where-resting n (replenished v) d
-unfolding D.apply
-replenished-applies n z p v d = refl
-
-pub cancelled-applies : (n q : ℕ) (why : CancelReason) (d : D.Depth) → D.apply (Cancelled n q why) d ≡ D.where-resting n D.take-off d
-unfolding D.apply
-cancelled-applies n q why d = refl
-
-pub modified-applies : (n : ℕ) (p : ℤ) (q v : ℕ) (d : D.Depth) → D.apply (Modified n p q v) d ≡ D.where-resting n (D.modified p v) d
-unfolding D.apply
-modified-applies n p q v d = refl
-
-pub rested-applies : (n : ℕ) (o : Resting) (d : D.Depth) → D.apply (Rested n (side (o .side)) (int (o .price)) (o .leaves) (o .visible)) d ≡ D.add (resting-of n o) d
-unfolding D.apply
-rested-applies n o d = refl
+use Rattle.marketdata.specs.Marketdata.{with-depth, resting-at, Roomy, Judged, CanFill, CanTrade, traded}
 
 -- ---- where the order rests
 

@@ -10,19 +10,14 @@ use native.Mathlib.Omega.{arith}
 use borrow.Author.Tests.{lt-ltb, le-ltb}
 use lib.Dec.{ltb}
 use lib.ListN.{length, getD, set, replicate}
-use lib.IntN.{ℤ}
 use Rattle.accounts.specs.declared.Account.{Account}
-use Rattle.accounts.specs.declared.Timing.{Timing}
 use Rattle.le.proofs.Laws.{lt-or-le}
 use Rattle.table.proofs.Live.{same?}
 use Rattle.gateway.specs.Basics.{option}
 use Rattle.gateway.specs.Limits.{owner-slots}
-use Rattle.orderbook.specs.declared.MaybePrice.the-variants.{None}
-use Rattle.gateway.specs.Listing.{listed-depth}
-use Rattle.gateway.specs.Start.{entered, accounts-of, by-slot, funds-in, begin}
+use Rattle.gateway.specs.Start.{entered, accounts-of}
 use Rattle.store.specs.View.{listed}
 use Rattle.store.proofs.Listed.{listed-ext, listed-set}
-use Rattle.start.specs.Start.{begun}
 use Rattle.roster.specs.declared.Slot.{Slot}
 use Rattle.roster.specs.declared.Roster.{Roster}
 use Rattle.roster.specs.Rostered.{no-slot, account-in, account-of, Numbered, Gathered}
@@ -83,6 +78,3 @@ module _ (limit : ℕ) (r : Roster) (h : Numbered limit r) where
 module _ (limit : ℕ) (l : List Account) (r : Roster) (h : Gathered limit l r) (few : limit ≤ owner-slots) where
   pub gathered-table : accounts-of limit (present r owner-slots) ≡ accounts-of limit l
   gathered-table = present-table limit r (h .numbered) few ∙ h .table few
-
-  pub gathered-begun : (fee : ℤ) (last : ℕ) (t : Timing) → begun fee limit last t (present r owner-slots) ≡ begun fee limit last t l
-  gathered-begun fee last t = ap (λ c. begin t (record { last = last; wallets = by-slot funds-in owner-slots c; orders = []; mark = None; fee = fee }) c (listed-depth []) []) gathered-table

@@ -19,7 +19,7 @@ use Rattle.gateway.specs.Ledger as L
 use Rattle.gateway.specs.Table.{update, Rises}
 use Rattle.store.specs.Cells as C
 use Rattle.store.specs.Layout.{cell}
-use Rattle.store.specs.View.{Row, Store, Same, Is, Ready, word, write, fill, side, maybe-price, order, resting, marked, ledger, depth, gateway, order-room, Bounds}
+use Rattle.store.specs.View.{Row, Store, Same, Is, word, write, fill, side, maybe-price, order, resting, marked, ledger, depth, gateway, order-room, Bounds}
 use Rattle.store.proofs.Places.{header-cell, order-cell, order-map-cell}
 use Rattle.store.proofs.Rows.{put-cell, row-here, row-there}
 use Rattle.store.proofs.Frames.{Agree, order-same, resting-same, gateway-same}
@@ -254,9 +254,6 @@ did-bytes s t os rs ys h d =
     let e : Same t (cell ys) = λ b i k c. sym (h .same b i k c) in
     let b = d .ordered .bounds in
     record { view = sym (gateway-same t (cell ys) b e) ∙ d .view; ordered = ordered-kept (same-keeps t (cell ys) e b) (bounds-same t (cell ys) e b) (d .ordered) }
-
-pub did-ready : (s t : Store) (os : List Order) (rs : List D.Resting) (ys : List ℕ) → Is ys t → Did s t os rs → Ready ys
-did-ready s t os rs ys h d = record { holds = h .holds; bounds = did-bytes s t os rs ys h d .ordered .bounds }
 
 -- the numbers of the resting orders rise
 pub resting-rises : (s : Store) → Sorted s → Rises D.resting-number 0 (depth s .resting)

@@ -16,7 +16,7 @@ use Rattle.gateway.specs.Calls.{Gateway}
 use Rattle.gateway.specs.Entry.{noticing}
 use Rattle.gateway.specs.Entry as Entry
 use Rattle.gateway.specs.Depth.{Key, is-changed, remember}
-use Rattle.gateway.specs.Rest.{Rest, pending, at-time, with-batch, with-delivered, with-collar}
+use Rattle.gateway.specs.Rest.{Rest, pending, with-batch, with-delivered}
 use Rattle.store.specs.Cells as C
 use Rattle.store.specs.View.{Row, Store, write, fill, listed, flag, optional, side, word, changed-key, in-slot, flights, depth, gateway}
 use Rattle.store.proofs.Listed.{listed-ext, listed-more}
@@ -95,14 +95,8 @@ module _ (x p : ℕ) (s : Store) where
 
 -- ---- words of the header
 
-pub clock-view : (t : ℕ) (s : Store) → gateway (P.set-clock t s) ≡ with-rest (at-time t) (gateway s)
-clock-view t s = refl
-
 pub delivered-view : (n : ℕ) (s : Store) → gateway (P.set-delivered n s) ≡ with-rest (with-delivered n) (gateway s)
 delivered-view n s = refl
-
-pub collar-view : (n : ℕ) (s : Store) → gateway (P.set-collar n s) ≡ with-rest (with-collar (optional n)) (gateway s)
-collar-view n s = refl
 
 abbrev pub with-mark : MaybePrice → Gateway → Gateway
 with-mark p g =

@@ -8,7 +8,7 @@ use orderbook::RejectReason;
 use orderbook::Side;
 use orderbook::TimeInForce;
 ghost use mathlib.Core.Path.{_≡_};
-ghost use Rattle.protocol.specs.Codes.{sideCode, sideOf, tifCode, tifOf, phaseCode, phaseOf, loginErrorCode, loginErrorOf, logoutCode, logoutOf, rejectCode, rejectOf, rejectReasonCode, rejectReasonOf, cancelReasonCode, cancelReasonOf};
+ghost use Rattle.protocol.specs.Codes.{sideCode, sideOf, tifCode, tifOf, phaseCode, phaseOf, loginErrorCode, logoutCode, logoutOf, rejectCode, rejectReasonCode, rejectReasonOf, cancelReasonCode, cancelReasonOf};
 
 pub enum MaybeSide {
     None,
@@ -110,24 +110,6 @@ pub fn login_error_code(value: LoginError) -> u8
     }
 }
 
-pub fn login_error_of(code: u8) -> MaybeLoginError
-    ensures { λ r. ⌜ r ≡ loginErrorOf code ⌝ }
-{
-    let cases = [
-        MaybeLoginError::None,
-        MaybeLoginError::Some(LoginError::UnsupportedVersion),
-        MaybeLoginError::Some(LoginError::BadCredentials),
-        MaybeLoginError::Some(LoginError::AlreadyLoggedIn),
-        MaybeLoginError::Some(LoginError::AlreadyInSession),
-    ];
-    let at = code as usize;
-    if at < 5 {
-        cases[at]
-    } else {
-        MaybeLoginError::None
-    }
-}
-
 pub enum MaybeLogoutReason {
     None,
     Some(LogoutReason),
@@ -179,26 +161,6 @@ pub fn reject_code(value: RejectCode) -> u8
         RejectCode::InsufficientFunds => 4,
         RejectCode::NotAllowed => 5,
         RejectCode::OffMarket => 6,
-    }
-}
-
-pub fn reject_of(code: u8) -> MaybeRejectCode
-    ensures { λ r. ⌜ r ≡ rejectOf code ⌝ }
-{
-    let cases = [
-        MaybeRejectCode::None,
-        MaybeRejectCode::Some(RejectCode::TooManyOrders),
-        MaybeRejectCode::Some(RejectCode::Throttled),
-        MaybeRejectCode::Some(RejectCode::Unavailable),
-        MaybeRejectCode::Some(RejectCode::InsufficientFunds),
-        MaybeRejectCode::Some(RejectCode::NotAllowed),
-        MaybeRejectCode::Some(RejectCode::OffMarket),
-    ];
-    let at = code as usize;
-    if at < 7 {
-        cases[at]
-    } else {
-        MaybeRejectCode::None
     }
 }
 

@@ -7,10 +7,9 @@ use Prim.Native.Nat.{ℕ, zero, suc, _+_, _*_, _≤_, _<_}
 use native.Mathlib.Nat.{not-suc-le-zero, le-of-suc-le-suc, eq-or-lt-of-le}
 use native.Mathlib.Omega.{arith}
 use borrow.Author.Tests.{eqb-true, leb-true}
-use lib.ListN.{length}
 use lib.Dec.{eqb, leb}
 use Rattle.le.specs.Le.{Outside}
-use Rattle.le.proofs.Laws.{length-put, le-put, le-put-other, le-outside, lt-or-le}
+use Rattle.le.proofs.Laws.{le-put, le-put-other, le-outside, lt-or-le}
 use Rattle.table.proofs.Live.{same?}
 use Rattle.table.proofs.Moves.{step}
 use Rattle.store.specs.Cells as C
@@ -97,10 +96,6 @@ one-side {b} {i} {k} {c} {j} {l} p q ne =
     (same? b c)
 
 module _ (xs : List ℕ) {b i k : ℕ} (v : ℕ) (c : Cell b i k) where
-  pub store-length : length (store xs b i k v) ≡ length xs
-  unfolding store
-  store-length = length-put 8 xs (8 * spot b i k) v
-
   -- a cell that was stored is read back
   pub cell-same : Holds xs → v < modulus → cell (store xs b i k v) b i k ≡ v
   unfolding cell store
@@ -124,9 +119,6 @@ account-cell i k h l = record { block-is = omega arith; row-is = h; cell-is = l 
 pub session-cell : (i k : ℕ) → i < 64 → k < 8 → Cell C.sessions i k
 session-cell i k h l = record { block-is = omega arith; row-is = h; cell-is = l }
 
-pub flight-cell : (i k : ℕ) → i < 256 → k < 4 → Cell C.flights i k
-flight-cell i k h l = record { block-is = omega arith; row-is = h; cell-is = l }
-
 pub command-cell : (i k : ℕ) → i < 256 → k < 12 → Cell C.batch i k
 command-cell i k h l = record { block-is = omega arith; row-is = h; cell-is = l }
 
@@ -138,9 +130,6 @@ bid-cell i k h l = record { block-is = omega arith; row-is = h; cell-is = l }
 
 pub ask-cell : (i k : ℕ) → i < 512 → k < 4 → Cell C.asks i k
 ask-cell i k h l = record { block-is = omega arith; row-is = h; cell-is = l }
-
-pub trade-cell : (i k : ℕ) → i < 256 → k < 6 → Cell C.trades i k
-trade-cell i k h l = record { block-is = omega arith; row-is = h; cell-is = l }
 
 pub notice-cell : (i k : ℕ) → i < 2049 → k < 1 → Cell C.notices i k
 notice-cell i k h l = record { block-is = omega arith; row-is = h; cell-is = l }

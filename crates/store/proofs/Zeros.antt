@@ -1,21 +1,15 @@
--- Cells that are set to 0 one after the other, and the gateway of all zeros. Assumes nothing.
-use mathlib.Core.Path.{_≡_, refl, _∙_}
+-- Cells that are set to 0 one after the other. Assumes nothing.
+use mathlib.Core.Path.{_≡_, _∙_}
 use mathlib.Core.Logic.{inl, ⊎-elim}
 use mathlib.Core.List.{List, []}
 use Prim.Native.Nat.{ℕ, _+_, _*_, _<_}
 use native.Mathlib.Nat.{not-suc-le-zero, eq-or-lt-of-le, le-of-suc-le-suc}
 use native.Mathlib.Numerals.{add-one}
 use native.Mathlib.Omega.{arith}
-use lib.IntN.{pos}
-use Rattle.words.specs.Words.{int}
 use Rattle.le.specs.Le.{le, put}
 use Rattle.le.proofs.Laws.{length-put, le-put, le-put-other}
-use Rattle.gateway.specs.Start.{started, charging, set-up, start-unless}
-use Rattle.gateway.specs.Depth.{levels-few, levels-fit}
-use Rattle.gateway.specs.Ledger.{holds-fit}
-use Rattle.table.specs.Live.{live}
 use Rattle.store.specs.Layout.{cells, cell, spot, Holds}
-use Rattle.store.specs.View.{Is, listed, gateway, zeros}
+use Rattle.store.specs.View.{Is, zeros}
 use Rattle.store.proofs.Places.{spot-below}
 
 -- the first n cells are 0
@@ -40,8 +34,3 @@ cleared-one xs n l c =
 pub cleared-all : {xs : List ℕ} → Cleared xs cells → Is xs zeros
 unfolding cell
 cleared-all c = record { holds = c .holds; same = λ b i k p. c .none-left (spot b i k) (spot-below p) }
-
--- the gateway of all zeros is what set-up gives for no accounts, no orders and last number 0
-pub zeros-begin : set-up (pos 0) 0 0 [] [] (record { heartbeat = 0; «idle_timeout» = 0 }) ≡ started (gateway zeros)
-unfolding set-up charging start-unless levels-few levels-fit holds-fit listed live int
-zeros-begin = refl

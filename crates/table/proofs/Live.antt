@@ -169,9 +169,6 @@ module _ {A : Type 0} (mark key : A → ℕ) where
     live-revive e a b =
         swap-insert key (g i) (rw (pick-dead (mark (f i)) (f i) a, pick-live (mark (g i)) (g i) b, ← e) at (change-swap p s))
 
-    pub live-still : mark (f i) ≡ 0 → mark (g i) ≡ 0 → live mark g n ≡ live mark f n
-    live-still a b = swap-same key (rw (pick-dead (mark (f i)) (f i) a, pick-dead (mark (g i)) (g i) b) at (change-swap p s))
-
   -- ---- a row put in over a dead one
 
   -- the rows from i on have moved up, to the dead row d

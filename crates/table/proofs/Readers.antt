@@ -5,11 +5,10 @@ use mathlib.Core.Logic.{_⊎_, inl, inr, ⊎-elim}
 use mathlib.Core.List.{List}
 use Prim.Native.Nat.{ℕ, _+_, _*_, _≤_, _<_}
 use native.Mathlib.Omega.{arith}
-use lib.ListN.{length}
 use Rattle.le.specs.Le.{put, Outside, Local}
-use Rattle.le.proofs.Laws.{lt-or-le, outside-put, local-outside, same-outside, same-trans, le-put}
+use Rattle.le.proofs.Laws.{lt-or-le, outside-put, local-outside, same-outside, same-trans}
 use Rattle.table.specs.Live.{Gap, Changed}
-use Rattle.table.specs.Table.{markAt, rows, Moved, Opened, Closed, Compacted}
+use Rattle.table.specs.Table.{markAt, rows, Opened, Closed, Compacted}
 use Rattle.table.proofs.Moves.{next, mono, step}
 use Rattle.table.proofs.Packed.{Packed}
 
@@ -33,10 +32,6 @@ module _ {A : Type 0} {s : ℕ} {f : List ℕ → ℕ → A} (l : Local s f) (ba
 
   pub row-changed : {xs ys : List ℕ} {n i : ℕ} → i < n → Outside (base + s * i) (base + s * i + s) xs ys → Changed (rows f base s xs) (rows f base s ys) n i
   row-changed {i = i} h p = record { inside = h; other = λ j q. row-other i p j }
-
-  -- the row i was copied to w
-  pub moved-row : {xs ys : List ℕ} (i w : ℕ) → Moved xs ys (base + s * i) (base + s * w) s → rows f base s ys w ≡ rows f base s xs i
-  moved-row i w m = l .same (m .same)
 
   -- a row was put in: room was made, and the row written
   pub opened-gap : {xs ys zs : List ℕ} {n i : ℕ} → Opened base s n i xs ys → Outside (base + s * i) (base + s * i + s) ys zs → Gap (rows f base s xs) (rows f base s zs) n i
@@ -64,6 +59,3 @@ module _ {A : Type 0} {s : ℕ} {f : List ℕ → ℕ → A} (l : Local s f) (ba
 module _ (xs : List ℕ) (base s mark i : ℕ) (h : mark < s) where
   pub strike-outside : Outside (base + s * i) (base + s * i + s) xs (put 1 xs (base + s * i + mark) 0)
   strike-outside = outside-put (base + s * i) (base + s * i + s) 1 xs (base + s * i + mark) 0 (omega arith) (omega arith)
-
-  pub strike-mark : base + s * i + s ≤ length xs → markAt base s mark (put 1 xs (base + s * i + mark) 0) i ≡ 0
-  strike-mark r = le-put 1 xs (base + s * i + mark) 0 (omega arith) (omega arith)
