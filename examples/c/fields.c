@@ -1,6 +1,7 @@
 /* The order of arguments and of an answer's fields is in no contract. This calls each of the 22 entry points with values that tell any two of them
  * apart, and compares all that comes back with what document 01 says. */
 #include "rowanchess.h"
+#include "words.h"
 
 #include <stdio.h>
 #include <stdlib.h>
@@ -12,24 +13,12 @@ static uint8_t out[64 * ROWANCHESS_MAIL], saved[ROWANCHESS_CHECKPOINT];
 static uint8_t row[ROWANCHESS_MESSAGE], accounts[2 * ROWANCHESS_ACCOUNT], joined[ROWANCHESS_ACCOUNT], list[6 * ROWANCHESS_LISTED];
 static int compared;
 
-static void put(uint8_t *at, const uint64_t *words, size_t count) {
-    for (size_t i = 0; i < 8 * count; i++) at[i] = (uint8_t)(words[i / 8] >> (i % 8 * 8));
-}
-
-static uint64_t word(const uint8_t *at, size_t i) {
-    uint64_t value = 0;
-    for (size_t k = 8; k > 0; k--) value = value << 8 | at[8 * i + k - 1];
-    return value;
-}
-
 static void same(const char *call, const char *what, uint64_t is, uint64_t wanted) {
     compared++;
     if (is == wanted) return;
     fprintf(stderr, "%s, %s: %lld, not %lld\n", call, what, (long long)is, (long long)wanted);
     exit(1);
 }
-
-#define ROW(at, ...) put(at, (const uint64_t[]){__VA_ARGS__}, sizeof((const uint64_t[]){__VA_ARGS__}) / 8)
 
 /* The rows at the front of `out`, and their number. */
 static void rows(const char *call, struct rowanchess_reply reply, size_t width, const uint64_t *wanted, size_t count) {

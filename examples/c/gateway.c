@@ -1,6 +1,7 @@
 /* A gateway from C: two members log in, one sells seats to the other, who pays the house a fee for each, a checkpoint is taken and restored, and
  * both gateways have the same wallets. */
 #include "rowanchess.h"
+#include "words.h"
 
 #include <stdio.h>
 #include <stdlib.h>
@@ -12,18 +13,6 @@ static const uint64_t second = 1000000000;
 static uint8_t first[ROWANCHESS_STATE], again[ROWANCHESS_STATE];
 static uint8_t out[PLACES * ROWANCHESS_MAIL], saved[ROWANCHESS_CHECKPOINT];
 static uint8_t row[ROWANCHESS_MESSAGE], accounts[MEMBERS * ROWANCHESS_ACCOUNT];
-
-static void put(uint8_t *at, const uint64_t *words, size_t count) {
-    for (size_t i = 0; i < 8 * count; i++) at[i] = (uint8_t)(words[i / 8] >> (i % 8 * 8));
-}
-
-static uint64_t word(const uint8_t *at, size_t i) {
-    uint64_t value = 0;
-    for (size_t k = 8; k > 0; k--) value = value << 8 | at[8 * i + k - 1];
-    return value;
-}
-
-#define ROW(at, ...) put(at, (const uint64_t[]){__VA_ARGS__}, sizeof((const uint64_t[]){__VA_ARGS__}) / 8)
 
 static void want(const char *call, uint64_t code) {
     if (code == ROWANCHESS_DONE) return;
