@@ -156,7 +156,7 @@ module _ (xs ys : List ℕ) (b d ok : Bool) (kept : Type 0) (tells : Answer → 
 -- ---- an answer in numbers
 
 module _ (xs : List ℕ) (x : Call) where
-  asked-yes : length xs ≡ 467592 → asked true xs x ≡ call (gateway (cell xs)) x
+  pub asked-yes : length xs ≡ 467592 → asked true xs x ≡ call (gateway (cell xs)) x
   unfolding asked
   asked-yes h = ap (λ (z : Bool). cond z (call (gateway (cell xs)) x) (refused malformed)) (sym (whole-yes xs h))
 

@@ -50,9 +50,9 @@ use Rattle.script.specs.Strict.{most-32, last-tif, command-fits, owned-fits, is
 use Rattle.script.specs.Records.{command-of}
 use Rattle.numbers.specs.declared.Reply.{Reply}
 use Rattle.edge.specs.Entering.{asked, Lists}
+use Rattle.edge.proofs.Laws.{asked-yes}
 use Rattle.edge.proofs.Commands.{Written, reads-back}
 use Rattle.restart.specs.Claims.{ReadsBack}
-use Rattle.restart.proofs.Chains.{asked-is}
 
 -- ---- a command whose numbers are words
 
@@ -243,7 +243,7 @@ module _ (xs ys out end : List ℕ) (r : Reply) (b : Between xs) (small : Bytes 
 
   took : Took
   unfolding Ends plan unless
-  took = go (leb (length batch) (places (length out))) refl (subst Tells (asked-is xs (take-batch (places (length out))) (b .state .holds)) (lists .ends))
+  took = go (leb (length batch) (places (length out))) refl (subst Tells (asked-yes xs (take-batch (places (length out))) (b .state .holds)) (lists .ends))
     where
       go : (c : Bool) → leb (length batch) (places (length out)) ≡ c → Tells (carry-out (g .core) (cond c (quiet (commands batch) [] (with-batch [] (g .rest))) (refuse too-short))) → Took
       go true e t = record { count-is = t .tells .count-is ∙ length-map batch command-row; rows-are = t .tells .listed; room = leb-true (length batch) (places (length out)) e }

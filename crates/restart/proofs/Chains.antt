@@ -5,7 +5,6 @@ use mathlib.Core.Option.{Option, none, some}
 use mathlib.Core.List.{List, [], _∷_, map}
 use Prim.Native.Nat.{ℕ, _*_}
 use native.Mathlib.Omega.{arith}
-use borrow.Author.Tests.{eq-eqb}
 use lib.Dec.{eqb}
 use lib.ListN.{length}
 use Rattle.gateway.specs.Limits.{malformed}
@@ -18,6 +17,7 @@ use Rattle.store.specs.View.{gateway}
 use Rattle.outcome.specs.Between.{Between}
 use Rattle.outcome.specs.Answers.{Ends}
 use Rattle.edge.specs.Entering.{whole, asked}
+use Rattle.edge.proofs.Laws.{asked-yes}
 use Rattle.playing.specs.Steps.{code-of, Step}
 use Rattle.restart.specs.Chain.{Asking, Made, Makes, Chain, ends-at, Accepted, heard, replays}
 
@@ -27,12 +27,8 @@ use Rattle.restart.specs.Chain.{Asking, Made, Makes, Chain, ends-at, Acc
 abbrev pub Ended : Outcome → (k : ℕ) → (xs ys : List ℕ) → Type 0
 Ended o k xs ys = Ends o (Unit {0}) (λ a ms. Unit {0}) k xs ys
 
--- a state is heard, and else gets 11
-pub asked-is : (xs : List ℕ) (x : Call) → Holds xs → asked true xs x ≡ call (gateway (cell xs)) x
-unfolding asked whole
-asked-is xs x h = rw (eq-eqb (length xs) (8 * cells) h) refl
-
-pub asked-not : (xs : List ℕ) (x : Call) → asked false xs x ≡ refused malformed
+-- a malformed call gets 11
+asked-not : (xs : List ℕ) (x : Call) → asked false xs x ≡ refused malformed
 unfolding asked whole
 asked-not xs x = ap (λ b. cond b (call (gateway (cell xs)) x) (refused malformed)) (and-false (eqb (length xs) (8 * cells)))
 
@@ -60,7 +56,7 @@ makes ok x xs ys got end out out′ s = (record { code = code-of (asked ok xs x)
 -- a step of a state, by whether it is heard
 module _ (xs : List ℕ) (h : Holds xs) (x : Call) (k : ℕ) (ys : List ℕ) where
   pub heard-step : Ended (asked true xs x) k xs ys → Ended (call (gateway (cell xs)) x) k xs ys
-  heard-step e = subst (λ o. Ended o k xs ys) (asked-is xs x h) e
+  heard-step e = subst (λ o. Ended o k xs ys) (asked-yes xs x h) e
 
   unheard-step : Ended (asked false xs x) k xs ys → gateway (cell ys) ≡ gateway (cell xs)
   unheard-step e = next-bytes k xs ys (refused malformed) (subst (λ o. Ended o k xs ys) (asked-not xs x) e)

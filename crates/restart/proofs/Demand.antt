@@ -33,11 +33,12 @@ use Rattle.checkpoint.specs.Written.{Written}
 use Rattle.opening.specs.Starts.{Starts}
 use Rattle.numbers.specs.declared.Reply.{Reply}
 use Rattle.edge.specs.Entering.{asked, Writes}
+use Rattle.edge.proofs.Laws.{asked-yes}
 use Rattle.restart.specs.Chain.{Tries, Opened, Asking, Chain, ends-at, heard, recorded, replays, Exact, Restarted}
 use Rattle.restart.specs.Claims.{Demand3}
 use Rattle.restart.proofs.Plans.{Either, unless-either}
 use Rattle.restart.proofs.Cells.{cells-agree}
-use Rattle.restart.proofs.Chains.{asked-is, chain-final, chain-between, chain-ok, replay-follows}
+use Rattle.restart.proofs.Chains.{chain-final, chain-between, chain-ok, replay-follows}
 use Rattle.restart.proofs.Begun.{tried, opened}
 
 -- ---- an accepted checkpoint
@@ -60,7 +61,7 @@ module _ (xs out end : List ℕ) (r : Reply) (h : Holds xs) (w : Writes (asked t
   Tells o = Ends o (Unsent (r .count) out end) (λ a ms. Written a ms (r .count) out end) (r .code) xs xs
 
   by-plan : (p : Plan) → plan (g .core) (g .rest) (checkpoint (length out)) ≡ p → Tells (carry-out (g .core) p)
-  by-plan p e = subst (λ q. Tells (carry-out (g .core) q)) e (subst Tells (asked-is xs (checkpoint (length out)) h) (w .ends))
+  by-plan p e = subst (λ q. Tells (carry-out (g .core) q)) e (subst Tells (asked-yes xs (checkpoint (length out)) h) (w .ends))
 
   pub checkpoint-taken : call g (checkpoint (length out)) ≡ done (bytes written) [] [] g
   unfolding Ends plan
