@@ -15,7 +15,7 @@ use prog.Wp.{Heap, WpFn, Tables}
 use ghost.Atoms.{Atoms}
 use contract.Monad.{Fun}
 use contract.Running.{givenOf, tables, tablesOf}
-use types.Kit.{Given, ‵, _⊛_, ⋆, _$_, _∵_, !, qed, by, move, keep, rewrite, split, join, fsplit, fjoin, suffices, frame, done}
+use types.Kit.{Given, ‵, raw, _⊛_, ⋆, _$_, _∵_, !, qed, by, move, keep, use1, group, drop as let-go, rewrite, split, join, fsplit, fjoin, suffices, frame, done}
 use types.Run.{look, init, forget, stop, hop, fld, from, load, addr, and-then, no-more, assigns, land, returns, enter, alloc1, alloc0, params1, pass1, pass0, free1, free0}
 use types.Part.{whole, sub, look-in, agg}
 use sound.WpLaws.{fmOf, WpFn-mono}
@@ -26,7 +26,7 @@ use denote.Plain.{uint-vals, uint-tells, uint-makes, uint-lawful}
 use denote.RattleType.{owns}
 use denote.Ref.{RefT}
 use denote.Signature.{plain, shrSliceOf}
-use denote.Slice.{MutSlice, ShrSlice, Room, slice-vals, mut-slice-tells, shr-slice-tells}
+use denote.Slice.{MutSlice, ShrSlice, Room, slice-vals, finally, mut-slice-tells, shr-slice-tells}
 use denote.Steps.{only, owned, nothing}
 use denote.Struct.Laws as LL
 use denote.Triple.Clauses.{ensured}
@@ -52,12 +52,12 @@ use Rattle.roster.proofs.Roster.Laws as R′
 use Rattle.roster.proofs.gather.Symbol as gather-def
 use Rattle.roster.proofs.gather.Symbol.{name as #roster·gather}
 use Rattle.roster.proofs.gather.Met as gather-thm
-use Rattle.opening.specs.Starts.{Starts}
+use Rattle.opening.specs.Starts.{Starts, Begins}
 use Rattle.setup.proofs.set_up as one
 use Rattle.setup.proofs.set_up.Symbol as one-def
 use Rattle.setup.proofs.set_up.Symbol.{name as #setup·set-up}
 use Rattle.setup.proofs.set_up.Met as one-thm
-use Rattle.beginning.proofs.Calls.{Loan, token, State, Bytes, timings, rosters, Gather, gathers, Callee, ended-at, begins, Left, leaves}
+use Rattle.beginning.proofs.Calls.{Loan, token, State, Bytes, Two, Three, timings, rosters, Gather, gathers, Callee, ended-at, begins, leaves}
 use Rattle.beginning.proofs.set_up.Key.{name as #beginning·set-up}
 use Rattle.beginning.proofs.set_up as all
 use Rattle.beginning.proofs.set_up.Statement as stated
@@ -94,21 +94,26 @@ module _ {M : Type 1} (𝓤 : URA M) (H : Heap 𝓤) (A : Atoms 𝓤) (mem : Mem
         tt,
       )
 
-      callee : Callee 𝓤 H A mem run W m g limit r start One to
+      abbrev Begun : ℕ → List ℕ → Type 0
+      Begun k zs = Begins limit r start k (m .ref .now) zs
+
+      asks : ent 𝓤 (⋆ 𝓤 H A (‵ (State m) ∷ ‵ (token m) ∷ ‵ (Bytes g) ∷ ‵ (token g) ∷ [])) (One .pre to)
+      asks =
+          qed W (‵ (State m) ∷ ‵ (token m) ∷ ‵ (Bytes g) ∷ ‵ (token g) ∷ []) ∵ says ! (holds, gathered limit (s .ref .now) r e .numbered) $
+          nothing ! $ move ! (4 ∷ 0 ∷ []) $ join ! $ move ! (2 ∷ 0 ∷ []) $ join ! $ frame ! $
+          -- what the parameters own, the last first
+          nothing ! $ move ! (2 ∷ 0 ∷ []) $ fjoin ! $
+          owned ! R.the-row (Is R.the-row) (LL.makes R.the-type R′.the-plain 𝓤 H A) r _ r-is $ fjoin ! $
+          owned ! P.the-row (Is P.the-row) (LL.makes P.the-type P′.the-plain 𝓤 H A) t _ t-is $ fjoin ! $
+          owned ! u64 (Is u64) (uint-makes 𝓤 H A W w64) last _ (refl, last-fits) $ fjoin ! $
+          owned ! u64 (Is u64) (uint-makes 𝓤 H A W w64) limit _ (refl, limit-fits) $ fjoin ! $
+          owned ! u64 (Is u64) (uint-makes 𝓤 H A W w64) fee _ (refl, fee-fits) $ fjoin ! $ move ! (1 ∷ 0 ∷ []) $ fjoin ! $ done !
+
+      callee : Callee 𝓤 H A W m (Two m g) Begun One to
       callee = record {
         End = ensured 𝓤 H A one.ended (one.clauses 𝓤 H A mem run) (m .κ, (g .κ, tt)) passed tt;
-        asked =
-            qed W (‵ (State m) ∷ ‵ (token m) ∷ ‵ (Bytes g) ∷ ‵ (token g) ∷ []) ∵ says ! (holds, gathered limit (s .ref .now) r e .numbered) $
-            nothing ! $ move ! (4 ∷ 0 ∷ []) $ join ! $ move ! (2 ∷ 0 ∷ []) $ join ! $ frame ! $
-            -- what the parameters own, the last first
-            nothing ! $ move ! (2 ∷ 0 ∷ []) $ fjoin ! $
-            owned ! R.the-row (Is R.the-row) (LL.makes R.the-type R′.the-plain 𝓤 H A) r _ r-is $ fjoin ! $
-            owned ! P.the-row (Is P.the-row) (LL.makes P.the-type P′.the-plain 𝓤 H A) t _ t-is $ fjoin ! $
-            owned ! u64 (Is u64) (uint-makes 𝓤 H A W w64) last _ (refl, last-fits) $ fjoin ! $
-            owned ! u64 (Is u64) (uint-makes 𝓤 H A W w64) limit _ (refl, limit-fits) $ fjoin ! $
-            owned ! u64 (Is u64) (uint-makes 𝓤 H A W w64) fee _ (refl, fee-fits) $ fjoin ! $ move ! (1 ∷ 0 ∷ []) $ fjoin ! $ done !;
         returned = λ v. id⊢ 𝓤 _;
-        ended = λ k. exE 𝓤 _ (λ zs. ended-at 𝓤 H A mem run W m g limit r start 6 k (zs .0));
+        ended = λ k. exE 𝓤 _ (λ zs. ended-at 𝓤 H A W m (Two m g) Begun 6 k (zs .0));
       }
 
     -- ---- the walk
@@ -125,12 +130,12 @@ module _ {M : Type 1} (𝓤 : URA M) (H : Heap 𝓤) (A : Atoms 𝓤) (mem : Mem
     Post = walkOf 𝓤 H A all.ended stayed (all.clauses 𝓤 H A mem run) .post bound
 
     exits : (k : ℕ) (zs : List ℕ) → k < 2 ^ 64 → length zs ≡ length (m .ref .now) → Starts (start (s .ref .now)) k (m .ref .now) zs
-        → ent 𝓤 (⋆ 𝓤 H A (Left 𝓤 H A W m s g zs)) (Post (vint w64 k))
+        → ent 𝓤 (⋆ 𝓤 H A (Three m s g ∷ ‵ (finally u8 (m .ref .name) zs) ∷ [])) (Post (vint w64 k))
     exits k zs fits len did =
-        qed W (Left 𝓤 H A W m s g zs) ∵
+        qed W (Three m s g ∷ ‵ (finally u8 (m .ref .name) zs) ∷ []) ∵
         suffices ! _ (ends-at 𝓤 H A all.ended stayed (all.clauses 𝓤 H A mem run) W bound (vint w64 k) k
         (zs, (tt, (tt, (tt, (tt, (tt, (tt, tt))))))) (len, (tt, (tt, (tt, (tt, (tt, (tt, tt)))))))) $
-        says ! did $ by ! (leaves 𝓤 H A W m s g zs 6 k fits)
+        says ! did $ by ! (leaves 𝓤 H A W m (Three m s g) 6 k zs fits)
 
     abbrev args : List Val
     args = only (slice-vals (m .ref)) ∷ vint w64 fee ∷ vint w64 limit ∷ vint w64 last ∷ only (timings t) ∷ only (slice-vals (s .ref)) ∷ only (slice-vals (g .ref)) ∷ []
@@ -163,10 +168,12 @@ module _ {M : Type 1} (𝓤 : URA M) (H : Heap 𝓤) (A : Atoms 𝓤) (mem : Mem
         (and-then ! (load ! (from ! (fld ! refl (stop !))) (look-in ! 19 (sub ! 1 refl (whole !))))
         (no-more !)))) (from ! (stop !)) (init ! 1 refl (tt, (tt, (record { fits = room-m .0 }, tt)))) $
         let r-is : Is R.the-row r (rosters r) = subst (Is R.the-row r) (LL.tells R.the-type R′.the-laws r (w ∷ []) is) is in
-        move ! (23 ∷ 24 ∷ 25 ∷ 26 ∷ []) $ begins 𝓤 H A mem run W m g limit r start (fmOf 𝓤 H (W .laws) 𝓣) One (to r r-is e) (callee r r-is e) known′
+        move ! (23 ∷ 24 ∷ 25 ∷ 26 ∷ []) $ group ! 4 $ use1 W (raw (One .pre (to r r-is e))) (asks r r-is e) $
+        begins 𝓤 H A W m (Two m g) (Begun r r-is e) (fmOf 𝓤 H (W .laws) 𝓣) One (to r r-is e) (callee r r-is e) known′
         (and-then ! (load ! (from ! (stop !)) (look ! 2 refl)) (and-then ! (load ! (from ! (stop !)) (look ! 18 refl)) (and-then ! (load ! (from ! (stop !)) (look ! 16 refl))
         (and-then ! (load ! (from ! (stop !)) (look ! 14 refl)) (and-then ! (load ! (from ! (stop !)) (look ! 12 refl))
         (and-then ! (load ! (from ! (stop !)) (look ! 6 refl)) (and-then ! (load ! (from ! (stop !)) (look ! 8 refl)) (no-more !)))))))) (λ v k zs k-is len did.
+        split ! $ move ! (1 ∷ []) $ split ! $ move ! (1 ∷ 2 ∷ 0 ∷ 3 ∷ []) $ let-go ! $
         -- [the state's token; the listing's; the last bytes; the accounts' token; the locals, the last first]
         land ! (from ! (stop !)) (init ! 24 refl (uint-lawful 𝓤 H A W w64 .typed k _ k-is .0)) $
         rewrite ! 24 (λ (u : Val). ‵ (fat fullShare (tyInt w64) l₀ 0 u)) (ap only (k-is .0)) refl $ returns ! (look ! 24 refl) $
@@ -176,7 +183,7 @@ module _ {M : Type 1} (𝓤 : URA M) (H : Heap 𝓤) (A : Atoms 𝓤) (mem : Mem
         move ! (14 ∷ 15 ∷ []) $ free1 ! $
         move ! (12 ∷ 13 ∷ []) $ free1 ! $ move ! (10 ∷ 11 ∷ []) $ free1 ! $ move ! (8 ∷ 9 ∷ []) $ free1 ! $
         move ! (6 ∷ 7 ∷ []) $ free1 ! $ move ! (4 ∷ 5 ∷ []) $ free1 ! $ free0 ! $
-        move ! (0 ∷ 3 ∷ 1 ∷ 2 ∷ []) $ by ! (exits k zs (k-is .1) len (did .starts (s .ref .now) (gathered limit (s .ref .now) r e))))))))))))))))
+        nothing ! $ move ! (1 ∷ 4 ∷ 2 ∷ 0 ∷ 3 ∷ []) $ group ! 4 $ by ! (exits k zs (k-is .1) len (did .starts (s .ref .now) (gathered limit (s .ref .now) r e))))))))))))))))
 
   module _ (W : Given 𝓤 H A) (𝓣 : Tables 𝓤 H) (known : Triple 𝓤 (𝓣 .C #roster·gather) (Gather 𝓤 H A mem run)) (known′ : Triple 𝓤 (𝓣 .C #setup·set-up) One) where
     all-walks : Walks 𝓤 H A all.ended stayed (WpFn 𝓤 H (𝓣 .C) (𝓣 .Λ) code.function) (all.clauses 𝓤 H A mem run)
