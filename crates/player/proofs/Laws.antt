@@ -1,37 +1,31 @@
--- An empty set-up is accepted. Assumes nothing.
-use Prim.Native.Nat.{ℕ, _*_}
-use mathlib.Core.Path.{_≡_, refl, ap, subst, _∙_}
-use mathlib.Core.List.{List, []}
+-- What the player's gateways begin as. Assumes nothing.
+use Prim.Native.Nat.{ℕ}
+use mathlib.Core.Path.{_≡_, refl, ap, subst, sym}
+use mathlib.Core.List.{List, [], _∷_}
 use native.Mathlib.Omega.{arith}
 use borrow.Author.Needs.{needs}
-use borrow.Author.Tests.{eq-eqb}
 use lib.IntN.{pos}
 use lib.Signed.{leZ}
-use lib.ListN.{length}
 use Rattle.words.specs.Words.{int}
 use Rattle.words.proofs.Int.{int-zero}
-use Rattle.gateway.specs.Start.{Started, set-up}
-use Rattle.store.specs.Layout.{cells, Holds}
+use Rattle.accounts.specs.declared.Account.{Account}
+use Rattle.accounts.specs.declared.Timing.{Timing}
+use Rattle.gateway.specs.Start.{Started, set-up, not-started, started}
+use Rattle.outcome.specs.Between.{Between}
+use Rattle.start.proofs.Begun.{begun-started}
 use Rattle.store.specs.View.{listed}
 use Rattle.listing.specs.Rows.{listing}
-use Rattle.script.specs.Strict.{are-accounts, all-fit}
-use Rattle.script.specs.Records.{accounts-in}
-use Rattle.lists.specs.Lists.{is-listing, are-rows}
-use Rattle.start.proofs.Begun.{begun-started}
-use Rattle.numbers.specs.Numbers as P
 use Rattle.opening.specs.Starts.{Starts}
-use Rattle.edge.specs.Entering.{Lent, whole, begins}
-use Rattle.replaying.proofs.Laws.{starts-lent}
 
-module _ (xs : List ℕ) (s : Holds xs) where
-  begins-well : (x : Started) → begins (are-rows [] []) xs x ≡ x
-  unfolding begins whole are-accounts is-listing all-fit
-  begins-well x = rw (eq-eqb (length xs) (8 * cells) s) refl
+-- a set-up of account 0 is accepted
+pub set-up-between : (xs ys : List ℕ) (code : ℕ) (c : Account) (t : Timing) → c .id ≡ 0 → Starts (set-up (int 0) 1 0 (c ∷ []) (listing []) t) code xs ys → Between ys
+unfolding Starts listed
+set-up-between xs ys code c t e h = subst (λ (x : Started). Starts x code xs ys) (begun-started 0 1 0 t (omega arith) (c ∷ []) (ap (leZ (pos 0)) int-zero) (rw e refl)) h .between
 
-  pub set-up-lent : (ys : List ℕ) (code heartbeat idle : ℕ) → Starts (begins (are-rows [] []) xs (set-up (int 0) 0 0 (accounts-in []) (listing []) (P.timing heartbeat idle))) code xs ys → Lent ys
-  unfolding Starts listed
-  set-up-lent ys code heartbeat idle h =
-      let t = P.timing heartbeat idle in
-      record { between = λ _. subst (λ (x : Started). Starts x code xs ys) (begins-well (set-up (int 0) 0 0 [] [] t) ∙ begun-started 0 0 0 t (omega arith) [] (ap (leZ (pos 0)) int-zero) refl) h .between }
+-- whatever a start answers, a state stays one
+pub starts-between : (s : Started) (code : ℕ) (xs ys : List ℕ) → Starts s code xs ys → Between xs → Between ys
+unfolding Starts
+starts-between (not-started k) code xs ys h b = subst Between (sym (h .state-kept)) b
+starts-between (started g) code xs ys h b = h .between
 
-pub ruleset laws = (needs, starts-lent, set-up-lent)
+pub ruleset laws = (needs, set-up-between, starts-between)

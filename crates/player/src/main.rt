@@ -1,11 +1,15 @@
 // Plays the stored lists of calls on the proved entry points, and says the first difference from the stored answers, or how many calls agreed: the
 // Rust's answers, and the written rule's for lists with a fee.
+use accounts::Account;
+use accounts::MaybeFunds;
 use accounts::Timing;
 use libc::STDOUT_FILENO;
 use stored::Tally;
+ghost use mathlib.Core.Path.{_≡_};
 ghost use Prim.Native.Nat.{_*_, _≤_};
 ghost use lib.ListN.{length};
 ghost use Rattle.store.specs.Layout.{Holds};
+ghost use Rattle.outcome.specs.Between.{Between};
 ghost use Rattle.edge.specs.Entering.{Lent};
 
 // ---- the file
@@ -139,23 +143,34 @@ fn play_all(fd: i32, m: &mut [u8], s: &mut [u8])
 
 // ---- the beginning
 
-// Set-up with no accounts, no orders and the timing's defaults.
+// The account that both gateways begin with: no list of calls sees it, for each begins with a start of its own.
+fn first_account() -> Account
+    ensures { λ r. ⌜ r .id ≡ 0 ⌝ }
+{
+    Account {
+        id: 0,
+        token: 0,
+        max_open_orders: 0,
+        messages_per_second: 0,
+        funds: MaybeFunds::None,
+    }
+}
+
+// Set-up with one account, no orders and the timing's defaults.
 fn begin(m: &mut [u8]) -> u64
     requires { ⌜ Holds (now m) ⌝ }
-    ensures { λ r. ⌜ Lent (now (m .exit)) ⌝ }
+    ensures { λ r. ⌜ Between (now (m .exit)) ⌝ }
 {
-    let none = [0u8; 8];
     let list = [0u8; 8];
-    let t = Timing::default();
-    let heartbeat = t.heartbeat;
-    let idle = t.idle_timeout;
-    edge::rowanchess_set_up(m, 0, 0, 0, heartbeat, idle, &none[..0], &list[..0])
+    let timing = Timing::default();
+    let account = first_account();
+    beginning::set_up_one(m, 0, 1, 0, timing, account, &list[..0])
 }
 
 // The second from a checkpoint of the first.
 fn begin_again(m: &[u8], s: &mut [u8]) -> u64
-    requires { ⌜ Lent (now m) × Lent (now s) ⌝ }
-    ensures { λ r. ⌜ Lent (now (s .exit)) ⌝ }
+    requires { ⌜ Between (now m) × Between (now s) ⌝ }
+    ensures { λ r. ⌜ Between (now (s .exit)) ⌝ }
 {
     let mut bytes = [0u8; 64];
     let r = edge::rowanchess_checkpoint(m, &mut bytes);
@@ -163,17 +178,15 @@ fn begin_again(m: &[u8], s: &mut [u8]) -> u64
         return r.code;
     }
     let n = stored::at_most(r.count as u64, 64);
-    let none = [0u8; 8];
-    let t = Timing::default();
-    let heartbeat = t.heartbeat;
-    let idle = t.idle_timeout;
-    edge::rowanchess_restore(s, 0, 0, heartbeat, idle, &none[..0], &bytes[..n])
+    let timing = Timing::default();
+    let account = first_account();
+    beginning::restore_one(s, 0, 1, timing, account, &bytes[..n])
 }
 
 // Both are states, whatever the file has. 0, or the code of what was refused.
 fn begin_both(m: &mut [u8], s: &mut [u8]) -> u64
     requires { ⌜ Holds (now m) × Holds (now s) ⌝ }
-    ensures { λ r. ⌜ Lent (now (m .exit)) × Lent (now (s .exit)) ⌝ }
+    ensures { λ r. ⌜ Between (now (m .exit)) × Between (now (s .exit)) ⌝ }
 {
     let first = begin(m);
     let second = begin(s);

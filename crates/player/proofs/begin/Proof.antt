@@ -6,20 +6,17 @@ use Rattle.player.proofs.begin.Tie as tie
 default-requires : tie.Need-default-requires
 default-requires c κs = search needs
 
-array-share-prefix-none : tie.Need-array-share-prefix-none
-array-share-prefix-none c = search needs
-
-slice-aggregate-rowanchess-set-up : tie.Need-slice-aggregate-rowanchess-set-up
-slice-aggregate-rowanchess-set-up c = search needs
+first-account-requires : tie.Need-first-account-requires
+first-account-requires c κs = search needs
 
 array-share-prefix-list : tie.Need-array-share-prefix-list
 array-share-prefix-list c = search needs
 
-slice-aggregate-rowanchess-set-up-2 : tie.Need-slice-aggregate-rowanchess-set-up-2
-slice-aggregate-rowanchess-set-up-2 c = search needs
+slice-aggregate-set-up-one : tie.Need-slice-aggregate-set-up-one
+slice-aggregate-set-up-one c = search needs
 
-rowanchess-set-up-requires : tie.Need-rowanchess-set-up-requires
-rowanchess-set-up-requires c κs = search needs
+set-up-one-requires : tie.Need-set-up-one-requires
+set-up-one-requires c κs = search needs
 
 same-length : tie.Need-same-length
 same-length c = search needs
@@ -32,10 +29,9 @@ begin-spec =
     tie.close
     (tie.spec
     default-requires
-    array-share-prefix-none
-    slice-aggregate-rowanchess-set-up
+    first-account-requires
     array-share-prefix-list
-    slice-aggregate-rowanchess-set-up-2
-    rowanchess-set-up-requires
+    slice-aggregate-set-up-one
+    set-up-one-requires
     same-length
     returns)

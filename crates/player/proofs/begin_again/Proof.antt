@@ -20,20 +20,17 @@ at-most-requires c κs = search needs
 default-requires : tie.Need-default-requires
 default-requires c κs = search needs
 
-array-share-prefix-none : tie.Need-array-share-prefix-none
-array-share-prefix-none c = search needs
-
-slice-aggregate-rowanchess-restore : tie.Need-slice-aggregate-rowanchess-restore
-slice-aggregate-rowanchess-restore c = search needs
+first-account-requires : tie.Need-first-account-requires
+first-account-requires c κs = search needs
 
 array-share-prefix-bytes : tie.Need-array-share-prefix-bytes
 array-share-prefix-bytes c = search needs
 
-slice-aggregate-rowanchess-restore-2 : tie.Need-slice-aggregate-rowanchess-restore-2
-slice-aggregate-rowanchess-restore-2 c = simp length-take (omega arith)
+slice-aggregate-restore-one : tie.Need-slice-aggregate-restore-one
+slice-aggregate-restore-one c = simp length-take (omega arith)
 
-rowanchess-restore-requires : tie.Need-rowanchess-restore-requires
-rowanchess-restore-requires c κs = search needs
+restore-one-requires : tie.Need-restore-one-requires
+restore-one-requires c κs = search needs
 
 same-length : tie.Need-same-length
 same-length c = search needs
@@ -50,10 +47,9 @@ begin-again-spec =
     returns
     at-most-requires
     default-requires
-    array-share-prefix-none
-    slice-aggregate-rowanchess-restore
+    first-account-requires
     array-share-prefix-bytes
-    slice-aggregate-rowanchess-restore-2
-    rowanchess-restore-requires
+    slice-aggregate-restore-one
+    restore-one-requires
     same-length
     returns-2)
