@@ -9,7 +9,6 @@ ghost use mathlib.Core.Path.{_≡_};
 ghost use Prim.Native.Nat.{_*_, _≤_};
 ghost use lib.ListN.{length};
 ghost use Rattle.store.specs.Layout.{Holds};
-ghost use Rattle.outcome.specs.Between.{Between};
 ghost use Rattle.edge.specs.Entering.{Lent};
 
 // ---- the file
@@ -159,7 +158,7 @@ fn first_account() -> Account
 // Set-up with one account, no orders and the timing's defaults.
 fn begin(m: &mut [u8]) -> u64
     requires { ⌜ Holds (now m) ⌝ }
-    ensures { λ r. ⌜ Between (now (m .exit)) ⌝ }
+    ensures { λ r. ⌜ Lent (now (m .exit)) ⌝ }
 {
     let list = [0u8; 8];
     let timing = Timing::default();
@@ -169,8 +168,8 @@ fn begin(m: &mut [u8]) -> u64
 
 // The second from a checkpoint of the first.
 fn begin_again(m: &[u8], s: &mut [u8]) -> u64
-    requires { ⌜ Between (now m) × Between (now s) ⌝ }
-    ensures { λ r. ⌜ Between (now (s .exit)) ⌝ }
+    requires { ⌜ Lent (now m) × Lent (now s) × Holds (now s) ⌝ }
+    ensures { λ r. ⌜ Lent (now (s .exit)) ⌝ }
 {
     let mut bytes = [0u8; 64];
     let r = edge::rowanchess_checkpoint(m, &mut bytes);
@@ -186,7 +185,7 @@ fn begin_again(m: &[u8], s: &mut [u8]) -> u64
 // Both are states, whatever the file has. 0, or the code of what was refused.
 fn begin_both(m: &mut [u8], s: &mut [u8]) -> u64
     requires { ⌜ Holds (now m) × Holds (now s) ⌝ }
-    ensures { λ r. ⌜ Between (now (m .exit)) × Between (now (s .exit)) ⌝ }
+    ensures { λ r. ⌜ Lent (now (m .exit)) × Lent (now (s .exit)) ⌝ }
 {
     let first = begin(m);
     let second = begin(s);
