@@ -1,8 +1,10 @@
 // What set-up is given: accounts and funds (crates/gateway/src/accounts.rs), and the timing of sessions (exchange.rs).
+#![tactic(auto)]
+
 ghost use Rattle.std.specs.Prelude.{◌≡◌};
 
 // An account: its id, which is also its owner id in the book, its secret, and its limits.
-#[derive(Drop)]
+#[derive(Clone, Copy)]
 pub struct Account {
     pub id: u32,
     pub token: u64,
@@ -12,20 +14,20 @@ pub struct Account {
 }
 
 // What a prepaid account starts with; none for an account whose orders are not checked against money or position.
-#[derive(Drop)]
+#[derive(Clone, Copy)]
 pub enum MaybeFunds {
     None,
     Some(Funds),
 }
 
-#[derive(Drop)]
+#[derive(Clone, Copy)]
 pub struct Funds {
     pub cash: i64,
     pub position: i64,
 }
 
 // Timing of sessions, in nanoseconds.
-#[derive(Drop)]
+#[derive(Clone, Copy)]
 pub struct Timing {
     pub heartbeat: u64,
     pub idle_timeout: u64,

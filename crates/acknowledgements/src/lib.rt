@@ -1,4 +1,6 @@
 // What the engine answers to a command, and to a stop: events of one order that leave the book as it is, each judged in 01's order before a byte is written (`deliver` of exchange.rs).
+#![tactic(auto)]
+
 ghost use Rattle.std.specs.Prelude.{◌≡◌, not, ◌&&◌, ◌<◌, leb, length};
 ghost use Rattle.orderbook.specs.declared.Event.{Event};
 ghost use Rattle.orderbook.specs.declared.Event.TheVariants.{Accepted, Rejected, StopPlaced, Triggered};

@@ -1,4 +1,6 @@
 // An account's balance: `Wallet::balance` of wallet.rs for the row of an account, and the call `wallet`.
+#![tactic(auto)]
+
 ghost use Rattle.std.specs.Prelude.{◌≡◌, true, ◌<◌};
 ghost use Rattle.std.proofs.Math.Option.{some};
 ghost use Rattle.gateway.specs.Basics.{is_some};
@@ -16,7 +18,7 @@ ghost use Rattle.balances.specs.Balances as P;
 use protocol::Balance;
 use store::limits;
 
-#[derive(Drop)]
+#[derive(Clone, Copy)]
 pub enum MaybeBalance {
     None,
     Some(Balance),

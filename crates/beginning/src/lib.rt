@@ -1,5 +1,7 @@
 // Set-up and restore over the lent slice of account records (`Exchange::new` of exchange.rs): it is walked once (`roster::gather`), and what begins
 // takes the accounts by value.
+#![tactic(auto)]
+
 ghost use Rattle.std.specs.Prelude.{[], ◌∷◌};
 ghost use Rattle.words.specs.Words.{int};
 ghost use Rattle.gateway.specs.Start.{set_up, restore};

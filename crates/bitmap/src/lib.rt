@@ -1,4 +1,6 @@
 // A bit for each row of a table, 64 in a cell: 1 where the row is taken. What is searched for is a row that is free, with no row looked at.
+#![tactic(auto)]
+
 ghost use Rattle.std.specs.Prelude.{◌≡◌, ◌/◌, ◌≤◌, ◌<◌};
 ghost use Rattle.store.specs.Layout.{cell, Cell, Holds};
 ghost use Rattle.store.specs.View.{Is};

@@ -1,4 +1,6 @@
 // Events of one order that change the book, or what a live order holds, each judged in 01's order before a byte is written (`deliver` of exchange.rs).
+#![tactic(auto)]
+
 ghost use Rattle.std.specs.Prelude.{◌≡◌, ◌<◌, length};
 ghost use Rattle.orderbook.specs.declared.Event.TheVariants.{Rested, Replenished, Cancelled, Modified};
 ghost use Rattle.words.specs.Words.{int};

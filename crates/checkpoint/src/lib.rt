@@ -1,4 +1,6 @@
 // The checkpoint's bytes in a lent slice: document 01's call `checkpoint`, which the Rust does not have.
+#![tactic(auto)]
+
 mod fields;
 
 ghost use Rattle.std.specs.Prelude.{◌≡◌, ◌+◌, ◌*◌, ◌≤◌, ◌<◌, length};

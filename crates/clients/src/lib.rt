@@ -1,4 +1,6 @@
 // The rows of accounts and sessions. docs/STATE.md has the cells.
+#![tactic(auto)]
+
 ghost use Rattle.std.specs.Prelude.{true, ◌≡◌, ◌<◌, ◌≤◌};
 ghost use Rattle.std.proofs.Math.Option.{none, some};
 ghost use Rattle.words.specs.Words.{int, word_of};
@@ -16,7 +18,7 @@ use risk::Bucket;
 use store::{cells, limits};
 use wallet::Wallet;
 
-#[derive(Drop)]
+#[derive(Clone, Copy)]
 pub enum MaybeAccount {
     None,
     Some(Account),
@@ -243,7 +245,7 @@ pub fn add_account(m: &mut [u8], a: Account)
 // ---- sessions
 
 // The row of a session, as words. The account is plus one, 0 for none.
-#[derive(Drop)]
+#[derive(Clone, Copy)]
 pub struct Session {
     pub connected: u64,
     pub account: u64,

@@ -1,4 +1,6 @@
 // Commands are numbered and handed over: `push`, `last_seq`, `take_batch`, `detach` and `disconnect` of exchange.rs.
+#![tactic(auto)]
+
 ghost use Rattle.std.specs.Prelude.{◌≡◌, true, [], map, ◌*◌, ◌≤◌, ◌<◌, length};
 ghost use Rattle.gateway.specs.Limits.{owner_slots, most_in_batch};
 ghost use Rattle.gateway.specs.Rest.{with_batch};
@@ -121,7 +123,7 @@ pub fn take_batch(m: &mut [u8], out: &mut [u8]) -> Reply
 // ---- connections that are gone
 
 // An account, where there was one.
-#[derive(Drop)]
+#[derive(Clone, Copy)]
 pub enum MaybeId {
     None,
     Some(u32),

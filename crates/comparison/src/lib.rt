@@ -1,5 +1,7 @@
 // Calls for the Rust comparison program: numbers and byte slices in, a code and written bytes out. Words are little-endian; a wallet is cash,
 // position, cash held and position held, a bucket its tokens and its time. A refusal writes nothing.
+#![tactic(auto)]
+
 ghost use Rattle.std.specs.Prelude.{[], ◌∷◌, ◌≡◌, ◌≤◌, length};
 ghost use Rattle.protocol.specs.Codes.{side_of};
 ghost use Rattle.risk.specs.Throttle.{take_token};

@@ -1,4 +1,6 @@
 // A row of a stored file on one gateway: its call is made by the entry points, and the answer held to the stored one.
+#![tactic(auto)]
+
 ghost use Rattle.stored.specs.Rows as R;
 ghost use Rattle.edge.specs.Entering.{Lent};
 ghost use Rattle.conformance.specs.Played as P;

@@ -1,4 +1,6 @@
 // Events that name no order, and the call: `deliver` of exchange.rs.
+#![tactic(auto)]
+
 ghost use Rattle.std.specs.Prelude.{◌≡◌, ◌+◌, ◌≤◌, ◌<◌, length};
 ghost use Rattle.orderbook.specs.declared.Event.TheVariants.{MassCancelled, PhaseChanged};
 ghost use Rattle.gateway.specs.Limits.{session_slots};

@@ -1,4 +1,6 @@
 // What the events of the book share: the tests of 01 in their order, and the run of numbers (`deliver` of exchange.rs).
+#![tactic(auto)]
+
 ghost use Rattle.std.specs.Prelude.{◌≡◌, true, ◌≤◌, ◌<◌, ltb, leb};
 ghost use Rattle.gateway.specs.Core.{owner_limit, in_flight};
 ghost use Rattle.store.specs.Layout.{cell};
@@ -10,7 +12,7 @@ ghost use Rattle.delivery.specs.Delivery as P;
 use store::cells;
 
 // Whether each test passes, in the order of the definitions: a test that an event does not have is true.
-#[derive(Drop)]
+#[derive(Clone, Copy)]
 pub struct Tests {
     pub flying: bool,
     pub below: bool,

@@ -1,4 +1,6 @@
 // The price levels of a side, best price first, in a lent list: `depth_levels` of exchange.rs.
+#![tactic(auto)]
+
 ghost use Rattle.std.specs.Prelude.{◌≡◌, map, ◌+◌, ◌*◌, ◌/◌, ◌≤◌, length, take};
 ghost use Rattle.gateway.specs.Limits.{most_levels};
 ghost use Rattle.gateway.specs.Calls.{call, depth_levels};

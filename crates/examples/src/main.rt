@@ -1,4 +1,6 @@
 // The worked examples of document 01 on holds, the collar and the throttle, and 02's on the fee, run through the code. specs/Table.antt has those that are proved.
+#![tactic(auto)]
+
 ghost use Rattle.examples.specs.Table.{Examples};
 
 use accounts::Funds;

@@ -1,4 +1,6 @@
 // A message of a session: `receive` of exchange.rs.
+#![tactic(auto)]
+
 ghost use Rattle.std.specs.Prelude.{◌≡◌, true, ◌<◌, length};
 ghost use Rattle.std.proofs.Math.Option.{none, some};
 ghost use Rattle.protocol.specs.declared.Inbound.TheVariants as In;

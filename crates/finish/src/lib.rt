@@ -1,4 +1,6 @@
 // A restart ends: the book's listing is compared with the live orders, and the depth is taken from it (`finish` of exchange.rs).
+#![tactic(auto)]
+
 ghost use Rattle.std.specs.Prelude.{◌≡◌, [], ◌≤◌, ◌<◌};
 ghost use Rattle.std.proofs.Math.Option.{some};
 ghost use Rattle.gateway.specs.Entry.{nothing};

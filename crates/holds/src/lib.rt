@@ -1,4 +1,6 @@
 // What an event does to a live order that it names: judged on the state as it is, then applied (`deliver` of exchange.rs).
+#![tactic(auto)]
+
 ghost use Rattle.std.specs.Prelude.{◌≡◌, cond, ◌+◌, ◌≤◌, ◌<◌, length, leb};
 ghost use Rattle.gateway.specs.Limits.{owner_slots, most_notices};
 ghost use Rattle.gateway.specs.Ledger.{number_of, change};
@@ -19,7 +21,7 @@ use store::{cells, limits};
 use table::Found;
 
 // What happens to the order. Prices are words, in two's complement.
-#[derive(Drop)]
+#[derive(Clone, Copy)]
 pub enum Move {
     Fill { price: u64, qty: u64, leaves: u64 },
     Leaves { leaves: u64 },
@@ -28,7 +30,7 @@ pub enum Move {
 }
 
 // Of a live order: what it holds before and after, and, where its account has a wallet, how many notices there are. Of no live order all is 0.
-#[derive(Drop)]
+#[derive(Clone, Copy)]
 pub struct Shift {
     pub account: u64,
     pub side: u64,

@@ -1,4 +1,6 @@
 // An account is added: `add_account` of exchange.rs.
+#![tactic(auto)]
+
 ghost use Rattle.std.specs.Prelude.{◌≡◌};
 ghost use Rattle.gateway.specs.Ledger.{account};
 ghost use Rattle.gateway.specs.Core.{tests};

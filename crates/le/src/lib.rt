@@ -1,9 +1,11 @@
 // Little-endian loads and stores in a lent slice of bytes. Each is made of two of half the width, which compiles to one instruction.
+#![tactic(auto)]
+
 ghost use Rattle.std.specs.Prelude.{◌≡◌, ◌+◌, ◌^◌, ◌≤◌, ◌<◌, length, ltb, true};
 ghost use Rattle.le.specs.Le.{le, put};
 ghost use Rattle.le.specs.Checked.{is_width, inside, takes, loaded, stored, Place};
 
-#[derive(Drop)]
+#[derive(Clone, Copy)]
 pub enum Loaded {
     Value(u64),
     Refused,

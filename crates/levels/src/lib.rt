@@ -1,5 +1,7 @@
 // The price levels of a side in their block: rows ascending by price, raised by 2^63. A level whose last order has gone leaves its row, dead: it
 // comes back in it, or another price takes it. So rows seldom move.
+#![tactic(auto)]
+
 pub mod listed;
 
 ghost use Rattle.std.specs.Prelude.{◌≡◌, ◌+◌, ◌*◌, ◌≤◌, ◌<◌};
@@ -16,7 +18,7 @@ use store::{cells, limits};
 use table::Found;
 
 // A level: its price raised by 2^63, what its orders show, and how many there are.
-#[derive(Drop)]
+#[derive(Clone, Copy)]
 pub struct Row {
     pub key: u64,
     pub qty: u64,

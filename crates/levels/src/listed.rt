@@ -8,7 +8,7 @@ use crate::Row;
 use orderbook::Side;
 
 // A level: its price, what its orders show, and how many there are.
-#[derive(Drop)]
+#[derive(Clone, Copy)]
 pub struct Level {
     pub price: i64,
     pub qty: u64,

@@ -1,5 +1,7 @@
 // A book listing in a lent list of rows, for set-up and `finish`: its entries, how often a number is listed, its price levels, and its resting
 // orders as they come to stand in the depth (`Depth::of` of marketdata/src/lib.rs).
+#![tactic(auto)]
+
 ghost use Rattle.std.specs.Prelude.{◌≡◌, true, ◌+◌, ◌<◌, ◌≤◌, length};
 ghost use Rattle.gateway.specs.Depth.{levels_few, levels_fit};
 ghost use Rattle.gateway.specs.Listing.{listed_times, resting_in, listed_depth};
@@ -17,7 +19,7 @@ use store::limits;
 
 // The words of a row. `kind` is 0 for a resting order, else a stop. Of a stop, `priced` is 0 without a limit, `price` its limit, `leaves` its
 // quantity, and `visible` is not read; of a resting order `priced` is not.
-#[derive(Drop)]
+#[derive(Clone, Copy)]
 pub struct Entry {
     pub kind: u64,
     pub number: u64,

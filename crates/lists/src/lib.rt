@@ -1,4 +1,6 @@
 // The lists that a start and `finish` are handed, in rows: whether each row is one, and the accounts gathered.
+#![tactic(auto)]
+
 ghost use Rattle.std.specs.Prelude.{◌≡◌, leb};
 ghost use Rattle.listing.specs.Rows.{rows};
 ghost use Rattle.script.specs.Strict.{all_fit};

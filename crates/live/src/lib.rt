@@ -1,5 +1,7 @@
 // Live orders, and what they hold of their accounts' wallets: `place`, `set_leaves`, `traded` and `retire` of exchange.rs.
 // A row is read where it is changed: handed on in memory, it would be read again right after it was written, which makes the processor wait.
+#![tactic(auto)]
+
 ghost use Rattle.std.specs.Prelude.{◌≡◌, cond, ◌+◌, ◌≤◌, ◌<◌, length, ◌+ℤ◌, ◌-ℤ◌};
 ghost use Rattle.words.specs.Words.{int, amount};
 ghost use Rattle.gateway.specs.Basics.{is_some};

@@ -1,4 +1,6 @@
 // The first message of a session, a login: `login` of exchange.rs.
+#![tactic(auto)]
+
 mod reports;
 
 ghost use Rattle.std.specs.Prelude.{◌≡◌, ◌+◌, ◌≤◌, ◌<◌, length};
@@ -27,7 +29,7 @@ use store::cells;
 
 // The protocol's version (VERSION).
 // Why a login is refused, if it is.
-#[derive(Drop)]
+#[derive(Clone, Copy)]
 pub enum MaybeLoginError {
     None,
     Some(LoginError),

@@ -1,6 +1,8 @@
 // Calls for the comparison with the standard library's maps: the live orders and the price levels in a lent state.
 // Bytes that have not a state's length and a side above 1 get 11, and a refused call changes nothing. What the caller has to see to is document
 // 01's premise alone (`Lent`): the bytes are what the last call left, from `tables_clear` on.
+#![tactic(auto)]
+
 ghost use Rattle.std.specs.Prelude.{◌≡◌, true, ◌<◌, leb};
 ghost use Rattle.gateway.specs.Basics.{option};
 ghost use Rattle.gateway.specs.Ledger.{number_of};
@@ -31,7 +33,7 @@ const ORDER_ROOM: u64 = 2 * limits::MOST_ORDERS;
 
 // A code, and a number: 0 where the call is refused.
 #[repr(C)]
-#[derive(Drop)]
+#[derive(Clone, Copy)]
 pub struct Answer {
     pub code: u64,
     pub number: u64,

@@ -1,5 +1,7 @@
 // The depth: resting orders, their price levels, and the levels changed since the last publishing (`Depth` of marketdata/src/lib.rs).
 // A row is handed on by value, so that it is neither searched nor read twice.
+#![tactic(auto)]
+
 ghost use Rattle.std.specs.Prelude.{◌≡◌, ◌≤◌};
 ghost use Rattle.words.specs.Words.{int};
 ghost use Rattle.table.specs.Live.{without, insert, replace};

@@ -1,4 +1,6 @@
 // What the entry points take and answer in numbers: options and reasons, and the records of their answers.
+#![tactic(auto)]
+
 ghost use Rattle.std.specs.Prelude.{◌≡◌};
 ghost use Rattle.protocol.specs.Codes.{logout_of};
 ghost use Rattle.risk.specs.Collar.{percent_of};
@@ -15,7 +17,7 @@ use risk::MaybePercent;
 
 // A code, and how many rows (of a checkpoint: bytes) were written.
 #[repr(C)]
-#[derive(Drop)]
+#[derive(Clone, Copy)]
 pub struct Reply {
     pub code: u64,
     pub count: usize,
@@ -23,7 +25,7 @@ pub struct Reply {
 
 // A code, and a number.
 #[repr(C)]
-#[derive(Drop)]
+#[derive(Clone, Copy)]
 pub struct Number {
     pub code: u64,
     pub number: u64,
@@ -31,7 +33,7 @@ pub struct Number {
 
 // A code; whether there is an account, and which.
 #[repr(C)]
-#[derive(Drop)]
+#[derive(Clone, Copy)]
 pub struct Account {
     pub code: u64,
     pub there: u64,
@@ -40,7 +42,7 @@ pub struct Account {
 
 // A code; whether there is a wallet, and what is in it and held.
 #[repr(C)]
-#[derive(Drop)]
+#[derive(Clone, Copy)]
 pub struct Wallet {
     pub code: u64,
     pub there: u64,

@@ -1,4 +1,6 @@
 // What set-up and restore share: the state that begins, with the accounts of a roster (`Exchange::new` of exchange.rs).
+#![tactic(auto)]
+
 ghost use Rattle.std.specs.Prelude.{◌≡◌, ◌≤◌};
 ghost use Rattle.words.specs.Words.{int};
 ghost use Rattle.gateway.specs.Limits.{owner_slots};

@@ -1,5 +1,7 @@
 // The values of crates/orderbook/src/types.rs that the gateway speaks of, with the Rust's names, cases and order.
 // Left out: SelfTradePolicy and EventSink, which belong to matching. An optional value is an enum of its own.
+#![tactic(auto)]
+
 ghost use Rattle.std.specs.Prelude.{◌≡◌};
 ghost use Rattle.orderbook.specs.Types.{opposite_of};
 
@@ -13,20 +15,20 @@ pub type Price = i64;
 
 pub type Qty = u64;
 
-#[derive(Drop)]
+#[derive(Clone, Copy)]
 pub enum MaybePrice {
     None,
     Some(Price),
 }
 
-#[derive(Drop)]
+#[derive(Clone, Copy)]
 pub enum MaybeQty {
     None,
     Some(Qty),
 }
 
 // Side of an order.
-#[derive(Drop)]
+#[derive(Clone, Copy)]
 pub enum Side {
     Buy,
     Sell,
@@ -45,7 +47,7 @@ impl Side {
 }
 
 // An instruction to the matching engine.
-#[derive(Drop)]
+#[derive(Clone, Copy)]
 pub enum Command {
     Limit {
         id: OrderId,
@@ -90,7 +92,7 @@ pub enum Command {
 }
 
 // How long a limit order works, and whether it may take liquidity.
-#[derive(Drop)]
+#[derive(Clone, Copy)]
 pub enum TimeInForce {
     Gtc,
     Ioc,
@@ -99,7 +101,7 @@ pub enum TimeInForce {
 }
 
 // The book's trading phase.
-#[derive(Drop)]
+#[derive(Clone, Copy)]
 pub enum Phase {
     Continuous,
     Auction,
@@ -108,7 +110,7 @@ pub enum Phase {
 }
 
 // Output of the matching engine. Leaves is the open quantity still working; zero means that the order is done.
-#[derive(Drop)]
+#[derive(Clone, Copy)]
 pub enum Event {
     Accepted {
         id: OrderId,
@@ -171,7 +173,7 @@ pub enum Event {
 }
 
 // Why a command was refused.
-#[derive(Drop)]
+#[derive(Clone, Copy)]
 pub enum RejectReason {
     InvalidQuantity,
     PriceOutOfRange,
@@ -191,7 +193,7 @@ pub enum RejectReason {
 }
 
 // Why open quantity left the book without trading.
-#[derive(Drop)]
+#[derive(Clone, Copy)]
 pub enum CancelReason {
     Requested,
     NoLiquidity,
@@ -205,7 +207,7 @@ pub enum CancelReason {
 }
 
 // A book listing, which stands for the book: its resting orders and its stops. A hidden part is in `leaves` and not in `visible`.
-#[derive(Drop)]
+#[derive(Clone, Copy)]
 pub enum Listed {
     Order {
         id: OrderId,

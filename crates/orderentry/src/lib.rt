@@ -1,5 +1,7 @@
 // Order entry of a logged-in session: `enter` and `place` of exchange.rs.
 // A message is judged on the state as it is (crate pretrade), and only then does anything change.
+#![tactic(auto)]
+
 ghost use Rattle.std.specs.Prelude.{◌≡◌, true, ◌+◌, ◌<◌, length};
 ghost use Rattle.std.proofs.Math.Option.{some};
 ghost use Rattle.protocol.specs.declared.Inbound.TheVariants as In;

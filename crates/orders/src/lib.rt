@@ -1,4 +1,6 @@
 // The table of orders: rows ascending by number, each with a live half and a resting half. docs/STATE.md has the cells.
+#![tactic(auto)]
+
 ghost use Rattle.std.specs.Prelude.{[], ◌∷◌, ◌≡◌, ◌+◌, ◌%◌, ◌≤◌, ◌<◌};
 ghost use Rattle.table.specs.Table.{Between};
 ghost use Rattle.gateway.specs.Depth.{resting_number};
@@ -18,7 +20,7 @@ use store::cells::{
 use table::Found;
 
 // The live half of a row.
-#[derive(Drop)]
+#[derive(Clone, Copy)]
 pub struct Live {
     pub account: u64,
     pub client_ref: u64,
@@ -30,7 +32,7 @@ pub struct Live {
 }
 
 // The resting half of a row.
-#[derive(Drop)]
+#[derive(Clone, Copy)]
 pub struct Resting {
     pub side: u64,
     pub price: u64,
@@ -100,7 +102,7 @@ pub fn find_live(m: &[u8], number: u64) -> Found
 }
 
 // Where the two halves of an order stand.
-#[derive(Drop)]
+#[derive(Clone, Copy)]
 pub struct Places {
     pub live: Found,
     pub resting: Found,

@@ -132,7 +132,7 @@ pub fn forget_tops(m: &mut [u8], n: usize)
 }
 
 // A changed level: its side a code, its price a word.
-#[derive(Drop)]
+#[derive(Clone, Copy)]
 pub struct Changed {
     pub side: u64,
     pub price: u64,

@@ -1,4 +1,6 @@
 // What waits to be published or handed over: wallet notices, trades, changed levels, the batch, commands in flight; and the words of the header.
+#![tactic(auto)]
+
 pub mod batch;
 pub mod changed;
 pub mod header;
@@ -60,7 +62,7 @@ pub fn notice_at(m: &[u8], i: usize) -> u64
 }
 
 // The fields of a trade, its side a code and its price a word.
-#[derive(Drop)]
+#[derive(Clone, Copy)]
 pub struct Trade {
     pub seq: u64,
     pub trade_id: u64,
@@ -129,7 +131,7 @@ pub fn in_flight(m: &[u8], n: u64) -> bool
 }
 
 // A command in flight: its sender is one more than a session's number, or 0.
-#[derive(Drop)]
+#[derive(Clone, Copy)]
 pub struct Flight {
     pub sender: u64,
     pub owner: u64,

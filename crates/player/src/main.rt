@@ -1,5 +1,7 @@
 // Plays the stored lists of calls on the proved entry points, and says the first difference from the stored answers, or how many calls agreed: the
 // Rust's answers, and the written rule's for lists with a fee.
+#![tactic(auto)]
+
 ghost use Rattle.std.specs.Prelude.{◌≡◌, ◌*◌, ◌≤◌, length};
 ghost use Rattle.store.specs.Layout.{Holds};
 ghost use Rattle.edge.specs.Entering.{Lent};

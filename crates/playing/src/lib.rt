@@ -1,5 +1,7 @@
 // The calls of sessions and entry in the rows of a stored file, made by the entry points: a row has the arguments, a copy of it is given the
 // answer (compare/README.md).
+#![tactic(auto)]
+
 ghost use Rattle.std.specs.Prelude.{◌≡◌, true, ◌/◌, ◌≤◌, ◌<◌, leb, length};
 ghost use Rattle.words.specs.Words.{word_of};
 ghost use Rattle.protocol.specs.Codes.{logout_of};

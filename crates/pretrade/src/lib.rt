@@ -1,4 +1,6 @@
 // Pre-trade risk: the tests of an order-entry message, in 01's order, on the state as it is (`take_token` and `enter` of exchange.rs).
+#![tactic(auto)]
+
 pub mod collar;
 
 ghost use Rattle.std.specs.Prelude.{◌≡◌, true, false, [], ◌∷◌, ◌+◌, ◌<◌, length, ltb, leb};

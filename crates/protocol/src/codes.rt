@@ -5,7 +5,7 @@ ghost use Rattle.protocol.specs.Codes.{side_code, side_of, tif_code, tif_of, pha
 use crate::{LoginError, LogoutReason, RejectCode};
 use orderbook::{CancelReason, Phase, RejectReason, Side, TimeInForce};
 
-#[derive(Drop)]
+#[derive(Clone, Copy)]
 pub enum MaybeSide {
     None,
     Some(Side),
@@ -28,7 +28,7 @@ pub fn side_of(code: u8) -> MaybeSide
     if at < 2 { cases[at] } else { MaybeSide::None }
 }
 
-#[derive(Drop)]
+#[derive(Clone, Copy)]
 pub enum MaybeTimeInForce {
     None,
     Some(TimeInForce),
@@ -62,7 +62,7 @@ pub fn tif_of(code: u8) -> MaybeTimeInForce
     }
 }
 
-#[derive(Drop)]
+#[derive(Clone, Copy)]
 pub enum MaybePhase {
     None,
     Some(Phase),
@@ -92,7 +92,7 @@ pub fn phase_of(code: u8) -> MaybePhase
     if at < 4 { cases[at] } else { MaybePhase::None }
 }
 
-#[derive(Drop)]
+#[derive(Clone, Copy)]
 pub enum MaybeLoginError {
     None,
     Some(LoginError),
@@ -109,7 +109,7 @@ pub fn login_error_code(value: LoginError) -> u8
     }
 }
 
-#[derive(Drop)]
+#[derive(Clone, Copy)]
 pub enum MaybeLogoutReason {
     None,
     Some(LogoutReason),
@@ -146,7 +146,7 @@ pub fn logout_of(code: u8) -> MaybeLogoutReason
     }
 }
 
-#[derive(Drop)]
+#[derive(Clone, Copy)]
 pub enum MaybeRejectCode {
     None,
     Some(RejectCode),
@@ -165,7 +165,7 @@ pub fn reject_code(value: RejectCode) -> u8
     }
 }
 
-#[derive(Drop)]
+#[derive(Clone, Copy)]
 pub enum MaybeRejectReason {
     None,
     Some(RejectReason),
@@ -222,7 +222,7 @@ pub fn reject_reason_of(code: u8) -> MaybeRejectReason
     }
 }
 
-#[derive(Drop)]
+#[derive(Clone, Copy)]
 pub enum MaybeCancelReason {
     None,
     Some(CancelReason),

@@ -1,4 +1,6 @@
 // The message values of crates/protocol/src/lib.rs, with the Rust's names, cases and order. The wire form is left out.
+#![tactic(auto)]
+
 pub mod codes;
 
 use orderbook::{CancelReason, MaybePrice, MaybeQty, Phase, RejectReason, Side, TimeInForce};
@@ -7,7 +9,7 @@ use orderbook::{CancelReason, MaybePrice, MaybeQty, Phase, RejectReason, Side, T
 pub const VERSION: u16 = 1;
 
 // A message from a client.
-#[derive(Drop)]
+#[derive(Clone, Copy)]
 pub enum Inbound {
     Login {
         version: u16,
@@ -30,7 +32,7 @@ pub enum Inbound {
     Subscribe,
 }
 
-#[derive(Drop)]
+#[derive(Clone, Copy)]
 pub struct NewOrder {
     pub client_ref: u64,
     pub side: Side,
@@ -38,7 +40,7 @@ pub struct NewOrder {
     pub kind: OrderKind,
 }
 
-#[derive(Drop)]
+#[derive(Clone, Copy)]
 pub enum OrderKind {
     Limit {
         price: i64,
@@ -53,7 +55,7 @@ pub enum OrderKind {
 }
 
 // A message to a client.
-#[derive(Drop)]
+#[derive(Clone, Copy)]
 pub enum Outbound {
     LoginAccepted { account: u32, last_seq: u64 },
     LoginRejected { reason: LoginError },
@@ -68,7 +70,7 @@ pub enum Outbound {
 }
 
 // An account's money and position.
-#[derive(Drop)]
+#[derive(Clone, Copy)]
 pub struct Balance {
     pub cash: i64,
     pub position: i64,
@@ -77,7 +79,7 @@ pub struct Balance {
 }
 
 // A price level, in market data; a level with no orders is gone.
-#[derive(Drop)]
+#[derive(Clone, Copy)]
 pub struct LevelUpdate {
     pub seq: u64,
     pub side: Side,
@@ -87,7 +89,7 @@ pub struct LevelUpdate {
 }
 
 // A trade, in market data.
-#[derive(Drop)]
+#[derive(Clone, Copy)]
 pub struct TradeTick {
     pub seq: u64,
     pub trade_id: u64,
@@ -96,7 +98,7 @@ pub struct TradeTick {
     pub qty: u64,
 }
 
-#[derive(Drop)]
+#[derive(Clone, Copy)]
 pub enum LoginError {
     UnsupportedVersion,
     BadCredentials,
@@ -104,7 +106,7 @@ pub enum LoginError {
     AlreadyInSession,
 }
 
-#[derive(Drop)]
+#[derive(Clone, Copy)]
 pub enum LogoutReason {
     Requested,
     Idle,
@@ -114,7 +116,7 @@ pub enum LogoutReason {
 }
 
 // Why the gateway refused a message.
-#[derive(Drop)]
+#[derive(Clone, Copy)]
 pub enum RejectCode {
     TooManyOrders,
     Throttled,
@@ -125,7 +127,7 @@ pub enum RejectCode {
 }
 
 // An event of the book, as reported to a client.
-#[derive(Drop)]
+#[derive(Clone, Copy)]
 pub struct Report {
     pub seq: u64,
     pub order_id: u64,
@@ -133,7 +135,7 @@ pub struct Report {
     pub kind: ReportKind,
 }
 
-#[derive(Drop)]
+#[derive(Clone, Copy)]
 pub enum ReportKind {
     Accepted,
     Rejected(RejectReason),

@@ -1,4 +1,6 @@
 // An event of the record is delivered again: `replay_event` of exchange.rs. It moves what the ledger has and the run of numbers; the depth, and what waits to be published, stay as they are.
+#![tactic(auto)]
+
 ghost use Rattle.std.specs.Prelude.{◌≡◌, true, ℕ};
 ghost use Rattle.orderbook.specs.declared.Event as E;
 ghost use Rattle.orderbook.specs.declared.Event.TheVariants as Event;

@@ -1,5 +1,7 @@
 // A checkpoint's contents go into a state that begins: the orders, the reference price, the wallets, and the notices of what the orders hold
 // (`restore` of document 01).
+#![tactic(auto)]
+
 ghost use Rattle.std.specs.Prelude.{◌≡◌, true, ◌<◌, length};
 ghost use Rattle.orderbook.specs.declared.MaybePrice.TheVariants.{None};
 ghost use Rattle.gateway.specs.Basics.{is_some};

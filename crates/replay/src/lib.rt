@@ -1,4 +1,6 @@
 // A command of the record is taken again: `replay_command` of exchange.rs. No session may be connected; nothing is sent, and nothing waits in the batch.
+#![tactic(auto)]
+
 ghost use Rattle.std.specs.Prelude.{◌≡◌, eqb};
 ghost use Rattle.orderbook.specs.declared.Command as K;
 ghost use Rattle.gateway.specs.Ledger.{holds_fit};
@@ -41,7 +43,7 @@ pub fn is_alone(m: &[u8]) -> bool
 
 // In words: whether an order that it places bears its number, whether it has an owner, and the row of the order, where `places` is 1.
 // The row's account is the owner, also of a command that places nothing; 0 for one without an owner.
-#[derive(Drop)]
+#[derive(Clone, Copy)]
 pub struct Terms {
     pub own: bool,
     pub owned: bool,
@@ -129,7 +131,7 @@ fn terms_of(n: u64, k: Command) -> Terms
 // ---- judged
 
 // Whether each test passes, in the order of the definitions.
-#[derive(Drop)]
+#[derive(Clone, Copy)]
 pub struct Tests {
     pub alone: bool,
     pub next: bool,

@@ -1,4 +1,6 @@
 // The starts, and the calls of the engine and of restarts, in the rows of a stored file, made by the entry points (compare/README.md).
+#![tactic(auto)]
+
 ghost use Rattle.std.specs.Prelude.{◌≡◌, true, ◌≤◌, length, take};
 ghost use Rattle.gateway.specs.Calls as C;
 ghost use Rattle.mailbox.specs.Mailbox.{places};

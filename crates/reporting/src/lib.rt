@@ -1,4 +1,6 @@
 // Reports of an event: whom they go to, and their rows (`tell_owner`, `tell_sender`, `report` of exchange.rs).
+#![tactic(auto)]
+
 ghost use Rattle.std.specs.Prelude.{◌≡◌, ◌+◌, ◌≤◌, ◌<◌, length};
 ghost use Rattle.gateway.specs.Basics.{option};
 ghost use Rattle.gateway.specs.Ledger.{number_of, find};
@@ -17,7 +19,7 @@ use protocol::{Report, ReportKind};
 use table::Found;
 
 // The open session that is told, plus one, or 0 for none; and the order's client reference.
-#[derive(Drop)]
+#[derive(Clone, Copy)]
 pub struct Told {
     pub to: u64,
     pub client_ref: u64,

@@ -1,4 +1,6 @@
 // What is claimed of the entry points, demand 3 of document 01 first. Nothing calls these functions: they are here for their proofs.
+#![tactic(auto)]
+
 ghost use Rattle.std.specs.Prelude.{[], ◌∷◌, length};
 ghost use Rattle.words.specs.Words.{int};
 ghost use Rattle.gateway.specs.Start.{set_up, restore};

@@ -1,4 +1,6 @@
 // A gateway starts from a checkpoint's bytes and the accounts of the moment (`restore` of document 01): everything is judged before a byte is written.
+#![tactic(auto)]
+
 ghost use Rattle.std.specs.Prelude.{◌≡◌, true, ◌≤◌, ◌<◌, length};
 ghost use Rattle.words.specs.Words.{int};
 ghost use Rattle.gateway.specs.Basics.{is_some};

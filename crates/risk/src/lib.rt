@@ -1,5 +1,7 @@
 // Pre-trade risk (crates/gateway/src/exchange.rs): the collar of near_market, and the throttle of take_token as RFC 2697's meter.
 // Prices are words, `int w`.
+#![tactic(auto)]
+
 ghost use Rattle.std.specs.Prelude.{◌≡◌, ◌-◌, ◌≤◌};
 ghost use Rattle.words.specs.Words.{int};
 ghost use Rattle.risk.specs.Collar as C;
@@ -21,7 +23,7 @@ pub fn near(price: u64, mark: u64, percent: u64) -> bool
 }
 
 // The collar's width.
-#[derive(Drop)]
+#[derive(Clone, Copy)]
 pub enum MaybePercent {
     None,
     Some(u32),
@@ -31,13 +33,13 @@ pub enum MaybePercent {
 const TOKEN: u64 = 1000000000;
 
 // An account's token bucket, and when it was last filled.
-#[derive(Drop)]
+#[derive(Clone, Copy)]
 pub struct Bucket {
     pub tokens: u64,
     pub refilled: u64,
 }
 
-#[derive(Drop)]
+#[derive(Clone, Copy)]
 pub struct Taken {
     pub passed: bool,
     pub bucket: Bucket,

@@ -1,4 +1,6 @@
 // The accounts that set-up and restore are given: a lent slice of records becomes a table by account number (`Exchange::new` of exchange.rs).
+#![tactic(auto)]
+
 ghost use Rattle.std.specs.Prelude.{◌≡◌};
 ghost use Rattle.gateway.specs.Basics.{is_some};
 ghost use Rattle.gateway.specs.Start.{funds_in};
@@ -8,14 +10,14 @@ use accounts::{Account, MaybeFunds};
 use store::limits;
 
 // The account of a number, where there is one.
-#[derive(Drop)]
+#[derive(Clone, Copy)]
 pub struct Slot {
     pub there: bool,
     pub account: Account,
 }
 
 // The accounts by number, and whether each number was below the owner limit.
-#[derive(Drop)]
+#[derive(Clone, Copy)]
 pub struct Roster {
     pub below: bool,
     pub slots: [Slot; 256],

@@ -1,4 +1,6 @@
 // Lists of rows in lent bytes: a row is some cells of 8 bytes, and each place has one. Places behind the last row written keep what they hold.
+#![tactic(auto)]
+
 ghost use Rattle.std.specs.Prelude.{◌≡◌, ◌+◌, ◌*◌, ◌≤◌, length};
 ghost use Rattle.rows.specs.Rows.{put_row};
 

@@ -1,5 +1,7 @@
 // Replays the Rust's stored answers through the proved calls. The file has rows of 15 words: a function, eight arguments, six results, of which
 // the first is the code (compare/README.md).
+#![tactic(auto)]
+
 ghost use Rattle.std.specs.Prelude.{◌≤◌, length};
 
 use le::Loaded;

@@ -9,7 +9,7 @@ use crate::Purse;
 use orders::Live;
 
 // An order's flags: bit 0, and the bits above it, which say 1 where there is a price and 0 where there is none.
-#[derive(Drop)]
+#[derive(Clone, Copy)]
 pub struct Flags {
     pub buy: u8,
     pub priced: u8,

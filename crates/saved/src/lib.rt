@@ -1,4 +1,6 @@
 // A checkpoint's bytes, read: whether they are well formed, what they hold, and the order section as a part of them. Document 01 adds them to the Rust.
+#![tactic(auto)]
+
 mod checks;
 mod fields;
 
@@ -13,14 +15,14 @@ ghost use Rattle.saved.specs.Contents as S;
 use orders::Live;
 
 // The reference price: whether there is one, and its word.
-#[derive(Drop)]
+#[derive(Clone, Copy)]
 pub struct Reference {
     pub marked: u64,
     pub price: u64,
 }
 
 // A wallet: its account, and the words of what it owns.
-#[derive(Drop)]
+#[derive(Clone, Copy)]
 pub struct Purse {
     pub account: u32,
     pub cash: u64,

@@ -1,5 +1,7 @@
 // Messages, events, commands and accounts in rows of little-endian words, each with a test of whether a row is one. The readers take any row;
 // the entry points test it first. A message and an event have 16 words: the kind, then the fields in their order.
+#![tactic(auto)]
+
 pub mod records;
 pub mod strict;
 

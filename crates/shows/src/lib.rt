@@ -1,5 +1,7 @@
 // The tests of an event against the depth, which read only: what an order shows (code 8), a level's quantity (code 7), the room in the
 // depth's tables (code 5). `at` is the place of the resting order `id`.
+#![tactic(auto)]
+
 ghost use Rattle.std.specs.Prelude.{◌≡◌, not, length, leb};
 ghost use Rattle.words.specs.Words.{int};
 ghost use Rattle.gateway.specs.Basics.{is_some};

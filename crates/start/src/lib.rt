@@ -1,4 +1,6 @@
 // The start without orders, and without a row of them: the fee, the last number, the owner limit and the timing; then the accounts, one by one.
+#![tactic(auto)]
+
 ghost use Rattle.std.specs.Prelude.{◌≡◌, [], ◌≤◌, ◌<◌};
 ghost use Rattle.words.specs.Words.{int};
 ghost use Rattle.gateway.specs.Fits.{AccountFits};

@@ -1,4 +1,6 @@
 // The gateway's state in one lent slice of bytes: blocks of rows of 64-bit cells. docs/STATE.md has the layout.
+#![tactic(auto)]
+
 pub mod cells;
 pub mod limits;
 

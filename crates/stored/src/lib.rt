@@ -1,4 +1,6 @@
 // The rows of a stored file of lists of calls: their words, read, compared and said. compare/README.md has the file's rows.
+#![tactic(auto)]
+
 ghost use Rattle.std.specs.Prelude.{◌≡◌, ◌≤◌, min};
 ghost use Rattle.stored.specs.Rows as R;
 
@@ -265,7 +267,7 @@ pub fn plain(row: [u8; 128]) -> [u8; 128]
 // ---- the count
 
 // The lists so far, the rows of this one, the calls so far, and whether to go on.
-#[derive(Drop)]
+#[derive(Clone, Copy)]
 pub struct Tally {
     pub lists: u64,
     pub rows: u64,

@@ -1,4 +1,6 @@
 // A client asks for the market's data: `subscribe` of exchange.rs.
+#![tactic(auto)]
+
 ghost use Rattle.std.specs.Prelude.{◌≡◌, ◌+◌, ◌≤◌, ◌<◌, length};
 ghost use Rattle.std.proofs.Math.Option.{some};
 ghost use Rattle.protocol.specs.declared.Inbound.TheVariants as In;

@@ -1,10 +1,12 @@
 // Exact sums of many signed words, whatever a partial sum does: a total of holds is judged before anything is written (code 7 of document 01).
+#![tactic(auto)]
+
 ghost use Rattle.std.specs.Prelude.{◌≡◌, ◌≤◌, ◌<◌, pos};
 ghost use Rattle.words.specs.Words.{int};
 ghost use Rattle.sums.specs.Sums as P;
 
 // The upper and the lower halves of the words, each raised by 2^63, summed apart: 2^31 of them do not fill 64 bits.
-#[derive(Drop)]
+#[derive(Clone, Copy)]
 pub struct Sum {
     pub high: u64,
     pub low: u64,

@@ -1,10 +1,12 @@
 // Tables of keyed rows in a lent slice of bytes. A table is given by numbers: where row 0 starts (`base`), the bytes of a row (`stride`),
 // how many rows there are (`n`), and where in a row its mark stands (`mark`). With constants for them the calls are inlined.
+#![tactic(auto)]
+
 ghost use Rattle.std.specs.Prelude.{◌≡◌, ◌+◌, ◌*◌, ◌%◌, ◌≤◌, ◌<◌, length};
 ghost use Rattle.le.specs.Le.{put};
 ghost use Rattle.table.specs.Table.{key_at, mark_at, Room, Sorted, Between, Least, Counted, Finds, Moved, Opened, Closed, Compacted};
 
-#[derive(Drop)]
+#[derive(Clone, Copy)]
 pub enum Found {
     At(usize),
     Nothing,

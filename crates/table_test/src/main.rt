@@ -1,4 +1,6 @@
 // A small table over `table`, driven through each operation; the program prints the live rows after each.
+#![tactic(auto)]
+
 ghost use Rattle.std.specs.Prelude.{◌≡◌, [], ◌+◌, ◌*◌, ◌≤◌, ◌<◌, length};
 ghost use Rattle.le.specs.Row.{puts};
 ghost use Rattle.table.specs.Live.{without, look, insert};
@@ -6,7 +8,7 @@ ghost use Rattle.table_test.specs.Test.{widths, values, key, live_row, revalued,
 
 use table::Found;
 
-#[derive(Drop)]
+#[derive(Clone, Copy)]
 pub struct Row {
     pub key: u64,
     pub value: u64,

@@ -1,4 +1,6 @@
 // Code 7 at set-up and restore: what the orders of each wallet hold, judged exactly before anything is written (`hold_of` of exchange.rs).
+#![tactic(auto)]
+
 ghost use Rattle.std.specs.Prelude.{◌≡◌, ◌≤◌, ◌<◌, length, get_or};
 ghost use Rattle.words.specs.Words.{int};
 ghost use Rattle.gateway.specs.Limits.{most_orders};
@@ -18,7 +20,7 @@ use roster::{Roster, Slot};
 use store::limits;
 
 // Where orders come from: a book listing, or a checkpoint's bytes.
-#[derive(Drop)]
+#[derive(Clone, Copy)]
 pub enum Source {
     Listing,
     Saved,

@@ -1,4 +1,6 @@
 // A trade of two orders: the taker is settled and reported before the maker (`deliver` of exchange.rs).
+#![tactic(auto)]
+
 ghost use Rattle.std.specs.Prelude.{◌≡◌, ◌+◌, ◌≤◌, ◌<◌, length};
 ghost use Rattle.orderbook.specs.declared.Event.TheVariants as Event;
 ghost use Rattle.gateway.specs.Depth as D;
@@ -30,7 +32,7 @@ use store::{cells, limits};
 use table::Found;
 
 // What a trade says: the side as its code, the price as a word.
-#[derive(Drop)]
+#[derive(Clone, Copy)]
 pub struct Deal {
     pub id: u64,
     pub taker: u64,
@@ -43,7 +45,7 @@ pub struct Deal {
 }
 
 // What is found of one of its orders.
-#[derive(Drop)]
+#[derive(Clone, Copy)]
 pub struct Party {
     pub live: Found,
     pub resting: Found,

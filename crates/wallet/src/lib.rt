@@ -1,5 +1,7 @@
 // Paper money (crates/gateway/src/wallet.rs): what a paper-trading account owns, and what its open orders hold of it.
 // Numbers are words, `int w`.
+#![tactic(auto)]
+
 ghost use Rattle.std.specs.Prelude.{◌≡◌, ◌<◌, ◌+ℤ◌};
 ghost use Rattle.std.proofs.Math.Option.{get_or, map};
 ghost use Rattle.words.specs.Words.{int, amount};
@@ -77,7 +79,7 @@ pub fn held(fee: u64, side: Side, priced: bool, price: u64, leaves: u64) -> u64
 }
 
 // What a paper-trading account owns and holds.
-#[derive(Drop)]
+#[derive(Clone, Copy)]
 pub struct Wallet {
     // Cash, in price ticks times lots.
     pub cash: u64,
@@ -90,7 +92,7 @@ pub struct Wallet {
 }
 
 // A wallet after a hold changed, if the total fits.
-#[derive(Drop)]
+#[derive(Clone, Copy)]
 pub enum Changed {
     Fits(Wallet),
     TooBig,

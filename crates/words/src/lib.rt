@@ -1,5 +1,7 @@
 // Exact arithmetic on 64-bit signed numbers. Inside they are u64 words in two's complement, and contracts speak of a word's number, `int w`;
 // an i64 stands only in `of_i64` and `to_i64`.
+#![tactic(auto)]
+
 ghost use Rattle.std.specs.Prelude.{◌≡◌, true, false, ◌+◌, ◌-◌, ◌*◌, ◌%◌, ◌<◌, ◌≤◌, leb, ℤ, pos, neg_ℤ, nat_abs, ◌+ℤ◌, ◌-ℤ◌, ◌*ℤ◌};
 ghost use Rattle.std.specs.Int.Signed.{le_z};
 ghost use Rattle.words.specs.Words.{base, half, int, ◌⊖◌, signed, wide, value, place_of, placed, nearest_to, amount, fit_in, fit, clamp, wrap, modulus};
@@ -60,7 +62,7 @@ pub fn distance(a: u64, b: u64) -> u64
 }
 
 // A natural number of two words.
-#[derive(Drop)]
+#[derive(Clone, Copy)]
 pub struct Wide {
     pub hi: u64,
     pub lo: u64,
@@ -133,7 +135,7 @@ pub fn le_sub(a: u64, b: u64, c: u64) -> bool
 }
 
 // A number by its sign and its size, for products. Zero may have either sign.
-#[derive(Drop)]
+#[derive(Clone, Copy)]
 pub struct Sized {
     pub neg: bool,
     pub size: u64,
@@ -155,7 +157,7 @@ pub fn size_of(w: u64) -> Sized
     }
 }
 
-#[derive(Drop)]
+#[derive(Clone, Copy)]
 pub struct Signed128 {
     pub neg: bool,
     pub size: Wide,
@@ -191,7 +193,7 @@ pub fn at_most(a: Signed128, b: Signed128) -> bool
 }
 
 // A number of 64 bits signed, if it fits.
-#[derive(Drop)]
+#[derive(Clone, Copy)]
 pub enum Amount {
     Fits(u64),
     TooBig,
@@ -231,7 +233,7 @@ pub fn narrow(s: Signed128) -> Amount
 }
 
 // Where an exact sum lies: in 64 bits signed, or past one of the ends.
-#[derive(Drop)]
+#[derive(Clone, Copy)]
 enum Place {
     In(u64),
     Above,

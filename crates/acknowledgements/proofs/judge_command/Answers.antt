@@ -1,0 +1,5 @@
+use Rattle.acknowledgements.proofs.Refusing.{refusing}
+use Rattle.acknowledgements.proofs.judge_command.Goals as goal
+
+pub returns : goal.returns
+returns c = search refusing

@@ -1,0 +1,13 @@
+use mathlib.Core.Path.{◌≡◌}
+use Prim.Native.Nat.{◌-◌, ◌≤◌}
+use lib.ListN.{length}
+use Rattle.store.specs.Layout.{cell}
+use Rattle.store.specs.View.{Is}
+use Rattle.bitmap.specs.Bitmap.{emptied}
+use Rattle.bitmap.proofs.clear.Given as goal
+
+abbrev pub invariant-loop-g : goal.invariant-loop-g
+invariant-loop-g l = (l.g ≤ l.k) × Is l.m (emptied l.b l.g (cell l.initial.m)) × (length l.m ≡ length l.initial.m)
+
+abbrev pub decreases-loop-g : goal.decreases-loop-g
+decreases-loop-g l = l.k - l.g

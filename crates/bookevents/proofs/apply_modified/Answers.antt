@@ -1,0 +1,14 @@
+use Rattle.bookevents.proofs.Changing.{changing}
+use Rattle.bookevents.proofs.apply_modified.Goals as goal
+
+pub reprice-requires : goal.reprice-requires
+reprice-requires c = search changing
+
+pub on_modified-requires : goal.on_modified-requires
+on_modified-requires c = search changing
+
+pub land-requires : goal.land-requires
+land-requires c = search changing
+
+pub returns : goal.returns
+returns c = search changing

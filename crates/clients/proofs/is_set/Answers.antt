@@ -1,0 +1,4 @@
+use Rattle.clients.proofs.is_set.Goals as goal
+
+pub returns : goal.returns
+returns c = cc

@@ -1,0 +1,4 @@
+use Rattle.clients.proofs.session_at.Goals as goal
+
+pub returns : goal.returns
+returns c = cc

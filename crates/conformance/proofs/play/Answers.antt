@@ -1,0 +1,13 @@
+use lib.ListN.{length-take}
+use native.Mathlib.Omega.{arith}
+use Rattle.conformance.proofs.Laws.{laws}
+use Rattle.conformance.proofs.play.Goals as goal
+
+pub slice_bounds-call-end-2 : goal.slice_bounds-call-end-2
+slice_bounds-call-end-2 c = simp length-take (omega arith)
+
+pub slice_bounds-call-end-4 : goal.slice_bounds-call-end-4
+slice_bounds-call-end-4 c = simp length-take (omega arith)
+
+pub returns : goal.returns
+returns c = search laws

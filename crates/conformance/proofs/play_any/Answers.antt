@@ -1,0 +1,8 @@
+use Rattle.conformance.proofs.Laws.{laws}
+use Rattle.conformance.proofs.play_any.Goals as goal
+
+pub returns-then-is_start : goal.returns-then-is_start
+returns-then-is_start c = search laws
+
+pub returns : goal.returns
+returns c = search laws

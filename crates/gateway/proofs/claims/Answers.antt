@@ -1,0 +1,5 @@
+use Rattle.gateway.proofs.Claimed.{claimed}
+use Rattle.gateway.proofs.claims.Goals as goal
+
+pub returns : goal.returns
+returns c = claimed

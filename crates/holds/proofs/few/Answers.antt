@@ -1,0 +1,5 @@
+use Rattle.holds.proofs.Judging.{judging}
+use Rattle.holds.proofs.few.Goals as goal
+
+pub returns : goal.returns
+returns c = search judging

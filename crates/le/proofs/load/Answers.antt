@@ -1,0 +1,12 @@
+use Rattle.le.proofs.Checked.{place}
+use mathlib.Core.Path.{sym, ◌∙◌}
+use Rattle.le.proofs.load.Goals as goal
+
+pub get-requires : goal.get-requires
+get-requires c = place _ _ _ (sym c.is_inside.ensures ∙ c.if-is_inside.true)
+
+pub returns-then-is_inside : goal.returns-then-is_inside
+returns-then-is_inside c = rw (← c.is_inside.ensures, c.if-is_inside.true, c.get.ensures)
+
+pub returns : goal.returns
+returns c = rw (← c.is_inside.ensures, c.if-is_inside.false)

@@ -1,0 +1,7 @@
+use Rattle.le.proofs.Laws.{put_split}
+use Rattle.le.proofs.put_u64.Goals as goal
+
+pub returns : goal.returns
+returns c =
+    let a = c.args in
+    cc (put_split 4 4 a.m.now a.o a.v)

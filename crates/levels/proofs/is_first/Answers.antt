@@ -1,0 +1,24 @@
+use mathlib.Core.Logic.{⊎_elim}
+use mathlib.Core.Path.{ap}
+use Prim.Native.Nat.{◌≤◌, ◌<◌}
+use native.Mathlib.Omega.{arith}
+use Rattle.store.specs.Layout.{cell}
+use Rattle.levels.specs.Levels.{key, row, used}
+use Rattle.levels.proofs.Laws.{laws, first_is, after_is}
+use Rattle.levels.proofs.is_first.Goals as goal
+
+-- where there is a row i, its key is not below
+not_low : (c : goal.Joined_i_n) → c.args.i < used c.args.side (cell c.args.m.now) → c.args.key ≤ (row c.args.side (cell c.args.m.now) c.args.i).key
+not_low c l =
+    ⊎_elim (λ w. omega (arith, w.3.left, ap key w.1.ensures)) (λ w. omega (arith, w.left, c.used-n.ensures)) c.if-i-n.branch
+
+pub returns-then-read_row-key : goal.returns-then-read_row-key
+returns-then-read_row-key c = search laws
+
+pub returns-then-i-eq0 : goal.returns-then-i-eq0
+returns-then-i-eq0 c =
+    first_is _ c.requires _ _ (omega (arith, c.if-n-i.false, c.used-n.ensures)) (not_low c) c.if-i-eq0.true
+
+pub returns : goal.returns
+returns c =
+    after_is _ c.requires _ _ (omega (arith, c.if-n-i.false, c.used-n.ensures)) (not_low c) _ c.if-i-eq0.false c.read_row-2.ensures

@@ -1,0 +1,6 @@
+use mathlib.Core.Path.{refl}
+use native.Mathlib.Omega.{arith}
+use Rattle.levels.proofs.listed.nth.Goals as goal
+
+pub returns-in-Buy : goal.returns-in-Buy
+returns-in-Buy c = rw c.enum_told-1.given.1 (refl, omega arith)

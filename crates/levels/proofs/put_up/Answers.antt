@@ -1,0 +1,5 @@
+use Rattle.levels.proofs.Laws.{laws}
+use Rattle.levels.proofs.put_up.Goals as goal
+
+pub returns : goal.returns
+returns c = search laws

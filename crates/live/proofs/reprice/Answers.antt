@@ -1,0 +1,17 @@
+use Rattle.live.proofs.Changes.{reads, row_fits, hold_as, needs_met, reprice_becomes}
+use Rattle.live.proofs.reprice.Goals as goal
+
+pub live_at-o-requires : goal.live_at-o-requires
+live_at-o-requires c = let p = c.requires in row_fits p.0 p.1
+
+pub leave-requires : goal.leave-requires
+leave-requires c =
+    let p = c.requires in
+    let a = reads p.1 c.live_at-o.ensures in
+    let n = needs_met p.0 a in
+    (n.0, n.1, n.2, n.3, n.4, n.5, hold_as a (λ o. 1) (λ o. c.args.price) _ _ p.2)
+
+pub returns : goal.returns
+returns c =
+    let p = c.requires in
+    reprice_becomes p.0 (reads p.1 c.live_at-o.ensures) _ _ c.leave.ensures

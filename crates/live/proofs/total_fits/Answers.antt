@@ -1,0 +1,6 @@
+use Rattle.store.specs.Layout.{cell}
+use Rattle.live.proofs.Laws.{one_fits}
+use Rattle.live.proofs.total_fits.Goals as goal
+
+pub returns : goal.returns
+returns c = one_fits (cell c.args.m.now) c.args.account c.args.side _ c.held_at-held.ensures c.total-total.result _ c.is_fit.ensures _ _ c.total-total.ensures

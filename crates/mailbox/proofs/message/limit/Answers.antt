@@ -1,0 +1,8 @@
+use mathlib.Core.Path.{ap, ◌∙◌}
+use Rattle.words.specs.Words.{word_of}
+use Rattle.words.proofs.Int.{read}
+use Rattle.mailbox.proofs.message.limit.Goals as goal
+
+pub returns-in-Some : goal.returns-in-Some
+returns-in-Some c =
+    rw c.p-1.given.1 (c.word.ensures ∙ ap word_of (read {x = c.p-1.given.0.0} c.known_told-1.given.0.1))

@@ -1,0 +1,19 @@
+use native.Mathlib.Omega.{arith}
+use Rattle.maps.proofs.Orders.{row_inside, done_none, removed_at, of_orders}
+use Rattle.maps.proofs.remove.Goals as goal
+
+pub retire-requires : goal.retire-requires
+retire-requires c = search of_orders
+
+pub overflow_add-result : goal.overflow_add-result
+overflow_add-result c =
+    let h = row_inside c.args.m.now c.args.number c.find_live.result c.i-1.given.0.0 c.find_live.ensures c.i-1.given.1 c.requires in
+    omega arith
+
+pub returns-in-At : goal.returns-in-At
+returns-in-At c =
+    removed_at c.args.m.now c.args.number c.find_live.result c.i-1.given.0.0 c.find_live.ensures c.i-1.given.1 c.requires c.retire.ensures
+
+pub returns-in-Nothing : goal.returns-in-Nothing
+returns-in-Nothing c =
+    done_none c.args.m.now c.args.number c.find_live.result c.find_live.ensures c.enum_told-1.given.1 _ c.requires

@@ -1,0 +1,19 @@
+use Rattle.marketdata.specs.Marketdata.{replenished}
+use Rattle.marketdata.proofs.Events.{read_asks, found_at, found_judged, found_becomes, nothing_becomes}
+use Rattle.marketdata.proofs.on_replenished.Goals as goal
+
+pub resting_at-o-requires : goal.resting_at-o-requires
+resting_at-o-requires c =
+    read_asks _ _ _ c.requires.0 _ c.requires.1 c.at-1.given.1
+
+pub replenished-requires : goal.replenished-requires
+replenished-requires c =
+    (c.requires.0, found_at _ _ _ c.requires.0 _ c.requires.1 c.at-1.given.1 _ c.resting_at-o.ensures, found_judged _ _ _ c.requires.0 _ c.requires.1 c.at-1.given.1 (replenished c.args.visible) c.requires.2)
+
+pub returns-in-At : goal.returns-in-At
+returns-in-At c =
+    found_becomes _ _ _ c.requires.0 _ c.requires.1 c.at-1.given.1 (replenished c.args.visible) c.replenished.ensures
+
+pub returns-in_default : goal.returns-in_default
+returns-in_default c =
+    nothing_becomes _ _ c.requires.0 _ c.requires.1 c.enum_told-1.given.1 (replenished c.args.visible)

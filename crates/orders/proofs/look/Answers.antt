@@ -1,0 +1,17 @@
+use Rattle.orders.proofs.Laws.{laws}
+use Rattle.orders.proofs.look.Goals as goal
+
+pub find-requires : goal.find-requires
+find-requires c = search laws
+
+pub half-live-requires : goal.half-live-requires
+half-live-requires c = search laws
+
+pub half-resting-requires : goal.half-resting-requires
+half-resting-requires c = search laws
+
+pub returns-in-At : goal.returns-in-At
+returns-in-At c = search laws
+
+pub returns : goal.returns
+returns c = search laws

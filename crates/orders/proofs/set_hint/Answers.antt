@@ -1,0 +1,5 @@
+use Rattle.orders.proofs.Laws.{laws}
+use Rattle.orders.proofs.set_hint.Goals as goal
+
+pub returns : goal.returns
+returns c = search laws

@@ -1,0 +1,5 @@
+use Rattle.outcome.proofs.Laws.{laws}
+use Rattle.outcome.proofs.set_clock.Goals as goal
+
+pub returns : goal.returns
+returns c = search laws

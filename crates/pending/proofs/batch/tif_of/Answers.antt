@@ -1,0 +1,18 @@
+use mathlib.Core.Path.{refl}
+use native.Mathlib.Omega.{arith}
+use borrow.Author.Tests.{ne_eqb}
+use Rattle.pending.proofs.batch.tif_of.Goals as goal
+
+pub returns-in-0 : goal.returns-in-0
+returns-in-0 c = rw c.in-0.keys1 refl
+
+pub returns-in-1 : goal.returns-in-1
+returns-in-1 c = rw c.in-1.keys2 refl
+
+pub returns-in-2 : goal.returns-in-2
+returns-in-2 c = rw c.in-2.keys3 refl
+
+pub returns-in_default : goal.returns-in_default
+returns-in_default c =
+    let n = c.args.n in
+    rw (ne_eqb n 0 (λ e. omega (arith, c.in_default.rest)), ne_eqb n 1 (λ e. omega (arith, c.in_default.rest)), ne_eqb n 2 (λ e. omega (arith, c.in_default.rest))) refl

@@ -1,0 +1,5 @@
+use Rattle.playing.proofs.Laws.{laws}
+use Rattle.playing.proofs.end.Goals as goal
+
+pub returns : goal.returns
+returns c = search laws

@@ -1,0 +1,5 @@
+use Rattle.redelivery.proofs.Events.{kinds}
+use Rattle.redelivery.proofs.rested.Goals as goal
+
+pub returns : goal.returns
+returns c = search kinds

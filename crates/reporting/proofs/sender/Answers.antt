@@ -1,0 +1,8 @@
+use Rattle.reporting.proofs.Laws.{reports}
+use Rattle.reporting.proofs.sender.Goals as goal
+
+pub returns-then-f-eq0 : goal.returns-then-f-eq0
+returns-then-f-eq0 c = search reports
+
+pub returns : goal.returns
+returns c = search reports

@@ -1,0 +1,6 @@
+use borrow.Author.Rules.{rules}
+use Rattle.restart.specs.Chain.{begun}
+use Rattle.restart.proofs.restore.Goals as goal
+
+pub returns : goal.returns
+returns c = search (rules, begun)

@@ -1,9 +1,0 @@
-use Rattle.risk.proofs.Meter.{claimed}
-use Rattle.risk.proofs.claims.Statement.{statement}
-use Rattle.risk.proofs.claims.Tie as tie
-
-returns : tie.Need-returns
-returns c = claimed
-
-pub claims-spec : {M : Type 1} → statement M
-claims-spec = tie.close (tie.spec returns)

@@ -1,0 +1,8 @@
+use Rattle.script.proofs.Tests.{tests}
+use Rattle.script.proofs.strict.are_bits.Goals as goal
+
+pub returns-then-is_bit : goal.returns-then-is_bit
+returns-then-is_bit c = search tests
+
+pub returns : goal.returns
+returns c = search tests

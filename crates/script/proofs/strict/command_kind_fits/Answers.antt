@@ -1,0 +1,17 @@
+use Rattle.script.proofs.Tests.{tests}
+use Rattle.script.proofs.strict.command_kind_fits.Goals as goal
+
+pub returns-in-0 : goal.returns-in-0
+returns-in-0 c = search tests
+
+pub returns-in-1 : goal.returns-in-1
+returns-in-1 c = search tests
+
+pub returns-in-4 : goal.returns-in-4
+returns-in-4 c = search tests
+
+pub returns-in-6 : goal.returns-in-6
+returns-in-6 c = search tests
+
+pub returns-in_default : goal.returns-in_default
+returns-in_default c = search tests

@@ -1,0 +1,8 @@
+use Rattle.sessions.proofs.Laws.{laws}
+use Rattle.sessions.proofs.is_free.Goals as goal
+
+pub returns-then-s-lt-SESSION_SLOTS : goal.returns-then-s-lt-SESSION_SLOTS
+returns-then-s-lt-SESSION_SLOTS c = search laws
+
+pub returns : goal.returns
+returns c = search laws

@@ -1,0 +1,31 @@
+use Rattle.table.proofs.Packed.{compacted_none, compacted_dead, compacted_live}
+use Rattle.table.proofs.Moves.{next, step}
+use native.Mathlib.Omega.{arith}
+use Prim.Native.Nat.{◌-◌, ◌<◌}
+use mathlib.Core.Path.{◌≡◌}
+use Rattle.table.proofs.compact.Goals as goal
+
+pub loop-i-init : goal.loop-i-init
+loop-i-init c = (omega arith, compacted_none _ _ _ _)
+
+pub mark_at-requires : goal.mark_at-requires
+mark_at-requires c =
+    omega (arith, step c.args.stride c.loop-i-test.true)
+
+pub move_row-requires : goal.move_row-requires
+move_row-requires c =
+    omega (arith, step c.args.stride c.loop-i-test.true, next c.args.stride c.loop-i.i)
+
+pub loop-i-preserved-then-mark_at-ne0 : goal.loop-i-preserved-then-mark_at-ne0
+loop-i-preserved-then-mark_at-ne0 c =
+    let h : 0 < c.mark_at.result = omega arith in
+    (omega arith, compacted_live c.loop-i.invariant.1 (rw c.mark_at.ensures at h) c.move_row.ensures)
+
+pub loop-i-preserved : goal.loop-i-preserved
+loop-i-preserved c =
+    (omega arith, compacted_dead c.loop-i.invariant.1 (rw c.mark_at.ensures at c.if-mark_at-ne0.false))
+
+pub returns : goal.returns
+returns c =
+    let e : c.loop-i.i ≡ c.args.n = omega arith in
+    rw e at c.loop-i.invariant.1

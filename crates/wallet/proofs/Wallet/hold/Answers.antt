@@ -1,0 +1,8 @@
+use Rattle.wallet.proofs.Laws.{laws}
+use Rattle.wallet.proofs.Wallet.hold.Goals as goal
+
+pub returns-in-Fits : goal.returns-in-Fits
+returns-in-Fits c = search laws
+
+pub returns-in-TooBig : goal.returns-in-TooBig
+returns-in-TooBig c = search laws
