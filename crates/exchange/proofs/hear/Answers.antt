@@ -18,7 +18,7 @@ returns-in-Cancel c = search laws
 
 pub returns-in-Modify : goal.returns-in-Modify
 returns-in-Modify c =
-    as_modify c.args.m.now c.args.out.now c.args.s c.args.time _ _ _ _ c.message-in-Modify-1.given.1 c.known_told-in-Modify-1.given.1.0.1 c.modify.ensures
+    as_modify c.args.m.now c.args.out.now c.args.s c.args.time _ _ _ _ c.in-Modify.is c.known_told-in-Modify-1.given.1.0.1 c.modify.ensures
 
 pub returns-in-MassCancel : goal.returns-in-MassCancel
 returns-in-MassCancel c = search laws

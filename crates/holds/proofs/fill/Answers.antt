@@ -8,19 +8,19 @@ live_at-o-requires c = search weighing
 
 pub traded-requires : goal.traded-requires
 traded-requires c =
-    change_needs _ c.requires.0 _ (Fill c.args.price c.args.qty c.args.leaves) _ c.requires.1 _ c.at-1.given.1 _ c.requires.2 c.ranges.new.fits
+    change_needs _ c.requires.0 _ (Fill c.args.price c.args.qty c.args.leaves) _ c.requires.1 _ c.in-At.is _ c.requires.2 c.ranges.new.fits
 
 pub notice-requires : goal.notice-requires
 notice-requires c =
-    money_needs _ c.requires.0 _ (Fill c.args.price c.args.qty c.args.leaves) _ c.requires.1 _ c.at-1.given.1 _ c.requires.2 _ c.live_at-o.ensures c.requires.3 c.traded.ensures
+    money_needs _ c.requires.0 _ (Fill c.args.price c.args.qty c.args.leaves) _ c.requires.1 _ c.in-At.is _ c.requires.2 _ c.live_at-o.ensures c.requires.3 c.traded.ensures
 
 pub notice_hold-requires : goal.notice_hold-requires
 notice_hold-requires c =
-    hold_needs _ c.requires.0 _ (Fill c.args.price c.args.qty c.args.leaves) _ c.requires.1 _ c.at-1.given.1 _ c.requires.2 _ c.live_at-o.ensures c.requires.3 c.traded.ensures c.notice.ensures
+    hold_needs _ c.requires.0 _ (Fill c.args.price c.args.qty c.args.leaves) _ c.requires.1 _ c.in-At.is _ c.requires.2 _ c.live_at-o.ensures c.requires.3 c.traded.ensures c.notice.ensures
 
 pub returns-in-At : goal.returns-in-At
 returns-in-At c =
-    row_moved _ c.requires.0 _ (Fill c.args.price c.args.qty c.args.leaves) _ c.requires.1 _ c.at-1.given.1 _ c.requires.2 _ c.live_at-o.ensures c.requires.3 c.traded.ensures c.notice.ensures c.notice_hold.ensures
+    row_moved _ c.requires.0 _ (Fill c.args.price c.args.qty c.args.leaves) _ c.requires.1 _ c.in-At.is _ c.requires.2 _ c.live_at-o.ensures c.requires.3 c.traded.ensures c.notice.ensures c.notice_hold.ensures
 
 pub returns-in_default : goal.returns-in_default
-returns-in_default c = nothing_moved _ c.requires.0 _ (Fill c.args.price c.args.qty c.args.leaves) _ c.requires.1 c.enum_told-1.given.1
+returns-in_default c = nothing_moved _ c.requires.0 _ (Fill c.args.price c.args.qty c.args.leaves) _ c.requires.1 c.in_default.is

@@ -12,11 +12,11 @@ retire-requires c = search weighing
 
 pub notice_hold-requires : goal.notice_hold-requires
 notice_hold-requires c =
-    hold_needs _ c.requires.0 _ Retire _ c.requires.1 _ c.at-1.given.1 0 (λ o e. int_zero) _ c.live_at-o.ensures c.requires.2 c.retire.ensures (quiet c.retire.ensures.becomes.state)
+    hold_needs _ c.requires.0 _ Retire _ c.requires.1 _ c.in-At.is 0 (λ o e. int_zero) _ c.live_at-o.ensures c.requires.2 c.retire.ensures (quiet c.retire.ensures.becomes.state)
 
 pub returns-in-At : goal.returns-in-At
 returns-in-At c =
-    row_moved _ c.requires.0 _ Retire _ c.requires.1 _ c.at-1.given.1 0 (λ o e. int_zero) _ c.live_at-o.ensures c.requires.2 c.retire.ensures (quiet c.retire.ensures.becomes.state) c.notice_hold.ensures
+    row_moved _ c.requires.0 _ Retire _ c.requires.1 _ c.in-At.is 0 (λ o e. int_zero) _ c.live_at-o.ensures c.requires.2 c.retire.ensures (quiet c.retire.ensures.becomes.state) c.notice_hold.ensures
 
 pub returns-in_default : goal.returns-in_default
-returns-in_default c = nothing_moved _ c.requires.0 _ Retire _ c.requires.1 c.enum_told-1.given.1
+returns-in_default c = nothing_moved _ c.requires.0 _ Retire _ c.requires.1 c.in_default.is

@@ -7,13 +7,13 @@ retire-requires c = search of_orders
 
 pub overflow_add-result : goal.overflow_add-result
 overflow_add-result c =
-    let h = row_inside c.args.m.now c.args.number c.find_live.result c.i-1.given.0.0 c.find_live.ensures c.i-1.given.1 c.requires in
+    let h = row_inside c.args.m.now c.args.number c.find_live.result c.in-At.i c.find_live.ensures c.in-At.is c.requires in
     omega arith
 
 pub returns-in-At : goal.returns-in-At
 returns-in-At c =
-    removed_at c.args.m.now c.args.number c.find_live.result c.i-1.given.0.0 c.find_live.ensures c.i-1.given.1 c.requires c.retire.ensures
+    removed_at c.args.m.now c.args.number c.find_live.result c.in-At.i c.find_live.ensures c.in-At.is c.requires c.retire.ensures
 
 pub returns-in-Nothing : goal.returns-in-Nothing
 returns-in-Nothing c =
-    done_none c.args.m.now c.args.number c.find_live.result c.find_live.ensures c.enum_told-1.given.1 _ c.requires
+    done_none c.args.m.now c.args.number c.find_live.result c.find_live.ensures c.in-Nothing.is _ c.requires

@@ -3,4 +3,4 @@ use Rattle.marketdata.proofs.row_for.Goals as goal
 
 pub returns-in-At : goal.returns-in-At
 returns-in-At c =
-    live_opens _ _ _ c.requires.0 c.requires.2 _ c.requires.1 c.at-1.given.1
+    live_opens _ _ _ c.requires.0 c.requires.2 _ c.requires.1 c.in-At.is

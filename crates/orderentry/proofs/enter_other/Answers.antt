@@ -10,11 +10,11 @@ refuse-requires c = let p = c.requires.0 in (p.between.state, p.slot, slot (exis
 
 pub push-requires : goal.push-requires
 push-requires c = let p = c.requires.0 in
-    let can = other_passes c.args.m.now c.args.out.now c.args.s c.args.a c.args.allowed c.args.k c.args.time _ _ c.take_token-t.ensures c.judge_other-v.ensures c.enum_told-1.given.1 in
+    let can = other_passes c.args.m.now c.args.out.now c.args.s c.args.a c.args.allowed c.args.k c.args.time _ _ c.take_token-t.ensures c.judge_other-v.ensures c.in-None.is in
     (p.between.state, p.slot, slot (exists p), can, c.requires.1)
 
 pub returns-in-Some : goal.returns-in-Some
-returns-in-Some c = other_refused c.args.m.now c.args.out.now c.args.s c.args.a c.args.allowed c.args.k c.args.time _ _ c.take_token-t.ensures c.judge_other-v.ensures _ _ _ _ c.v-1.given.1 c.refuse.ensures
+returns-in-Some c = other_refused c.args.m.now c.args.out.now c.args.s c.args.a c.args.allowed c.args.k c.args.time _ _ c.take_token-t.ensures c.judge_other-v.ensures _ _ _ _ c.in-Some.is c.refuse.ensures
 
 pub returns-in-None : goal.returns-in-None
-returns-in-None c = other_done c.args.m.now c.args.out.now c.args.s c.args.a c.args.allowed c.args.k c.args.time _ _ c.take_token-t.ensures c.judge_other-v.ensures c.enum_told-1.given.1 c.push.ensures
+returns-in-None c = other_done c.args.m.now c.args.out.now c.args.s c.args.a c.args.allowed c.args.k c.args.time _ _ c.take_token-t.ensures c.judge_other-v.ensures c.in-None.is c.push.ensures

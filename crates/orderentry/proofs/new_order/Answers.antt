@@ -14,11 +14,11 @@ refuse-requires c = let p = c.requires in (p.between.state, p.slot, slot (exists
 
 pub enter_new-requires : goal.enter_new-requires
 enter_new-requires c = let p = c.requires in
-    let room = new_passes c.args.m.now c.args.out.now c.args.s c.args.a c.args.order c.args.time _ _ c.take_token-t.ensures c.judge_new-v.ensures c.enum_told-1.given.1 in
+    let room = new_passes c.args.m.now c.args.out.now c.args.s c.args.a c.args.order c.args.time _ _ c.take_token-t.ensures c.judge_new-v.ensures c.in-None.is in
     (p.between.state, p.slot, slot (exists p), room, c.live_of-o.ensures)
 
 pub returns-in-Some : goal.returns-in-Some
-returns-in-Some c = new_refused c.args.m.now c.args.out.now c.args.s c.args.a c.args.order c.args.time _ _ c.take_token-t.ensures c.judge_new-v.ensures _ c.live_of-o.ensures c.requires _ _ _ _ c.v-1.given.1 c.refuse.ensures
+returns-in-Some c = new_refused c.args.m.now c.args.out.now c.args.s c.args.a c.args.order c.args.time _ _ c.take_token-t.ensures c.judge_new-v.ensures _ c.live_of-o.ensures c.requires _ _ _ _ c.in-Some.is c.refuse.ensures
 
 pub returns-in-None : goal.returns-in-None
-returns-in-None c = new_done c.args.m.now c.args.out.now c.args.s c.args.a c.args.order c.args.time _ _ c.take_token-t.ensures c.judge_new-v.ensures _ c.live_of-o.ensures c.requires c.enum_told-1.given.1 c.enter_new.ensures
+returns-in-None c = new_done c.args.m.now c.args.out.now c.args.s c.args.a c.args.order c.args.time _ _ c.take_token-t.ensures c.judge_new-v.ensures _ c.live_of-o.ensures c.requires c.in-None.is c.enter_new.ensures

@@ -5,12 +5,12 @@ use Rattle.ticks.proofs.visit.Goals as goal
 
 pub send-requires : goal.send-requires
 send-requires c =
-    let h = visit_room _ _ _ _ _ _ Beat c.word_at-clock.ensures c.due_at-d.ensures c.enum_told-in-Beat-1.given.1 c.requires.2 in
+    let h = visit_room _ _ _ _ _ _ Beat c.word_at-clock.ensures c.due_at-d.ensures c.in-Beat.is c.requires.2 in
     (c.requires.0, c.requires.1, omega arith)
 
 pub end-requires : goal.end-requires
 end-requires c =
-    let h = visit_room _ _ _ _ _ _ End c.word_at-clock.ensures c.due_at-d.ensures c.enum_told-in-End-1.given.1 c.requires.2 in
+    let h = visit_room _ _ _ _ _ _ End c.word_at-clock.ensures c.due_at-d.ensures c.in-End.is c.requires.2 in
     (c.requires.0, c.requires.1, omega arith)
 
 pub returns-in-Nothing : goal.returns-in-Nothing

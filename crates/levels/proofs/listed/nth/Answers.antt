@@ -3,4 +3,4 @@ use native.Mathlib.Omega.{arith}
 use Rattle.levels.proofs.listed.nth.Goals as goal
 
 pub returns-in-Buy : goal.returns-in-Buy
-returns-in-Buy c = rw c.enum_told-1.given.1 (refl, omega arith)
+returns-in-Buy c = rw c.in-Buy.is (refl, omega arith)

@@ -4,7 +4,7 @@ use Rattle.words.proofs.Int.{read}
 use Rattle.mailbox.proofs.message.cells.Goals as goal
 
 pub returns-in-Rejected : goal.returns-in-Rejected
-returns-in-Rejected c = rw (c.kind-1.given.1, c.reject_reason_code-w.ensures) refl
+returns-in-Rejected c = rw (c.in-Rejected.is, c.reject_reason_code-w.ensures) refl
 
 pub returns-in-Fill : goal.returns-in-Fill
 returns-in-Fill c =
@@ -22,7 +22,7 @@ returns-in-Replenished c =
     rw (f.1, c.side_code-s-in-Replenished.ensures, c.word-p-in-Replenished.ensures ∙ ap word_of (read {x = f.0.1.0} c.known_told-in-Replenished-1.given.1.0.1)) refl
 
 pub returns-in-Cancelled : goal.returns-in-Cancelled
-returns-in-Cancelled c = rw (c.kind-in-Cancelled-1.given.1, c.cancel_reason_code-w.ensures) refl
+returns-in-Cancelled c = rw (c.in-Cancelled.is, c.cancel_reason_code-w.ensures) refl
 
 pub returns-in-Modified : goal.returns-in-Modified
 returns-in-Modified c =
@@ -35,7 +35,7 @@ returns-in-StopPlaced c =
     rw (f.1, c.side_code-s-in-StopPlaced.ensures, c.word-t.ensures ∙ ap word_of (read {x = f.0.1.0} c.known_told-in-StopPlaced-1.given.1.0.1), c.flag-f.ensures, c.limit-p.ensures) refl
 
 pub returns-in-MassCancelled : goal.returns-in-MassCancelled
-returns-in-MassCancelled c = rw c.kind-in-MassCancelled-1.given.1 refl
+returns-in-MassCancelled c = rw c.in-MassCancelled.is refl
 
 pub returns-in-PhaseChanged : goal.returns-in-PhaseChanged
-returns-in-PhaseChanged c = rw (c.kind-in-PhaseChanged-1.given.1, c.phase_code-p.ensures) refl
+returns-in-PhaseChanged c = rw (c.in-PhaseChanged.is, c.phase_code-p.ensures) refl

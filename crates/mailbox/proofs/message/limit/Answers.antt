@@ -5,4 +5,4 @@ use Rattle.mailbox.proofs.message.limit.Goals as goal
 
 pub returns-in-Some : goal.returns-in-Some
 returns-in-Some c =
-    rw c.p-1.given.1 (c.word.ensures ∙ ap word_of (read {x = c.p-1.given.0.0} c.known_told-1.given.0.1))
+    rw c.in-Some.is (c.word.ensures ∙ ap word_of (read {x = c.in-Some.n} c.known_told-1.given.0.1))

@@ -2,31 +2,31 @@ use mathlib.Core.Path.{refl}
 use Rattle.mailbox.proofs.message.row_of.Goals as goal
 
 pub returns-in-LoginAccepted : goal.returns-in-LoginAccepted
-returns-in-LoginAccepted c = rw c.message-1.given.1 refl
+returns-in-LoginAccepted c = rw c.in-LoginAccepted.is refl
 
 pub returns-in-LoginRejected : goal.returns-in-LoginRejected
-returns-in-LoginRejected c = rw (c.message-in-LoginRejected-1.given.1, c.login_error_code-w.ensures) refl
+returns-in-LoginRejected c = rw (c.in-LoginRejected.is, c.login_error_code-w.ensures) refl
 
 pub returns-in-Heartbeat : goal.returns-in-Heartbeat
-returns-in-Heartbeat c = rw c.enum_told-1.given.1 refl
+returns-in-Heartbeat c = rw c.in-Heartbeat.is refl
 
 pub returns-in-Logout : goal.returns-in-Logout
-returns-in-Logout c = rw (c.message-in-Logout-1.given.1, c.logout_code-w.ensures) refl
+returns-in-Logout c = rw (c.in-Logout.is, c.logout_code-w.ensures) refl
 
 pub returns-in-Reject : goal.returns-in-Reject
-returns-in-Reject c = rw (c.message-in-Reject-1.given.1, c.reject_code-w.ensures) refl
+returns-in-Reject c = rw (c.in-Reject.is, c.reject_code-w.ensures) refl
 
 pub returns-in-Report : goal.returns-in-Report
-returns-in-Report c = rw c.message-in-Report-1.given.1 c.report.ensures
+returns-in-Report c = rw c.in-Report.is c.report.ensures
 
 pub returns-in-BookSnapshot : goal.returns-in-BookSnapshot
-returns-in-BookSnapshot c = rw c.message-in-BookSnapshot-1.given.1 refl
+returns-in-BookSnapshot c = rw c.in-BookSnapshot.is refl
 
 pub returns-in-LevelUpdate : goal.returns-in-LevelUpdate
-returns-in-LevelUpdate c = rw c.message-in-LevelUpdate-1.given.1 c.level.ensures
+returns-in-LevelUpdate c = rw c.in-LevelUpdate.is c.level.ensures
 
 pub returns-in-TradeTick : goal.returns-in-TradeTick
-returns-in-TradeTick c = rw c.message-in-TradeTick-1.given.1 c.trade.ensures
+returns-in-TradeTick c = rw c.in-TradeTick.is c.trade.ensures
 
 pub returns-in-Balance : goal.returns-in-Balance
-returns-in-Balance c = rw c.message-in-Balance-1.given.1 c.balance.ensures
+returns-in-Balance c = rw c.in-Balance.is c.balance.ensures

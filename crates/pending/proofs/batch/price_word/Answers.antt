@@ -4,8 +4,8 @@ use Rattle.words.specs.Words.{word_of}
 use Rattle.pending.proofs.batch.price_word.Goals as goal
 
 pub returns-in-None : goal.returns-in-None
-returns-in-None c = rw c.enum_told-1.given.1 (refl, tt)
+returns-in-None c = rw c.in-None.is (refl, tt)
 
 pub returns-in-Some : goal.returns-in-Some
 returns-in-Some c =
-    rw c.p-1.given.1 (c.word_of.ensures ∙ ap word_of (read {x = c.p-1.given.0.0} c.known_told-1.given.0.1), record { sfits = c.known_told-1.given.0.1 })
+    rw c.in-Some.is (c.word_of.ensures ∙ ap word_of (read {x = c.in-Some.n} c.known_told-1.given.0.1), record { sfits = c.known_told-1.given.0.1 })

@@ -14,11 +14,11 @@ returns-in-Limit c =
 
 pub returns-in-Market : goal.returns-in-Market
 unfolding owner_of
-returns-in-Market c = rw (c.c-in-Market-1.given.1, c.side_code-s-in-Market.ensures) (refl, record { owner_fits = omega (arith, c.known_told-in-Market-1.given.1.0); prices_fit = tt })
+returns-in-Market c = rw (c.in-Market.is, c.side_code-s-in-Market.ensures) (refl, record { owner_fits = omega (arith, c.known_told-in-Market-1.given.1.0); prices_fit = tt })
 
 pub returns-in-Cancel : goal.returns-in-Cancel
 unfolding owner_of
-returns-in-Cancel c = rw c.c-in-Cancel-1.given.1 (refl, record { owner_fits = omega (arith, c.known_told-in-Cancel-1.given.1.0); prices_fit = tt })
+returns-in-Cancel c = rw c.in-Cancel.is (refl, record { owner_fits = omega (arith, c.known_told-in-Cancel-1.given.1.0); prices_fit = tt })
 
 pub returns-in-Modify : goal.returns-in-Modify
 unfolding owner_of
@@ -36,8 +36,8 @@ returns-in-Stop c =
 
 pub returns-in-CancelAll : goal.returns-in-CancelAll
 unfolding owner_of
-returns-in-CancelAll c = rw c.c-in-CancelAll-1.given.1 (refl, record { owner_fits = omega (arith, c.known_told-in-CancelAll-1.given.0); prices_fit = tt })
+returns-in-CancelAll c = rw c.in-CancelAll.is (refl, record { owner_fits = omega (arith, c.known_told-in-CancelAll-1.given.0); prices_fit = tt })
 
 pub returns-in-SetPhase : goal.returns-in-SetPhase
 unfolding owner_of
-returns-in-SetPhase c = rw c.enum_told-1.given.1 (refl, record { owner_fits = omega arith; prices_fit = tt })
+returns-in-SetPhase c = rw c.in-SetPhase.is (refl, record { owner_fits = omega arith; prices_fit = tt })

@@ -1,7 +1,7 @@
 use Rattle.wallet.proofs.Wallet.held_on.Goals as goal
 
 pub returns-in-Buy : goal.returns-in-Buy
-returns-in-Buy c = rw c.enum_told-1.given.1
+returns-in-Buy c = rw c.in-Buy.is
 
 pub returns-in-Sell : goal.returns-in-Sell
-returns-in-Sell c = rw c.enum_told-in-Sell-1.given.1
+returns-in-Sell c = rw c.in-Sell.is
