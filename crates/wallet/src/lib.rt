@@ -33,8 +33,8 @@ fn charge_exactly(fee: u64, price: u64, qty: u64) -> Amount
 
 // The same. The fee and the price are small where `highest` and `bound` are.
 fn charge_within(highest: u64, bound: u64, fee: u64, price: u64, qty: u64) -> Amount
-    requires fact_1 { (highest < W.small → fee < W.small) }
-    requires fact_2 { (bound < W.small → price < W.small) }
+    requires fee_small { (highest < W.small → fee < W.small) }
+    requires price_small { (bound < W.small → price < W.small) }
     ensures { amount result ≡ W.cost (int price +ℤ int fee) qty }
 {
     if highest < SMALL {

@@ -19,10 +19,10 @@ fits : (p f q : ℕ) → p < W.small → f < W.small → q < W.small → some (i
 fits p f q h g k = fits_pos ((p + f) * q) (small p f q h g k) ∙ (λ i. fit ((sym (low p (omega arith)) i +ℤ sym (low f (omega arith)) i) *ℤ pos q))
 
 pub overflow_add-amount : goal.overflow_add-amount
-overflow_add-amount c = omega (arith, c.requires.1 c.if-bound-lt-SMALL.true, c.requires.0 c.if-highest-lt-SMALL.true)
+overflow_add-amount c = omega (arith, c.requires.price_small c.if-bound-lt-SMALL.true, c.requires.fee_small c.if-highest-lt-SMALL.true)
 
 pub overflow_mul-amount : goal.overflow_mul-amount
-overflow_mul-amount c = omega (arith, small _ _ _ (c.requires.1 c.if-bound-lt-SMALL.true) (c.requires.0 c.if-highest-lt-SMALL.true) c.if-qty-lt-SMALL.true)
+overflow_mul-amount c = omega (arith, small _ _ _ (c.requires.price_small c.if-bound-lt-SMALL.true) (c.requires.fee_small c.if-highest-lt-SMALL.true) c.if-qty-lt-SMALL.true)
 
 pub returns-then-qty-lt-SMALL : goal.returns-then-qty-lt-SMALL
-returns-then-qty-lt-SMALL c = fits _ _ _ (c.requires.1 c.if-bound-lt-SMALL.true) (c.requires.0 c.if-highest-lt-SMALL.true) c.if-qty-lt-SMALL.true
+returns-then-qty-lt-SMALL c = fits _ _ _ (c.requires.price_small c.if-bound-lt-SMALL.true) (c.requires.fee_small c.if-highest-lt-SMALL.true) c.if-qty-lt-SMALL.true
