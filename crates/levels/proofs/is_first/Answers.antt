@@ -8,7 +8,7 @@ use Rattle.levels.proofs.Laws.{laws, first_is, after_is}
 use Rattle.levels.proofs.is_first.Goals as goal
 
 -- where there is a row i, its key is not below
-not_low : (c : goal.Joined_i_n) → c.args.i < used c.args.side (cell c.args.m.now) → c.args.key ≤ (row c.args.side (cell c.args.m.now) c.args.i).key
+not_low : (c : goal.Joined-i-n) → c.args.i < used c.args.side (cell c.args.m.now) → c.args.key ≤ (row c.args.side (cell c.args.m.now) c.args.i).key
 not_low c l =
     ⊎_elim (λ w. omega (arith, w.3.left, ap key w.1.ensures)) (λ w. omega (arith, w.left, c.used-n.ensures)) c.if-i-n.branch
 

@@ -4,7 +4,7 @@ use native.Mathlib.Omega.{arith}
 use Rattle.risk.specs.Throttle.{burst, filled}
 use Rattle.risk.proofs.filled.Goals as goal
 
-gain : (c : goal.Else_tokens_burst) → c.args.rate * c.args.elapsed ≤ burst c.args.rate
+gain : (c : goal.Else-tokens-burst) → c.args.rate * c.args.elapsed ≤ burst c.args.rate
 gain c = mul-le-mul_left c.args.rate (omega arith)
 
 pub returns-then-elapsed-ge-TOKEN : goal.returns-then-elapsed-ge-TOKEN

@@ -5,7 +5,7 @@ use native.Mathlib.Omega.{arith}
 use Rattle.table_test.proofs.remove.Goals as goal
 
 -- in the arm of `At i`: what `find` says of i
-at_i : (c : goal.In_At_2) → Finds (key_at 8 24 c.args.m.now) (mark_at 8 24 16 c.args.m.now) c.size-n.result c.args.k (At c.in-At.i)
+at_i : (c : goal.In-At-2) → Finds (key_at 8 24 c.args.m.now) (mark_at 8 24 16 c.args.m.now) c.size-n.result c.args.k (At c.in-At.i)
 at_i c = rw c.in-At.is at c.find.ensures
 
 pub find-requires : goal.find-requires
