@@ -6,7 +6,7 @@ use Rattle.store.specs.View.{listed}
 use Rattle.store.proofs.read.Given as goal
 
 abbrev pub invariant-loop-j : goal.invariant-loop-j
-invariant-loop-j l = (l.j ≤ length l.vs) × (take l.j l.vs ≡ listed (λ l. cell l.m l.b l.i (l.k + l)) l.j) × (length l.vs ≡ length l.initial.vs)
+invariant-loop-j it = (it.j ≤ length it.vs) × (take it.j it.vs ≡ listed (λ l. cell it.m it.b it.i (it.k + l)) it.j) × (length it.vs ≡ length it.initial.vs)
 
 abbrev pub decreases-loop-j : goal.decreases-loop-j
-decreases-loop-j l = length l.initial.vs - l.j
+decreases-loop-j it = length it.initial.vs - it.j
