@@ -125,7 +125,7 @@ abbrev within : ℕ → List (ℕ × ℕ) → Bool
 within w [] = true
 within w (c ∷ cs) = ltb c.0 w && within w cs
 
-after_sets : {xs zs : List ℕ} {s : Store} {b i : ℕ} {cs : List (ℕ × ℕ)} → b < blocks → i < rows b → within (width b) cs ≡ true →
+after_sets : {b i : ℕ} {xs zs : List ℕ} {s : Store} {cs : List (ℕ × ℕ)} → b < blocks → i < rows b → within (width b) cs ≡ true →
     Is xs s → Sets b i xs cs zs → Is zs (put_cells b i cs s)
 unfolding put_cells
 after_sets h l t p no_sets = p

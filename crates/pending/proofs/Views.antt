@@ -172,7 +172,8 @@ unfolding listed
 drop_run g h zero k zero = refl
 drop_run g h zero k (suc m) =
     let e : zero + suc m ≡ suc m = omega arith in
-    rw (e, add-zero k, listed_cons (λ j. g (k + j)) m, le-ltb (g (k + 0)).number k (rw (h (k + 0)) (omega arith))) refl
+    rw (e, listed_cons (λ j. g (k + j)) m, le-ltb (g (k + 0)).number (k + zero) (rw (h (k + 0)) (omega arith)))
+    (sym (listed_cons (λ j. g (k + j)) m) ∙ listed_ext (λ j. g (k + zero + j)) (λ j. g (k + j)) (suc m) (λ j l. ap g (let q : k + j ≡ k + zero + j = omega arith in q)))
 drop_run g h (suc d) k m =
     let e : suc d + m ≡ suc (d + m) = omega arith in
     let p : k + suc d ≡ suc k + d = omega arith in

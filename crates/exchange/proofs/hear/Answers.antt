@@ -1,4 +1,5 @@
 use Rattle.exchange.proofs.Laws.{laws, as_modify}
+use borrow.Author.Rules.{rules}
 use Rattle.exchange.proofs.hear.Goals as goal
 
 pub log_in_again-requires : goal.log_in_again-requires
@@ -18,7 +19,7 @@ returns-in-Cancel c = search laws
 
 pub returns-in-Modify : goal.returns-in-Modify
 returns-in-Modify c =
-    as_modify c.args.m.now c.args.out.now c.args.s c.args.time _ _ _ _ c.in-Modify.is c.known_told-in-Modify-1.given.1.0.1 c.modify.ensures
+    as_modify c.args.m.now c.args.out.now c.args.s c.args.time _ _ _ _ c.in-Modify.is (search rules) c.modify.ensures
 
 pub returns-in-MassCancel : goal.returns-in-MassCancel
 returns-in-MassCancel c = search laws

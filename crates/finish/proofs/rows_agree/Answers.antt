@@ -17,12 +17,12 @@ row_agrees-requires c = (c.requires, omega arith)
 
 pub returns-then-not-row_agrees : goal.returns-then-not-row_agrees
 returns-then-not-row_agrees c =
-    one_differs _ _ (c.loop-j.j - 1) (omega arith) _ c.row_agrees.ensures (not-true _ c.if-not-row_agrees.true)
+    one_differs _ _ (c.loop-j.j - 1) (omega arith) _ c.row_agrees.ensures c.if-not-row_agrees.true
 
 pub loop-j-preserved : goal.loop-j-preserved
 loop-j-preserved c =
     let e : c.loop-j.j - 1 + 1 ≡ c.loop-j.j = omega arith in
-    (omega arith, more_agree _ _ (c.loop-j.j - 1) (omega arith) _ c.row_agrees.ensures (not-false _ c.if-not-row_agrees.false) (rw e c.loop-j.invariant.1))
+    (omega arith, more_agree _ _ (c.loop-j.j - 1) (omega arith) _ c.row_agrees.ensures c.if-not-row_agrees.false (rw e c.loop-j.invariant.1))
 
 pub returns : goal.returns
 returns c =

@@ -6,11 +6,12 @@ use Rattle.store.specs.Layout.{cell}
 use Rattle.levels.specs.Levels.{key, row, used}
 use Rattle.levels.proofs.Laws.{laws, first_is, after_is}
 use Rattle.levels.proofs.is_first.Goals as goal
+use Rattle.levels.proofs.is_first.Goals.{Joined-i-n, then-i-n+else-read_row-key, else-i-n}
 
 -- where there is a row i, its key is not below
-not_low : (c : goal.Joined-i-n) → c.args.i < used c.args.side (cell c.args.m.now) → c.args.key ≤ (row c.args.side (cell c.args.m.now) c.args.i).key
+not_low : (c : Joined-i-n) → c.args.i < used c.args.side (cell c.args.m.now) → c.args.key ≤ (row c.args.side (cell c.args.m.now) c.args.i).key
 not_low c l =
-    ⊎_elim (λ w. omega (arith, w.3.left, ap key w.1.ensures)) (λ w. omega (arith, w.left, c.used-n.ensures)) c.if-i-n.branch
+    elim c.if-i-n.branch [ then-i-n+else-read_row-key w ↦ omega (arith, w.if-read_row-key.false, ap key w.read_row.ensures) | else-i-n w ↦ omega (arith, w.if-i-n.false, c.used-n.ensures) ]
 
 pub returns-then-read_row-key : goal.returns-then-read_row-key
 returns-then-read_row-key c = search laws

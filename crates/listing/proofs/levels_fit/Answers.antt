@@ -17,10 +17,10 @@ row_fits-requires c =
 
 pub returns-then-not-row_fits : goal.returns-then-not-row_fits
 returns-then-not-row_fits c =
-    unfit _ (c.loop-j.j - 1) (omega arith) _ c.row_fits.ensures (not-true _ c.if-not-row_fits.true)
+    unfit _ (c.loop-j.j - 1) (omega arith) _ c.row_fits.ensures c.if-not-row_fits.true
 
 pub loop-j-preserved : goal.loop-j-preserved
-loop-j-preserved c = (omega arith, sym c.row_fits.ensures ∙ not-false _ c.if-not-row_fits.false)
+loop-j-preserved c = (omega arith, sym c.row_fits.ensures ∙ c.if-not-row_fits.false)
 
 pub returns : goal.returns
 returns c =

@@ -13,12 +13,12 @@ loop-j-init c = let e = c.rows-j.ensures in (omega arith, ap (all_fit (entry_fit
 pub returns-then-not-entry_fits : goal.returns-then-not-entry_fits
 returns-then-not-entry_fits c =
     let e : c.loop-j.j ≡ c.loop-j.j - 1 + 1 = omega arith in
-    fits_not _ (c.loop-j.j - 1) _ _ (c.entry_fits.ensures ∙ ap entry_fits c.entry_at-e.ensures) (rw e at c.loop-j.invariant.1) (not-true _ c.if-not-entry_fits.true)
+    fits_not _ (c.loop-j.j - 1) _ _ (c.entry_fits.ensures ∙ ap entry_fits c.entry_at-e.ensures) (rw e at c.loop-j.invariant.1) c.if-not-entry_fits.true
 
 pub loop-j-preserved : goal.loop-j-preserved
 loop-j-preserved c =
     let e : c.loop-j.j ≡ c.loop-j.j - 1 + 1 = omega arith in
-    (omega arith, fits_too _ (c.loop-j.j - 1) _ _ (c.entry_fits.ensures ∙ ap entry_fits c.entry_at-e.ensures) (rw e at c.loop-j.invariant.1) (not-false _ c.if-not-entry_fits.false))
+    (omega arith, fits_too _ (c.loop-j.j - 1) _ _ (c.entry_fits.ensures ∙ ap entry_fits c.entry_at-e.ensures) (rw e at c.loop-j.invariant.1) c.if-not-entry_fits.false)
 
 pub returns : goal.returns
 returns c =

@@ -15,13 +15,13 @@ pub returns-then-not-fits : goal.returns-then-not-fits
 returns-then-not-fits c =
     let i = c.loop-i.invariant in
     let s = c.args in
-    slot_fails (int s.fee) s.t4 (orders_in s.from s.list.now) c.loop-i.i c.loop-i-test.true i.1 i.0 _ c.slot_fits-fits.ensures (not-true _ c.if-not-fits.true)
+    slot_fails (int s.fee) s.t4 (orders_in s.from s.list.now) c.loop-i.i c.loop-i-test.true i.1 i.0 _ c.slot_fits-fits.ensures c.if-not-fits.true
 
 pub loop-i-preserved : goal.loop-i-preserved
 loop-i-preserved c =
     let i = c.loop-i.invariant in
     let s = c.args in
-    (slot_fine (int s.fee) s.t4 (orders_in s.from s.list.now) c.loop-i.i c.loop-i-test.true i.1 i.0 _ c.slot_fits-fits.ensures (not-false _ c.if-not-fits.false), omega (arith, i.1))
+    (slot_fine (int s.fee) s.t4 (orders_in s.from s.list.now) c.loop-i.i c.loop-i-test.true i.1 i.0 _ c.slot_fits-fits.ensures c.if-not-fits.false, omega (arith, i.1))
 
 pub returns : goal.returns
 returns c =

@@ -1,6 +1,7 @@
 use mathlib.Core.Path.{refl, ap, ◌∙◌}
 use Rattle.words.specs.Words.{word_of}
 use Rattle.words.proofs.Int.{read}
+use borrow.Author.Rules.{rules}
 use Rattle.mailbox.proofs.message.cells.Goals as goal
 
 pub returns-in-Rejected : goal.returns-in-Rejected
@@ -8,31 +9,26 @@ returns-in-Rejected c = rw (c.in-Rejected.is, c.reject_reason_code-w.ensures) re
 
 pub returns-in-Fill : goal.returns-in-Fill
 returns-in-Fill c =
-    let f = c.kind-in-Fill-1.given in
-    rw (f.1, c.side_code-s.ensures, c.word-p.ensures ∙ ap word_of (read {x = f.0.1.1.0} c.known_told-in-Fill-1.given.1.1.0.1)) refl
+    rw (c.in-Fill.is, c.side_code-s.ensures, c.word-p.ensures ∙ ap word_of (read {x = c.in-Fill.price} (search rules))) refl
 
 pub returns-in-Rested : goal.returns-in-Rested
 returns-in-Rested c =
-    let f = c.kind-in-Rested-1.given in
-    rw (f.1, c.side_code-s-in-Rested.ensures, c.word-p-in-Rested.ensures ∙ ap word_of (read {x = f.0.1.0} c.known_told-in-Rested-1.given.1.0.1)) refl
+    rw (c.in-Rested.is, c.side_code-s-in-Rested.ensures, c.word-p-in-Rested.ensures ∙ ap word_of (read {x = c.in-Rested.price} (search rules))) refl
 
 pub returns-in-Replenished : goal.returns-in-Replenished
 returns-in-Replenished c =
-    let f = c.kind-in-Replenished-1.given in
-    rw (f.1, c.side_code-s-in-Replenished.ensures, c.word-p-in-Replenished.ensures ∙ ap word_of (read {x = f.0.1.0} c.known_told-in-Replenished-1.given.1.0.1)) refl
+    rw (c.in-Replenished.is, c.side_code-s-in-Replenished.ensures, c.word-p-in-Replenished.ensures ∙ ap word_of (read {x = c.in-Replenished.price} (search rules))) refl
 
 pub returns-in-Cancelled : goal.returns-in-Cancelled
 returns-in-Cancelled c = rw (c.in-Cancelled.is, c.cancel_reason_code-w.ensures) refl
 
 pub returns-in-Modified : goal.returns-in-Modified
 returns-in-Modified c =
-    let f = c.kind-in-Modified-1.given in
-    rw (f.1, c.word-p-in-Modified.ensures ∙ ap word_of (read {x = f.0.0} c.known_told-in-Modified-1.given.0.1)) refl
+    rw (c.in-Modified.is, c.word-p-in-Modified.ensures ∙ ap word_of (read {x = c.in-Modified.price} (search rules))) refl
 
 pub returns-in-StopPlaced : goal.returns-in-StopPlaced
 returns-in-StopPlaced c =
-    let f = c.kind-in-StopPlaced-1.given in
-    rw (f.1, c.side_code-s-in-StopPlaced.ensures, c.word-t.ensures ∙ ap word_of (read {x = f.0.1.0} c.known_told-in-StopPlaced-1.given.1.0.1), c.flag-f.ensures, c.limit-p.ensures) refl
+    rw (c.in-StopPlaced.is, c.side_code-s-in-StopPlaced.ensures, c.word-t.ensures ∙ ap word_of (read {x = c.in-StopPlaced.trigger} (search rules)), c.flag-f.ensures, c.limit-p.ensures) refl
 
 pub returns-in-MassCancelled : goal.returns-in-MassCancelled
 returns-in-MassCancelled c = rw c.in-MassCancelled.is refl

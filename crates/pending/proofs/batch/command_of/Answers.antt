@@ -25,8 +25,3 @@ pub returns-in-4 : goal.returns-in-4
 returns-in-4 c =
     rw (c.in-4.is, c.side_of-side.ensures, read {x = c.to_i64-in-4.result} c.to_i64-in-4.type_inv ∙ c.to_i64-in-4.ensures, c.price_of.ensures) refl
 
-pub returns-in_default : goal.returns-in_default
-returns-in_default c =
-    let n = get_or c.args.t1 0 0 in
-    let ne : (j : ℕ) → j < 5 → eqb n j ≡ false = λ j l. ne_eqb n j (λ e. omega (arith, c.in_default.rest)) in
-    rw (ne 0 (omega arith), ne 1 (omega arith), ne 2 (omega arith), ne 3 (omega arith), ne 4 (omega arith)) refl

@@ -12,7 +12,3 @@ returns-in-1 c = rw c.in-1.is refl
 pub returns-in-2 : goal.returns-in-2
 returns-in-2 c = rw c.in-2.is refl
 
-pub returns-in_default : goal.returns-in_default
-returns-in_default c =
-    let n = c.args.n in
-    rw (ne_eqb n 0 (λ e. omega (arith, c.in_default.rest)), ne_eqb n 1 (λ e. omega (arith, c.in_default.rest)), ne_eqb n 2 (λ e. omega (arith, c.in_default.rest))) refl

@@ -12,12 +12,12 @@ loop-j-init c = let e = c.account_rows-j.ensures in (omega arith, ap (all_fit (i
 pub returns-then-not-is_account_at : goal.returns-then-not-is_account_at
 returns-then-not-is_account_at c =
     let e : c.loop-j.j ≡ c.loop-j.j - 1 + 1 = omega arith in
-    fits_not _ (c.loop-j.j - 1) _ _ c.is_account_at.ensures (rw e at c.loop-j.invariant.1) (not-true _ c.if-not-is_account_at.true)
+    fits_not _ (c.loop-j.j - 1) _ _ c.is_account_at.ensures (rw e at c.loop-j.invariant.1) c.if-not-is_account_at.true
 
 pub loop-j-preserved : goal.loop-j-preserved
 loop-j-preserved c =
     let e : c.loop-j.j ≡ c.loop-j.j - 1 + 1 = omega arith in
-    (omega arith, fits_too _ (c.loop-j.j - 1) _ _ c.is_account_at.ensures (rw e at c.loop-j.invariant.1) (not-false _ c.if-not-is_account_at.false))
+    (omega arith, fits_too _ (c.loop-j.j - 1) _ _ c.is_account_at.ensures (rw e at c.loop-j.invariant.1) c.if-not-is_account_at.false)
 
 pub returns : goal.returns
 returns c =
