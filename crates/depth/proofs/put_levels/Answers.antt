@@ -25,7 +25,7 @@ loop-i-smaller c = omega (arith, c.loop-i-test.true)
 
 pub loop-i-preserved : goal.loop-i-preserved
 loop-i-preserved c = (
-  one_put c.args.t1 c.loop-i.i c.args.out.now c.loop-i.out _ (omega (arith, c.loop-i-test.true, c.requires.0, c.well-formed.0.1.0.1)) c.loop-i.invariant.0 c.put_level.ensures (search rules),
+  one_put c.args.t1 c.loop-i.i c.args.out.now c.loop-i.out _ (omega (arith, c.loop-i-test.true, c.requires.0, c.well_formed.0.1.0.1)) c.loop-i.invariant.0 c.put_level.ensures (search rules),
   omega (arith, c.loop-i-test.true),
 )
 

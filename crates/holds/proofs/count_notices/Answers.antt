@@ -1,7 +1,7 @@
-use mathlib.Core.Logic.{⊎_elim}
 use mathlib.Core.Path.{◌∙◌}
 use Rattle.holds.proofs.Weighing.{weighing}
 use Rattle.holds.proofs.count_notices.Goals as goal
+use Rattle.holds.proofs.count_notices.Goals.{then-old-new, else-old-new}
 
 pub returns-then-funded : goal.returns-then-funded
-returns-then-funded c = ⊎_elim (λ w. w.1 ∙ search weighing) (λ w. w.1 ∙ search weighing) c.if-old-new.branch
+returns-then-funded c = elim c.if-old-new.branch [ then-old-new w ↦ w.notices-is ∙ search weighing | else-old-new w ↦ w.notices-is ∙ search weighing ]

@@ -10,11 +10,11 @@ loop-j-init c = (passed_first flags_ok order_widths c.args.xs.now c.args.o c.arg
 
 pub returns-then-not-order_fits : goal.returns-then-not-order_fits
 returns-then-not-order_fits c =
-    passed_not flags_ok order_widths c.args.xs.now c.args.o c.args.n c.loop-j.j c.loop-j-test.true c.loop-j.invariant.0 c.order_fits.result c.order_fits.ensures (not-true _ c.if-not-order_fits.true)
+    passed_not flags_ok order_widths c.args.xs.now c.args.o c.args.n c.loop-j.j c.loop-j-test.true c.loop-j.invariant.0 c.order_fits.result c.order_fits.ensures c.if-not-order_fits.true
 
 pub loop-j-preserved : goal.loop-j-preserved
 loop-j-preserved c =
-    (passed_next flags_ok order_widths c.args.xs.now c.args.o c.args.n c.loop-j.j c.loop-j-test.true c.loop-j.invariant.0 c.order_fits.result c.order_fits.ensures (not-false _ c.if-not-order_fits.false), omega (arith, c.loop-j-test.true))
+    (passed_next flags_ok order_widths c.args.xs.now c.args.o c.args.n c.loop-j.j c.loop-j-test.true c.loop-j.invariant.0 c.order_fits.result c.order_fits.ensures c.if-not-order_fits.false, omega (arith, c.loop-j-test.true))
 
 pub returns : goal.returns
 returns c =

@@ -12,11 +12,11 @@ loop-j-init c = (passed_first (λ x. true) wallet_widths c.args.xs.now wallets_s
 
 pub returns-then-not-wallet_rises : goal.returns-then-not-wallet_rises
 returns-then-not-wallet_rises c =
-    passed_not (λ x. true) wallet_widths c.args.xs.now wallets_start c.args.n c.loop-j.j c.loop-j-test.true c.loop-j.invariant.0 c.wallet_rises.result c.wallet_rises.ensures (not-true _ c.if-not-wallet_rises.true)
+    passed_not (λ x. true) wallet_widths c.args.xs.now wallets_start c.args.n c.loop-j.j c.loop-j-test.true c.loop-j.invariant.0 c.wallet_rises.result c.wallet_rises.ensures c.if-not-wallet_rises.true
 
 pub loop-j-preserved : goal.loop-j-preserved
 loop-j-preserved c =
-    (passed_next (λ x. true) wallet_widths c.args.xs.now wallets_start c.args.n c.loop-j.j c.loop-j-test.true c.loop-j.invariant.0 c.wallet_rises.result c.wallet_rises.ensures (not-false _ c.if-not-wallet_rises.false), omega (arith, c.loop-j-test.true))
+    (passed_next (λ x. true) wallet_widths c.args.xs.now wallets_start c.args.n c.loop-j.j c.loop-j-test.true c.loop-j.invariant.0 c.wallet_rises.result c.wallet_rises.ensures c.if-not-wallet_rises.false, omega (arith, c.loop-j-test.true))
 
 pub returns : goal.returns
 returns c =
