@@ -19,16 +19,16 @@ judge_changed-code-requires c =
 
 pub returns-then-code-ne0 : goal.returns-then-code-ne0
 returns-then-code-ne0 c =
-    cancelled_refused c.args.m.now c.args.out.now c.args.n c.args.id c.requires _ _ c.owner-t.ensures _ _ c.room.ensures (by_weight _ _ _ _ _ _ _ _ c.weigh-h.result c.owner-t.result c.fits2.ensures c.few-few.ensures c.rows-k.ensures.0 c.judge_changed-code.ensures) _ _ (c.weigh-h.ensures Retire refl (λ c q. int_zero)) c.if-code-ne0.true
+    cancelled_refused c.args.m.now c.args.out.now c.args.n c.args.id c.requires _ _ c.owner-t.ensures _ _ c.room.ensures (by_weight _ _ _ _ _ _ _ _ c.weigh-h.result c.owner-t.result c.fits-fits.ensures c.few-few.ensures c.rows-k.ensures.0 c.judge_changed-code.ensures) _ _ (c.weigh-h.ensures Retire refl (λ c q. int_zero)) c.if-code-ne0.true
 
 pub apply_cancelled-requires : goal.apply_cancelled-requires
 apply_cancelled-requires c =
-    (c.requires.state, c.look-at.ensures.0, c.look-at.ensures.1, can_cancel c.args.m.now c.args.out.now c.args.n c.args.id c.requires _ _ c.owner-t.ensures _ _ c.room.ensures (by_weight _ _ _ _ _ _ _ _ c.weigh-h.result c.owner-t.result c.fits2.ensures c.few-few.ensures c.rows-k.ensures.0 c.judge_changed-code.ensures) (c.weigh-h.ensures Retire refl (λ c q. int_zero)) c.if-code-ne0.false)
+    (c.requires.state, c.look-at.ensures.0, c.look-at.ensures.1, can_cancel c.args.m.now c.args.out.now c.args.n c.args.id c.requires _ _ c.owner-t.ensures _ _ c.room.ensures (by_weight _ _ _ _ _ _ _ _ c.weigh-h.result c.owner-t.result c.fits-fits.ensures c.few-few.ensures c.rows-k.ensures.0 c.judge_changed-code.ensures) (c.weigh-h.ensures Retire refl (λ c q. int_zero)) c.if-code-ne0.false)
 
 pub report-requires : goal.report-requires
 report-requires c =
-    (c.apply_cancelled.ensures.state, c.owner-t.ensures.slot, cancel_room c.args.m.now c.args.out.now c.args.n c.args.id c.requires _ _ c.owner-t.ensures _ _ c.room.ensures (by_weight _ _ _ _ _ _ _ _ c.weigh-h.result c.owner-t.result c.fits2.ensures c.few-few.ensures c.rows-k.ensures.0 c.judge_changed-code.ensures) (c.weigh-h.ensures Retire refl (λ c q. int_zero)) c.if-code-ne0.false)
+    (c.apply_cancelled.ensures.state, c.owner-t.ensures.slot, cancel_room c.args.m.now c.args.out.now c.args.n c.args.id c.requires _ _ c.owner-t.ensures _ _ c.room.ensures (by_weight _ _ _ _ _ _ _ _ c.weigh-h.result c.owner-t.result c.fits-fits.ensures c.few-few.ensures c.rows-k.ensures.0 c.judge_changed-code.ensures) (c.weigh-h.ensures Retire refl (λ c q. int_zero)) c.if-code-ne0.false)
 
 pub returns : goal.returns
 returns c =
-    cancelled_done c.args.m.now c.args.out.now c.args.n c.args.id c.requires _ _ c.owner-t.ensures _ _ c.room.ensures (by_weight _ _ _ _ _ _ _ _ c.weigh-h.result c.owner-t.result c.fits2.ensures c.few-few.ensures c.rows-k.ensures.0 c.judge_changed-code.ensures) _ _ (c.weigh-h.ensures Retire refl (λ c q. int_zero)) _ c.if-code-ne0.false c.rows-k.ensures.0 c.apply_cancelled.ensures c.report.ensures
+    cancelled_done c.args.m.now c.args.out.now c.args.n c.args.id c.requires _ _ c.owner-t.ensures _ _ c.room.ensures (by_weight _ _ _ _ _ _ _ _ c.weigh-h.result c.owner-t.result c.fits-fits.ensures c.few-few.ensures c.rows-k.ensures.0 c.judge_changed-code.ensures) _ _ (c.weigh-h.ensures Retire refl (λ c q. int_zero)) _ c.if-code-ne0.false c.rows-k.ensures.0 c.apply_cancelled.ensures c.report.ensures

@@ -19,16 +19,16 @@ judge_changed-code-requires c =
 
 pub returns-then-code-ne0 : goal.returns-then-code-ne0
 returns-then-code-ne0 c =
-    modified_refused c.args.m.now c.args.out.now c.args.n c.args.id c.requires _ _ c.owner-t.ensures _ _ c.room.ensures (by_weight _ _ _ _ _ _ _ _ c.weigh-h.result c.owner-t.result c.fits2.ensures c.few-few.ensures c.rows-k.ensures.0 c.judge_changed-code.ensures) c.args.price c.args.qty _ _ (repriced_as (read {x = c.args.price} c.ranges.price.sfits) c.price_of-p.ensures) (c.weigh-h.ensures (Reprice _ _) refl c.left-new.ensures) c.if-code-ne0.true
+    modified_refused c.args.m.now c.args.out.now c.args.n c.args.id c.requires _ _ c.owner-t.ensures _ _ c.room.ensures (by_weight _ _ _ _ _ _ _ _ c.weigh-h.result c.owner-t.result c.fits-fits.ensures c.few-few.ensures c.rows-k.ensures.0 c.judge_changed-code.ensures) c.args.price c.args.qty _ _ (repriced_as (read {x = c.args.price} c.ranges.price.sfits) c.price_of-p.ensures) (c.weigh-h.ensures (Reprice _ _) refl c.left-new.ensures) c.if-code-ne0.true
 
 pub apply_modified-requires : goal.apply_modified-requires
 apply_modified-requires c =
-    (c.requires.state, c.look-at.ensures.0, c.look-at.ensures.1, (c.weigh-h.ensures (Reprice _ _) refl c.left-new.ensures).holds, can_modify c.args.m.now c.args.out.now c.args.n c.args.id c.requires _ _ c.owner-t.ensures _ _ c.room.ensures (by_weight _ _ _ _ _ _ _ _ c.weigh-h.result c.owner-t.result c.fits2.ensures c.few-few.ensures c.rows-k.ensures.0 c.judge_changed-code.ensures) c.args.price c.args.qty _ _ (repriced_as (read {x = c.args.price} c.ranges.price.sfits) c.price_of-p.ensures) (c.weigh-h.ensures (Reprice _ _) refl c.left-new.ensures) c.if-code-ne0.false)
+    (c.requires.state, c.look-at.ensures.0, c.look-at.ensures.1, (c.weigh-h.ensures (Reprice _ _) refl c.left-new.ensures).holds, can_modify c.args.m.now c.args.out.now c.args.n c.args.id c.requires _ _ c.owner-t.ensures _ _ c.room.ensures (by_weight _ _ _ _ _ _ _ _ c.weigh-h.result c.owner-t.result c.fits-fits.ensures c.few-few.ensures c.rows-k.ensures.0 c.judge_changed-code.ensures) c.args.price c.args.qty _ _ (repriced_as (read {x = c.args.price} c.ranges.price.sfits) c.price_of-p.ensures) (c.weigh-h.ensures (Reprice _ _) refl c.left-new.ensures) c.if-code-ne0.false)
 
 pub report-requires : goal.report-requires
 report-requires c =
-    (c.apply_modified.ensures.state, c.owner-t.ensures.slot, modify_room c.args.m.now c.args.out.now c.args.n c.args.id c.requires _ _ c.owner-t.ensures _ _ c.room.ensures (by_weight _ _ _ _ _ _ _ _ c.weigh-h.result c.owner-t.result c.fits2.ensures c.few-few.ensures c.rows-k.ensures.0 c.judge_changed-code.ensures) c.args.price c.args.qty _ _ (repriced_as (read {x = c.args.price} c.ranges.price.sfits) c.price_of-p.ensures) (c.weigh-h.ensures (Reprice _ _) refl c.left-new.ensures) c.if-code-ne0.false)
+    (c.apply_modified.ensures.state, c.owner-t.ensures.slot, modify_room c.args.m.now c.args.out.now c.args.n c.args.id c.requires _ _ c.owner-t.ensures _ _ c.room.ensures (by_weight _ _ _ _ _ _ _ _ c.weigh-h.result c.owner-t.result c.fits-fits.ensures c.few-few.ensures c.rows-k.ensures.0 c.judge_changed-code.ensures) c.args.price c.args.qty _ _ (repriced_as (read {x = c.args.price} c.ranges.price.sfits) c.price_of-p.ensures) (c.weigh-h.ensures (Reprice _ _) refl c.left-new.ensures) c.if-code-ne0.false)
 
 pub returns : goal.returns
 returns c =
-    modified_done c.args.m.now c.args.out.now c.args.n c.args.id c.requires _ _ c.owner-t.ensures _ _ c.room.ensures (by_weight _ _ _ _ _ _ _ _ c.weigh-h.result c.owner-t.result c.fits2.ensures c.few-few.ensures c.rows-k.ensures.0 c.judge_changed-code.ensures) c.args.price c.args.qty _ _ (repriced_as (read {x = c.args.price} c.ranges.price.sfits) c.price_of-p.ensures) (c.weigh-h.ensures (Reprice _ _) refl c.left-new.ensures) _ _ (read {x = c.args.price} c.ranges.price.sfits) c.if-code-ne0.false c.rows-k.ensures.0 c.apply_modified.ensures c.report.ensures
+    modified_done c.args.m.now c.args.out.now c.args.n c.args.id c.requires _ _ c.owner-t.ensures _ _ c.room.ensures (by_weight _ _ _ _ _ _ _ _ c.weigh-h.result c.owner-t.result c.fits-fits.ensures c.few-few.ensures c.rows-k.ensures.0 c.judge_changed-code.ensures) c.args.price c.args.qty _ _ (repriced_as (read {x = c.args.price} c.ranges.price.sfits) c.price_of-p.ensures) (c.weigh-h.ensures (Reprice _ _) refl c.left-new.ensures) _ _ (read {x = c.args.price} c.ranges.price.sfits) c.if-code-ne0.false c.rows-k.ensures.0 c.apply_modified.ensures c.report.ensures

@@ -5,7 +5,7 @@ use borrow.Author.Rules.{rules}
 use Rattle.depth.proofs.put_levels.Goals as goal
 
 pub loop-i-init : goal.loop-i-init
-loop-i-init c = (none_put c.args.t1 c.args.out.now, omega arith)
+loop-i-init c = (none_put c.args.row c.args.out.now, omega arith)
 
 pub offset_bounds-row-i : goal.offset_bounds-row-i
 offset_bounds-row-i c = omega (arith, c.loop-i-test.true, c.requires.0)
@@ -25,7 +25,7 @@ loop-i-smaller c = omega (arith, c.loop-i-test.true)
 
 pub loop-i-preserved : goal.loop-i-preserved
 loop-i-preserved c = (
-  one_put c.args.t1 c.loop-i.i c.args.out.now c.loop-i.out _ (omega (arith, c.loop-i-test.true, c.requires.0, c.well_formed.0.1.0.1)) c.loop-i.invariant.0 c.put_level.ensures (search rules),
+  one_put c.args.row c.loop-i.i c.args.out.now c.loop-i.out _ (omega (arith, c.loop-i-test.true, c.requires.0, c.well_formed.0.1.0.1)) c.loop-i.invariant.0 c.put_level.ensures (search rules),
   omega (arith, c.loop-i-test.true),
 )
 
@@ -34,4 +34,4 @@ shape_of-out c = c.loop-i.invariant.0.long
 
 pub returns : goal.returns
 returns c =
-    all_put c.args.t1 c.args.n c.loop-i.i c.args.out.now c.loop-i.out c.loop-i.invariant.1 c.loop-i-test.false c.loop-i.invariant.0
+    all_put c.args.row c.args.n c.loop-i.i c.args.out.now c.loop-i.out c.loop-i.invariant.1 c.loop-i-test.false c.loop-i.invariant.0
