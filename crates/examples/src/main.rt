@@ -41,7 +41,10 @@ fn collar(rt: &impl Print, price: i64, mark: i64) -> io::Result<()> {
 
 fn hold(rt: &impl Print, side: Side, price: i64, leaves: u64) -> io::Result<()> {
     print!(rt; "holds")?;
-    number(rt, wallet::held(0, side, true, words::of_i64(price), leaves))?;
+    number(
+        rt,
+        wallet::held(0, side, true, words::of_i64(price), leaves),
+    )?;
     println!(rt; "")
 }
 

@@ -114,7 +114,7 @@ fn call(row: &[u8], bucket: &mut [u8], out: &mut [u8]) -> u32
 fn same(row: &[u8], code: u32, out: &[u8; 40]) -> bool
     requires { 120 ≤ length row.now }
 {
-    word(row, 72) == code as u64 && out == &row[80..]
+    word(row, 72) == code as u64 && out.as_slice() == &row[80..]
 }
 
 // Whether a row's results come again.
