@@ -120,7 +120,7 @@ pub fn agrees<'a>(text: &'a [u8], want: &[u8], got: &[u8], at: &mut Difference<'
     false
 }
 
-// Says what differs, on a line that the caller ends.
+// Says where: what was compared, and then the words on the rest of the line, where whole ones differ.
 pub fn say_difference(rt: &impl Print, at: &Difference<'_>) -> io::Result<()> {
     rt.write_all(at.text)?;
     match at.first {
