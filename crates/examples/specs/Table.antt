@@ -1,7 +1,6 @@
 -- All examples of document 01 marked P, with no fee, and one with a fee (02, order 7): beside what the definitions give, what the paper says.
 use Rattle.std.specs.Prelude.{ℕ, Bool, true, false, cond, ◌≡◌, List, [], ◌∷◌, map, replicate, ℤ, pos, negsuc, ◌-ℤ◌}
 use Rattle.std.proofs.Math.Option.{Option, none, some}
-use Rattle.accounts.specs.declared.Funds.{Funds}
 use Rattle.orderbook.specs.declared.MaybePrice.TheVariants.{None, Some}
 use Rattle.orderbook.specs.declared.MaybeQty as MaybeQty
 use Rattle.orderbook.specs.declared.TimeInForce.TheVariants.{Gtc}
@@ -10,7 +9,6 @@ use Rattle.protocol.specs.Codes.{reject_code}
 use Rattle.protocol.specs.declared.Balance.{Balance}
 use Rattle.protocol.specs.declared.OrderKind.TheVariants.{Limit}
 use Rattle.protocol.specs.declared.RejectCode.{RejectCode}
-use Rattle.risk.specs.declared.Taken.{Taken}
 use Rattle.risk.specs.Collar.{near}
 use Rattle.risk.specs.Throttle.{take_token}
 use Rattle.words.specs.Words.{most}

@@ -2,43 +2,60 @@
 // Rust's answers, and the written rule's for lists with a fee.
 #![tactic(auto)]
 
-ghost use Rattle.std.specs.Prelude.{◌≡◌, ◌*◌, ◌≤◌, length};
+ghost use Rattle.std.specs.Prelude.{◌≡◌, ◌*◌, ◌≤◌, length, IfOk};
 ghost use Rattle.store.specs.Layout.{Holds};
 ghost use Rattle.edge.specs.Entering.{Lent};
 
 use accounts::{Account, MaybeFunds, Timing};
-use libc::STDOUT_FILENO;
-use stored::Tally;
+use std::fs::File;
+use std::io::Read;
+use std::{fs, io};
+use stored::{Difference, Tally};
 
 // ---- the file
 
+// Reads until `buf` is full or the file ends, and answers how many bytes came.
+fn read_full(file: &mut File, buf: &mut [u8]) -> io::Result<usize>
+    ensures { IfOk result (λ n. n ≤ length buf.new) }
+{
+    let mut done = 0;
+    while done < buf.len() {
+        let n = file.read(&mut buf[done..])?;
+        if n == 0 {
+            return Ok(done);
+        }
+        done += n;
+    }
+    Ok(done)
+}
+
 // The first 7 words of a row of 16.
-fn read_account(fd: i32, to: &mut [u8]) {
+fn read_account(file: &mut File, to: &mut [u8]) -> io::Result<()> {
     let mut rest = [0u8; 72];
-    io::read_full(fd, to);
-    io::read_full(fd, &mut rest);
+    read_full(file, to)?;
+    read_full(file, &mut rest)?;
+    Ok(())
 }
 
 // The rows of n accounts.
-fn read_accounts(fd: i32, rows: &mut [u8], n: usize)
+fn read_accounts(file: &mut File, rows: &mut [u8], n: usize) -> io::Result<()>
     requires { 56 * n ≤ length rows.old }
 {
-    let mut i: usize = 0;
-    while i < n {
+    for i in 0..n {
         let from = 56 * i;
         let to = from + 56;
-        read_account(fd, &mut rows[from..to]);
-        i += 1;
+        read_account(file, &mut rows[from..to])?;
     }
+    Ok(())
 }
 
 // The rows that follow the call's, in whole words.
-fn read_rows(fd: i32, row: &[u8]) -> [u8; 24576] {
+fn read_rows(file: &mut File, row: &[u8]) -> io::Result<[u8; 24576]> {
     let mut rows = [0xa5u8; 24576];
     let n = stored::given(row);
     let whole = 8 * ((n + 7) / 8);
-    io::read_full(fd, &mut rows[..whole]);
-    rows
+    read_full(file, &mut rows[..whole])?;
+    Ok(rows)
 }
 
 // How many accounts' rows follow: only a start has them, before the others.
@@ -51,79 +68,101 @@ fn accounts_of(row: &[u8]) -> usize
     0
 }
 
-fn play_any(fd: i32, m: &mut [u8], row: [u8; 128]) -> bool
+fn play_any(
+    file: &mut File,
+    m: &mut [u8],
+    row: [u8; 128],
+    at: &mut Difference<'_>,
+) -> io::Result<bool>
     requires { Lent m.old }
     ensures { Lent m.new }
 {
     let n = accounts_of(&row);
     let mut accounts = [0u8; 14336];
-    read_accounts(fd, &mut accounts, n);
-    let rows = read_rows(fd, &row);
+    read_accounts(file, &mut accounts, n)?;
+    let rows = read_rows(file, &row)?;
     let end = 56 * n;
-    conformance::play_any(m, row, &accounts[..end], rows)
+    Ok(conformance::play_any(m, row, &accounts[..end], rows, at))
 }
 
 // ---- two gateways
 
-fn play_second(fd: i32, m: &[u8], s: &mut [u8], row: [u8; 128]) -> bool
+fn play_second(
+    file: &mut File,
+    m: &[u8],
+    s: &mut [u8],
+    row: [u8; 128],
+    at: &mut Difference<'_>,
+) -> io::Result<bool>
     requires { Lent m.now × Lent s.old }
     ensures { Lent s.new }
 {
-    let same = play_any(fd, s, stored::plain(row));
+    let same = play_any(file, s, stored::plain(row), at)?;
     if same && stored::gateway_of(&row) == 2 {
-        return playing::are_alike(m, s);
+        return Ok(playing::are_alike(m, s, at));
     }
-    same
+    Ok(same)
 }
 
-fn play_both(fd: i32, m: &mut [u8], s: &mut [u8], row: [u8; 128]) -> bool
+fn play_both(
+    file: &mut File,
+    m: &mut [u8],
+    s: &mut [u8],
+    row: [u8; 128],
+    at: &mut Difference<'_>,
+) -> io::Result<bool>
     requires { Lent m.old × Lent s.old }
     ensures { Lent m.new × Lent s.new }
 {
     if stored::gateway_of(&row) == 0 {
-        return play_any(fd, m, row);
+        return play_any(file, m, row, at);
     }
-    play_second(fd, m, s, row)
+    play_second(file, m, s, row, at)
 }
 
 // ---- all rows
 
-fn say(text: &[u8], n: u64) {
-    io::write_all(STDOUT_FILENO, text);
-    io::print_decimal(STDOUT_FILENO, n);
+fn say_where(rt: &impl Print, t: Tally) -> io::Result<()> {
+    println!(rt; " in list {}, row {}", t.lists, t.rows)
 }
 
-fn say_where(t: Tally) {
-    say(b" in list ", t.lists);
-    say(b", row ", t.rows);
-    io::write_all(STDOUT_FILENO, b"\n");
-}
-
-fn next_row(fd: i32, m: &mut [u8], s: &mut [u8], row: [u8; 128], t: Tally) -> Tally
+fn next_row(
+    rt: &impl Print,
+    file: &mut File,
+    m: &mut [u8],
+    s: &mut [u8],
+    row: [u8; 128],
+    t: Tally,
+) -> io::Result<Tally>
     requires { Lent m.old × Lent s.old }
     ensures { Lent m.new × Lent s.new }
 {
-    let more = play_both(fd, m, s, row);
+    let mut at = Difference {
+        text: b"",
+        first: None,
+    };
+    let more = play_both(file, m, s, row, &mut at)?;
     let after = stored::counted(row, t, more);
     if !more {
-        say_where(after);
+        stored::say_difference(rt, &at)?;
+        say_where(rt, after)?;
     }
-    after
+    Ok(after)
 }
 
-fn next(fd: i32, m: &mut [u8], s: &mut [u8], t: Tally) -> Tally
+fn next(rt: &impl Print, file: &mut File, m: &mut [u8], s: &mut [u8], t: Tally) -> io::Result<Tally>
     requires { Lent m.old × Lent s.old }
     ensures { Lent m.new × Lent s.new }
 {
     let mut row = [0u8; 128];
-    let got = io::read_full(fd, &mut row);
+    let got = read_full(file, &mut row)?;
     if got != 128 {
-        return stored::finish(got, t);
+        return stored::finish(rt, got, t);
     }
-    next_row(fd, m, s, row, t)
+    next_row(rt, file, m, s, row, t)
 }
 
-fn play_all(fd: i32, m: &mut [u8], s: &mut [u8])
+fn play_all(rt: &impl Print, file: &mut File, m: &mut [u8], s: &mut [u8]) -> io::Result<()>
     requires { Lent m.old × Lent s.old }
 {
     let mut t = Tally {
@@ -134,9 +173,10 @@ fn play_all(fd: i32, m: &mut [u8], s: &mut [u8])
     };
     let mut n: u64 = 0;
     while n < u64::MAX && t.more {
-        t = next(fd, m, s, t);
+        t = next(rt, file, m, s, t)?;
         n += 1;
     }
+    Ok(())
 }
 
 // ---- the beginning
@@ -197,25 +237,22 @@ fn begin_both(m: &mut [u8], s: &mut [u8]) -> u64
     begin_again(m, s)
 }
 
-fn run(fd: i32, m: &mut [u8; 467592], s: &mut [u8; 467592]) {
+fn run(
+    rt: &impl Print,
+    file: &mut File,
+    m: &mut [u8; 467592],
+    s: &mut [u8; 467592],
+) -> io::Result<()> {
     let code = begin_both(m, s);
     if code != 0 {
-        say(b"no start: ", code);
-        io::write_all(STDOUT_FILENO, b"\n");
-        return;
+        return println!(rt; "no start: {code}");
     }
-    play_all(fd, m, s);
+    play_all(rt, file, m, s)
 }
 
-fn main() {
-    let path = b"calls";
-    let fd = os::open_read(path);
-    if fd < 0 {
-        os::fail(path);
-        return;
-    }
+fn main(rt: HostRuntime) -> io::Result<()> {
+    let mut file = fs::open(&rt, "calls")?;
     let mut m = [0u8; 467592];
     let mut s = [0u8; 467592];
-    run(fd, &mut m, &mut s);
-    libc::close(fd);
+    run(&rt, &mut file, &mut m, &mut s)
 }

@@ -15,7 +15,7 @@ ghost use Rattle.stored.specs.Rows as R;
 ghost use Rattle.edge.specs.Entering.{Lent};
 ghost use Rattle.playing.specs.Steps as S;
 
-use stored::{code, put, reply, small, tail, word};
+use stored::{Difference, code, put, reply, small, tail, word};
 
 // ---- the state, read and set
 
@@ -81,8 +81,8 @@ fn standing(m: &[u8], account: u32) -> [u8; 128]
     got
 }
 
-// Whether two gateways have the last number and every account's wallet alike; if not, says where.
-pub fn are_alike(m: &[u8], s: &[u8]) -> bool
+// Whether two gateways have the last number and every account's wallet alike; if not, `at` has where.
+pub fn are_alike(m: &[u8], s: &[u8], at: &mut Difference<'_>) -> bool
     requires { Lent m.now × Lent s.now }
     ensures { R.Tells result (S.Alike 256 m.now s.now) }
 {
@@ -90,7 +90,7 @@ pub fn are_alike(m: &[u8], s: &[u8]) -> bool
     while a < 256 {
         let first = standing(m, a);
         let second = standing(s, a);
-        if !stored::agrees(b"second gateway", &first, &second) {
+        if !stored::agrees(b"second gateway", &first, &second, at) {
             return false;
         }
         a += 1;

@@ -5,8 +5,8 @@
 ghost use Rattle.std.specs.Prelude.{◌≤◌, length};
 
 use le::Loaded;
-use libc::STDOUT_FILENO;
 use risk::Bucket;
+use std::{fs, io};
 
 fn word(row: &[u8], at: usize) -> u64 {
     match le::load(row, at, 8) {
@@ -114,7 +114,7 @@ fn call(row: &[u8], bucket: &mut [u8], out: &mut [u8]) -> u32
 fn same(row: &[u8], code: u32, out: &[u8; 40]) -> bool
     requires { 120 ≤ length row.now }
 {
-    word(row, 72) == code as u64 && check::same(out, &row[80..])
+    word(row, 72) == code as u64 && out.as_slice() == &row[80..]
 }
 
 // Whether a row's results come again.
@@ -126,41 +126,17 @@ fn replay(row: &[u8], bucket: &mut [u8]) -> bool
     same(row, code, &out)
 }
 
-fn say(n: u64, text: &[u8]) {
-    io::print_decimal(STDOUT_FILENO, n);
-    io::write_all(STDOUT_FILENO, text);
-}
-
-// Replays the row after n others, and answers whether to go on.
-fn next_row(fd: i32, bucket: &mut [u8; 16], n: u64) -> bool {
-    let mut row = [0u8; 120];
-    let got = io::read_full(fd, &mut row);
-    if got == 0 {
-        say(n, b" rows equal\n");
-        return false;
-    }
-    if got == 120 && replay(&row, bucket) {
-        return true;
-    }
-    say(n, b" rows equal, and the next differs\n");
-    false
-}
-
-fn replay_all(fd: i32) {
+fn replay_all(rt: &impl Print, rows: &[u8]) -> io::Result<()> {
     let mut bucket = [0u8; 16];
-    let mut n = 0;
-    while n < u64::MAX && next_row(fd, &mut bucket, n) {
-        n += 1;
+    for (n, row) in rows.chunks(120).enumerate() {
+        if row.len() != 120 || !replay(row, &mut bucket) {
+            return println!(rt; "{n} rows equal, and the next differs");
+        }
     }
+    println!(rt; "{} rows equal", rows.len() / 120)
 }
 
-fn main() {
-    let path = b"answers";
-    let fd = os::open_read(path);
-    if fd < 0 {
-        os::fail(path);
-        return;
-    }
-    replay_all(fd);
-    libc::close(fd);
+fn main(rt: HostRuntime) -> io::Result<()> {
+    let rows = fs::read(&rt, "answers")?;
+    replay_all(&rt, &rows)
 }

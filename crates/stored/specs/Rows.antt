@@ -1,8 +1,9 @@
 -- The words of a row of a stored file, what agrees, and the count. Assumes nothing.
-use Rattle.std.specs.Prelude.{◌≡◌, ℕ, zero, suc, ◌+◌, ◌*◌, ◌/◌, ◌%◌, ◌^◌, min, Bool, true, false, cond, ◌&&◌, ◌||◌, List, replicate, ◌==◌, nat_lt}
+use Rattle.std.specs.Prelude.{◌≡◌, ℕ, zero, suc, ◌+◌, ◌*◌, ◌/◌, ◌%◌, ◌^◌, min, Bool, true, false, cond, ◌&&◌, ◌||◌, List, length, replicate, ◌==◌, nat_lt, ◌<◌, ◌≢◌, Option, Some, None}
 use Rattle.le.specs.Checked.{loaded, stored}
 use Rattle.le.specs.declared.Loaded.{Loaded}
 use Rattle.le.specs.declared.Loaded.TheVariants.{Value, Refused}
+use Rattle.stored.specs.declared.Differing.{Differing}
 use Rattle.stored.specs.declared.Tally.{Tally}
 
 abbrev pub sum : ℕ → ℕ → ℕ
@@ -49,6 +50,13 @@ replied xs k n = put_at (put_at xs 2 k) 3 n
 -- b is whether A holds
 abbrev pub Tells : Bool → Type 0 → Type 0
 Tells b A = (b ≡ true → A) × (A → b ≡ true)
+
+-- d is the first word at which xs and ys differ, of the whole words of xs, or none is
+abbrev pub FirstDiffers : List ℕ → List ℕ → Option Differing → Type 0
+FirstDiffers xs ys (Some d) =
+    (d.word < length xs / 8) × (d.want ≡ word_at xs d.word) × (d.got ≡ word_at ys d.word) × (d.want ≢ d.got) ×
+    ((k : ℕ) → k < d.word → word_at xs k ≡ word_at ys k)
+FirstDiffers xs ys None = (k : ℕ) → k < length xs / 8 → word_at xs k ≡ word_at ys k
 
 -- ---- the file
 

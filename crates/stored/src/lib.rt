@@ -1,10 +1,10 @@
 // The rows of a stored file of lists of calls: their words, read, compared and said. compare/README.md has the file's rows.
 #![tactic(auto)]
 
-ghost use Rattle.std.specs.Prelude.{◌≡◌, ◌≤◌, min};
+ghost use Rattle.std.specs.Prelude.{◌≡◌, ◌≤◌, min, true, false, IfOk};
 ghost use Rattle.stored.specs.Rows as R;
 
-use libc::STDOUT_FILENO;
+use std::io;
 
 // ---- the words of a row
 
@@ -70,43 +70,63 @@ pub fn reply(got: &mut [u8], code: u64, count: usize)
 
 // ---- what differs
 
-fn say(text: &[u8], n: u64) {
-    io::write_all(STDOUT_FILENO, text);
-    io::print_decimal(STDOUT_FILENO, n);
+// A word of two rows that differs: its place, what is wanted there and what came.
+#[derive(Clone, Copy)]
+pub struct Differing {
+    pub word: usize,
+    pub want: u64,
+    pub got: u64,
 }
 
-fn say_word(i: usize, want: u64, got: u64) {
-    say(b", word ", i as u64);
-    say(b": ", want);
-    say(b" wanted, got ", got);
-    io::write_all(STDOUT_FILENO, b"\n");
+// What was compared, and the first of its words that differs. None does where only the bytes after the last whole word differ.
+#[derive(Clone, Copy)]
+pub struct Difference<'a> {
+    pub text: &'a [u8],
+    pub first: Option<Differing>,
 }
 
 // The first words that differ.
-fn say_difference(want: &[u8], got: &[u8]) {
-    let n = want.len() / 8;
-    let mut i: usize = 0;
-    while i < n {
+fn first_difference(want: &[u8], got: &[u8]) -> Option<Differing>
+    ensures { R.FirstDiffers want.now got.now result }
+{
+    for i in 0..want.len() / 8 {
         let a = word(want, i);
         let b = word(got, i);
         if a != b {
-            say_word(i, a, b);
-            return;
+            return Some(Differing {
+                word: i,
+                want: a,
+                got: b,
+            });
         }
-        i += 1;
     }
+    None
 }
 
-// Whether the bytes are the same; if not, says where.
-pub fn agrees(text: &[u8], want: &[u8], got: &[u8]) -> bool
-    ensures { R.Tells result (want.now ≡ got.now) }
+// Whether the bytes are the same; if not, `at` has where.
+pub fn agrees<'a>(text: &'a [u8], want: &[u8], got: &[u8], at: &mut Difference<'a>) -> bool
+    ensures tells { R.Tells result (want.now ≡ got.now) }
+    ensures same { result ≡ true → at.new ≡ at.old }
+    ensures text { result ≡ false → at.new.text.now ≡ text.now }
+    ensures first { result ≡ false → R.FirstDiffers want.now got.now at.new.first }
 {
-    if check::same(want, got) {
+    if want == got {
         return true;
     }
-    io::write_all(STDOUT_FILENO, text);
-    say_difference(want, got);
+    *at = Difference {
+        text,
+        first: first_difference(want, got),
+    };
     false
+}
+
+// Says where: what was compared, and then the words on the rest of the line, where whole ones differ.
+pub fn say_difference(rt: &impl Print, at: &Difference<'_>) -> io::Result<()> {
+    rt.write_all(at.text)?;
+    match at.first {
+        Some(d) => println!(rt; ", word {}: {} wanted, got {}", d.word, d.want, d.got),
+        None => Ok(()),
+    }
 }
 
 // ---- the file
@@ -150,10 +170,10 @@ pub fn given(row: &[u8]) -> usize
     bytes_of(row, word(row, 3))
 }
 
-pub fn answers(row: &[u8; 128], got: &[u8; 128]) -> bool
+pub fn answers(row: &[u8; 128], got: &[u8; 128], at: &mut Difference<'_>) -> bool
     ensures { R.Tells result (row.now ≡ got.now) }
 {
-    agrees(b"answer", row, got)
+    agrees(b"answer", row, got, at)
 }
 
 pub fn is_start(row: &[u8]) -> bool
@@ -176,16 +196,22 @@ fn is_given(row: &[u8]) -> bool
 }
 
 // The answers agree, and so do the rows where they are not given.
-pub fn agree(row: &[u8; 128], got: &[u8; 128], rows: &[u8; 24576], out: &[u8; 24576]) -> bool
+pub fn agree(
+    row: &[u8; 128],
+    got: &[u8; 128],
+    rows: &[u8; 24576],
+    out: &[u8; 24576],
+    at: &mut Difference<'_>,
+) -> bool
     ensures { R.Tells result (R.Agree row.now got.now rows.now out.now) }
 {
-    if !answers(row, got) {
+    if !answers(row, got, at) {
         return false;
     }
     if is_given(row) {
         return true;
     }
-    agrees(b"rows", rows, out)
+    agrees(b"rows", rows, out, at)
 }
 
 // The row without its code and count.
@@ -201,12 +227,12 @@ pub fn unanswered(row: [u8; 128]) -> [u8; 128]
 }
 
 // Whether the row's answer is this code, with nothing else.
-pub fn answers_code(row: [u8; 128], code: u64) -> bool
+pub fn answers_code(row: [u8; 128], code: u64, at: &mut Difference<'_>) -> bool
     ensures { R.Tells result (row ≡ R.put_at (R.unanswered row) 2 code) }
 {
     let mut got = unanswered(row);
     put(&mut got, 2, code);
-    answers(&row, &got)
+    answers(&row, &got, at)
 }
 
 // ---- runs: the last word of a row has how many calls follow that are like it, and in its low 16 bits the words that grow by 1 each time
@@ -313,19 +339,18 @@ pub fn counted(row: [u8; 128], t: Tally, more: bool) -> Tally
 }
 
 // Nothing is left of the file, or no whole row.
-pub fn finish(left: usize, t: Tally) -> Tally
-    ensures { result ≡ R.finished t }
+pub fn finish(rt: &impl Print, left: usize, t: Tally) -> io::Result<Tally>
+    ensures { IfOk result (λ after. after ≡ R.finished t) }
 {
-    io::print_decimal(STDOUT_FILENO, t.calls);
-    io::write_all(STDOUT_FILENO, b" calls agreed");
+    print!(rt; "{} calls agreed", t.calls)?;
     if left != 0 {
-        io::write_all(STDOUT_FILENO, b", and the file breaks off");
+        print!(rt; ", and the file breaks off")?;
     }
-    io::write_all(STDOUT_FILENO, b"\n");
-    Tally {
+    println!(rt; "")?;
+    Ok(Tally {
         lists: t.lists,
         rows: t.rows,
         calls: t.calls,
         more: false,
-    }
+    })
 }

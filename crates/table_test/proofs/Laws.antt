@@ -1,19 +1,20 @@
 -- What each operation makes of the test's table, from the laws of `table`.
 -- Assumes nothing.
-use mathlib.Core.Path.{◌≡◌, refl, ap, ◌∙◌}
+use mathlib.Core.Path.{◌≡◌, refl, ap, ◌∙◌, subst}
 use mathlib.Core.Logic.{inl, inr}
 use mathlib.Core.List.{List}
 use mathlib.Core.Bool.{true}
 use mathlib.Core.Option.{some}
 use Prim.Native.Nat.{ℕ, ◌+◌, ◌*◌, ◌-◌, ◌^◌, ◌≤◌, ◌<◌}
 use native.Mathlib.Omega.{arith}
-use lib.ListN.{length, set}
+use lib.ListN.{length}
 use Rattle.le.specs.Le.{le, put, Outside, Local}
 use Rattle.le.specs.Row.{puts, Fit}
 use Rattle.le.proofs.Laws.{outside_put, local_wider, local_map, le_put, le_outside}
 use Rattle.le.proofs.Rows.{outside_puts, gets_local, gets_puts, gets_field}
 use Rattle.table.specs.Live.{live, without, look, insert, replace, Ascends, Gap}
-use Rattle.table.specs.Table.{key_at, mark_at, rows, Sorted, Between, Finds, Opened, Closed, Compacted}
+use Rattle.table.specs.Table.{key_at, mark_at, Sorted, Between, Finds, Opened, Closed, Compacted}
+use Rattle.table.specs.declared.Found.{Found}
 use Rattle.table.specs.declared.Found.TheVariants.{At}
 use Rattle.table.proofs.Live.{live_ext, live_insert, live_close, live_strike, live_replace, look_some, ascends_ext, ascends_change, ascends_open, ascends_close}
 use Rattle.table.proofs.Search.{between_above}
@@ -95,13 +96,17 @@ place n i k v t e f b d =
 
 -- the mark and the key that `table` sees are those of the row
 
-mark_at : (xs : List ℕ) (j : ℕ) → mark (row_at xs j) ≡ mark_at 8 24 16 xs j
+mark_is : (xs : List ℕ) (j : ℕ) → mark (row_at xs j) ≡ mark_at 8 24 16 xs j
 unfolding read
-mark_at xs j = let e : 8 + 24 * j + 8 + 8 ≡ 8 + 24 * j + 16 = omega arith in ap (le 1 xs) e
+mark_is xs j = let e : 8 + 24 * j + 8 + 8 ≡ 8 + 24 * j + 16 = omega arith in ap (le 1 xs) e
 
-key_at : (xs : List ℕ) (j : ℕ) → key (row_at xs j) ≡ key_at 8 24 xs j
+key_is : (xs : List ℕ) (j : ℕ) → key (row_at xs j) ≡ key_at 8 24 xs j
 unfolding read
-key_at xs j = refl
+key_is xs j = refl
+
+-- what was found, where it is At i
+pub found_at : (xs : List ℕ) {n k i : ℕ} {f : Found} → f ≡ At i → Finds (key_at 8 24 xs) (mark_at 8 24 16 xs) n k f → Finds (key_at 8 24 xs) (mark_at 8 24 16 xs) n k (At i)
+found_at xs {n} {k} e h = subst (λ (g : Found). Finds (key_at 8 24 xs) (mark_at 8 24 16 xs) n k g) e h
 
 -- a field is set
 
@@ -122,9 +127,9 @@ change_to {xs} n i k v t e f h =
     let l : i < count xs = rw e at h.0 in
     let p : Outside o (o + 24) xs ys = outside_put o (o + 24) 8 xs (o + 8) v (omega arith) (omega arith) in
     let here : row_at ys i ≡ record { key = (row_at xs i).key; value = v; mark = (row_at xs i).mark } = set_value xs o v f (omega (arith, t.room, t.few)) in
-    let m : 0 < mark (row_at xs i) = rw (mark_at xs i) h.2 in
+    let m : 0 < mark (row_at xs i) = rw (mark_is xs i) h.2 in
     let some_row : look key k (live mark (row_at xs) (count xs)) ≡ some (row_at xs i) =
-    look_some mark key (row_at xs) k i (count xs) t.asc l (key_at xs i ∙ h.1) m in
+    look_some mark key (row_at xs) k i (count xs) t.asc l (key_is xs i ∙ h.1) m in
     rw some_row
     (changed i _ t l p (ap key here)
     (live_replace mark key (row_changed read_local 8 l p) t.asc (ap key here) m (rw here m)
@@ -141,7 +146,7 @@ remove_to {xs} n i k t e h =
     let here : row_at ys i ≡ record { key = (row_at xs i).key; value = (row_at xs i).value; mark = 0 } = set_mark xs o 0 (omega arith) (omega (arith, t.room, t.few)) in
     changed i _ t l p (ap key here)
     (live_strike mark key (row_changed read_local 8 l p) t.asc (ap mark here)
-    ∙ ap (λ (k : ℕ). without key k (live mark (row_at xs) (count xs))) (key_at xs i ∙ h.1))
+    ∙ ap (λ (k : ℕ). without key k (live mark (row_at xs) (count xs))) (key_is xs i ∙ h.1))
 
 pub cut_to : {xs ys : List ℕ} (n i : ℕ) → Table xs → n ≡ count xs → Closed 8 24 n i xs ys → To (put 8 ys 0 (n - 1)) (without key (row_at xs i).key (entries xs))
 unfolding entries
@@ -157,8 +162,8 @@ pub tidy_to : {xs ys : List ℕ} (n w : ℕ) → Table xs → n ≡ count xs →
 unfolding entries count
 tidy_to {xs} {ys} n w t e c =
     let p : Packed (mark_at 8 24 16 xs) (row_at xs) (row_at ys) n w = compacted_packed read_local 8 c in
-    let same : live mark (row_at ys) w ≡ live mark (row_at xs) n = packed_live p mark (λ j h. mark_at xs j) mark (λ r q. q) in
-    let size : w ≡ length (live mark (row_at xs) n) = packed_count p mark (λ j h. mark_at xs j) in
+    let same : live mark (row_at ys) w ≡ live mark (row_at xs) n = packed_live p mark (λ j h. mark_is xs j) mark (λ r q. q) in
+    let size : w ≡ length (live mark (row_at xs) n) = packed_count p mark (λ j h. mark_is xs j) in
     let few : w ≤ 8 = omega (arith, c.fewer, t.few) in
     let room : 200 ≤ length ys = omega (arith, c.frame.len, t.room) in
     (counted ys w (entries xs) room few (packed_ascends p key (rw e t.asc)) (same ∙ rw e), le_put 8 ys 0 w (omega arith) (omega arith) ∙ size ∙ rw e)

@@ -6,6 +6,7 @@ ghost use Rattle.le.specs.Row.{puts};
 ghost use Rattle.table.specs.Live.{without, look, insert};
 ghost use Rattle.table_test.specs.Test.{widths, values, key, live_row, revalued, row_at, count, entries, Table, To, Did, IsAt, Place};
 
+use std::io;
 use table::Found;
 
 #[derive(Clone, Copy)]
@@ -154,32 +155,24 @@ fn tidy(m: &mut [u8])
     le::put_u64(m, 0, w as u64);
 }
 
-fn print(n: u64, after: &[u8]) {
-    io::print_decimal(1, n);
-    io::write_all(1, after);
-}
-
-// Every row, dead ones in brackets.
-fn show(m: &[u8])
+// Every row, dead ones with a mark.
+fn show(rt: &impl Print, m: &[u8]) -> io::Result<()>
     requires { Table m.now }
 {
     let n = size(m);
-    print(n as u64, b":");
-    let mut i: usize = 0;
-    while i < n {
+    print!(rt; "{n}:")?;
+    for i in 0..n {
         let r = read_row(m, i);
-        io::write_all(1, b" ");
         if r.mark == 0 {
-            io::write_all(1, b"-");
+            print!(rt; " -{}={}", r.key, r.value)?;
+        } else {
+            print!(rt; " {}={}", r.key, r.value)?;
         }
-        print(r.key, b"=");
-        print(r.value, b"");
-        i += 1;
     }
-    io::write_all(1, b"\n");
+    println!(rt; "")
 }
 
-fn grow(m: &mut [u8])
+fn grow(rt: &impl Print, m: &mut [u8]) -> io::Result<()>
     requires { Table m.old }
     ensures { Table m.new }
 {
@@ -187,39 +180,39 @@ fn grow(m: &mut [u8])
     add(m, 10, 1);
     add(m, 20, 2);
     add(m, 40, 4);
-    show(m);
+    show(rt, m)?;
     add(m, 20, 9);
     change(m, 20, 7);
     change(m, 25, 7);
-    show(m);
+    show(rt, m)
 }
 
-fn shrink(m: &mut [u8])
+fn shrink(rt: &impl Print, m: &mut [u8]) -> io::Result<()>
     requires { Table m.old }
     ensures { Table m.new }
 {
     remove(m, 10);
     remove(m, 30);
     remove(m, 30);
-    show(m);
+    show(rt, m)?;
     change(m, 30, 8);
     add(m, 25, 5);
-    show(m);
+    show(rt, m)?;
     tidy(m);
-    show(m);
+    show(rt, m)
 }
 
-fn main() {
+fn main(rt: HostRuntime) -> io::Result<()> {
     let mut space = [0u8; 200];
     let m: &mut [u8] = &mut space;
     clear(m);
-    show(m);
-    grow(m);
-    shrink(m);
+    show(&rt, m)?;
+    grow(&rt, m)?;
+    shrink(&rt, m)?;
     add(m, 50, 6);
     add(m, 5, 0);
-    show(m);
+    show(&rt, m)?;
     cut(m, 1);
     cut(m, 9);
-    show(m);
+    show(&rt, m)
 }

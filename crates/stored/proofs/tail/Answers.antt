@@ -1,4 +1,3 @@
-use Rattle.std.proofs.Common.{◌-◌}
 use Rattle.stored.proofs.Laws.{laws}
 use Rattle.stored.proofs.tail.Goals as goal
 

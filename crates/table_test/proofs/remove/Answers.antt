@@ -1,19 +1,13 @@
-use Rattle.table_test.proofs.Laws.{sorted, remove_to, did}
-use Rattle.table.specs.declared.Found.TheVariants.{At}
-use Rattle.table.specs.Table.{key_at, mark_at, Finds}
+use Rattle.table_test.proofs.Laws.{sorted, remove_to, did, found_at}
 use native.Mathlib.Omega.{arith}
 use Rattle.table_test.proofs.remove.Goals as goal
-
--- in the arm of `At i`: what `find` says of i
-at_i : (c : goal.In-At-2) → Finds (key_at 8 24 c.args.m.now) (mark_at 8 24 16 c.args.m.now) c.size-n.result c.args.k (At c.in-At.i)
-at_i c = rw c.in-At.is at c.find.ensures
 
 pub find-requires : goal.find-requires
 find-requires c = (sorted c.requires c.size-n.ensures, omega arith)
 
 pub strike-requires : goal.strike-requires
-strike-requires c = omega (arith, (at_i c).0)
+strike-requires c = omega (arith, (found_at c.args.m.now c.in-At.is c.find.ensures).0)
 
 pub returns-in-At : goal.returns-in-At
 returns-in-At c =
-    rw c.strike.ensures (did (remove_to _ _ _ c.requires c.size-n.ensures (at_i c)))
+    rw c.strike.ensures (did (remove_to _ _ _ c.requires c.size-n.ensures (found_at c.args.m.now c.in-At.is c.find.ensures)))
