@@ -1,5 +1,5 @@
 -- The roster of a list has the definitions' table of its accounts. Assumes nothing.
-use Prim.Native.Nat.{ℕ, zero, suc, ◌≤◌, ◌<◌}
+use Prim.Native.Nat.{ℕ, zero, suc, ◌+◌, ◌≤◌, ◌<◌}
 use mathlib.Core.Path.{◌≡◌, refl, sym, ap, subst, ◌∙◌}
 use mathlib.Core.Bool.{true, false, cond, ◌&&◌, false≢true, and-true, and-false, and_assoc}
 use mathlib.Core.Logic.{⊎_elim}
@@ -7,16 +7,17 @@ use mathlib.Core.Option.{Option, none, some}
 use mathlib.Core.List.{List, [], ◌∷◌, ◌++◌}
 use native.Mathlib.Omega.{arith}
 use native.Mathlib.Nat.{not-suc-le-zero}
-use borrow.Author.Tests.{lt-ltb, le-ltb, ltb-true, ltb-false}
+use borrow.Author.Tests.{ltb-true, ltb-false}
 use lib.Dec.{ltb}
-use lib.ListN.{length, get_or, set, replicate, length-set, length-replicate, get_or-eq_default}
+use lib.ListN.{length, get_or, set, take, replicate, length-set, length-replicate}
 use lib.Seq.{get_or-set_same, get_or-set_other}
+use Rattle.std.proofs.lemmas.List.{take_more}
 use Rattle.accounts.specs.declared.Account.{Account}
 use Rattle.gateway.specs.Limits.{owner_slots}
-use Rattle.gateway.specs.Start.{entered as entered_in, accounts_of, all_below}
+use Rattle.gateway.specs.Start.{entered as entered_in, all_below}
 use Rattle.gateway.proofs.Base.{split}
 use Rattle.store.specs.View.{listed}
-use Rattle.store.proofs.Listed.{listed_length, listed_set, listed_ext}
+use Rattle.store.proofs.Listed.{listed_set, listed_ext}
 use Rattle.table.proofs.Live.{same?}
 use Rattle.roster.specs.declared.Slot.{Slot}
 use Rattle.roster.specs.declared.Roster.{Roster}
@@ -97,6 +98,12 @@ pub entered_more : (limit : ℕ) (r : Roster) (l : List Account) (a : Account) �
 unfolding entered
 entered_more limit r [] a = refl
 entered_more limit r (b ∷ l) a = entered_more limit (enter limit r b) l a
+
+-- and the next of a list
+pub entered_next : (limit : ℕ) (l : List Account) (i : ℕ) (d : Account) (r s : Roster) → i < length l → r ≡ entered limit nobody (take i l) → s ≡ enter limit r (get_or l i d)
+    → s ≡ entered limit nobody (take (i + 1) l)
+entered_next limit l i d r s h e f =
+    f ∙ ap (λ x. enter limit x (get_or l i d)) e ∙ entered_more limit nobody (take i l) (get_or l i d) ∙ ap (entered limit nobody) (sym (take_more l i d h))
 
 -- ---- nobody
 
