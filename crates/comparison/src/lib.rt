@@ -106,8 +106,7 @@ fn write_changed(m: &mut [u8], c: Changed) -> u32
 }
 
 // What an order holds: two words, whether it fits and the amount.
-#[unsafe(no_mangle)]
-pub extern "C" fn entry_hold_of(fee: u64, side: u32, price: u64, leaves: u64, out: &mut [u8]) -> u32
+pub fn entry_hold_of(fee: u64, side: u32, price: u64, leaves: u64, out: &mut [u8]) -> u32
     ensures { answer result out.new ≡ E.hold_of fee side price leaves out.old }
 {
     match side_of(side) {
@@ -126,8 +125,7 @@ fn covers_on(side: Side, amount: u64, wallet: &[u8], out: &mut [u8]) -> u32
     MALFORMED
 }
 
-#[unsafe(no_mangle)]
-pub extern "C" fn entry_covers(side: u32, amount: u64, wallet: &[u8], out: &mut [u8]) -> u32
+pub fn entry_covers(side: u32, amount: u64, wallet: &[u8], out: &mut [u8]) -> u32
     ensures { answer result out.new ≡ E.covers side amount wallet.now out.old }
 {
     match side_of(side) {
@@ -147,8 +145,7 @@ fn hold_on(side: Side, old: u64, new: u64, wallet: &mut [u8]) -> u32
 }
 
 // An order's hold changes from old to new.
-#[unsafe(no_mangle)]
-pub extern "C" fn entry_hold(side: u32, old: u64, new: u64, wallet: &mut [u8]) -> u32
+pub fn entry_hold(side: u32, old: u64, new: u64, wallet: &mut [u8]) -> u32
     ensures { answer result wallet.new ≡ E.hold side old new wallet.old }
 {
     match side_of(side) {
@@ -167,8 +164,7 @@ fn settle_on(fee: u64, side: Side, price: u64, qty: u64, wallet: &mut [u8]) -> u
     MALFORMED
 }
 
-#[unsafe(no_mangle)]
-pub extern "C" fn entry_settle(fee: u64, side: u32, price: u64, qty: u64, wallet: &mut [u8]) -> u32
+pub fn entry_settle(fee: u64, side: u32, price: u64, qty: u64, wallet: &mut [u8]) -> u32
     ensures { answer result wallet.new ≡ E.settle fee side price qty wallet.old }
 {
     match side_of(side) {
@@ -177,8 +173,7 @@ pub extern "C" fn entry_settle(fee: u64, side: u32, price: u64, qty: u64, wallet
     }
 }
 
-#[unsafe(no_mangle)]
-pub extern "C" fn entry_near(price: u64, mark: u64, percent: u32, out: &mut [u8]) -> u32
+pub fn entry_near(price: u64, mark: u64, percent: u32, out: &mut [u8]) -> u32
     ensures { answer result out.new ≡ E.near_mark price mark percent out.old }
 {
     write_one(out, flag(risk::near(price, mark, percent as u64)))
@@ -211,8 +206,7 @@ fn take(rate: u32, time: u64, bucket: &mut [u8], out: &mut [u8])
     le::put_u64(out, 0, flag(taken.passed));
 }
 
-#[unsafe(no_mangle)]
-pub extern "C" fn entry_take_token(rate: u32, time: u64, bucket: &mut [u8], out: &mut [u8]) -> u32
+pub fn entry_take_token(rate: u32, time: u64, bucket: &mut [u8], out: &mut [u8]) -> u32
     ensures { answers result bucket.new out.new ≡ E.take rate time bucket.old out.old }
 {
     if bucket.len() != 16 {
@@ -225,8 +219,7 @@ pub extern "C" fn entry_take_token(rate: u32, time: u64, bucket: &mut [u8], out:
     DONE
 }
 
-#[unsafe(no_mangle)]
-pub extern "C" fn entry_load(width: u32, at: u64, bytes: &[u8], out: &mut [u8]) -> u32
+pub fn entry_load(width: u32, at: u64, bytes: &[u8], out: &mut [u8]) -> u32
     ensures { answer result out.new ≡ E.load width at bytes.now out.old }
 {
     match le::load(bytes, at as usize, width as usize) {
@@ -235,8 +228,7 @@ pub extern "C" fn entry_load(width: u32, at: u64, bytes: &[u8], out: &mut [u8]) 
     }
 }
 
-#[unsafe(no_mangle)]
-pub extern "C" fn entry_store(width: u32, at: u64, value: u64, bytes: &mut [u8]) -> u32
+pub fn entry_store(width: u32, at: u64, value: u64, bytes: &mut [u8]) -> u32
     ensures { answer result bytes.new ≡ E.store width at value bytes.old }
 {
     let w = width as usize;

@@ -38,8 +38,7 @@ fn is_whole(m: &[u8], ok: bool) -> bool
 // ---- the start
 
 // `accounts` has rows of 7 words, and `list` is a book listing: the bytes become a state.
-#[unsafe(no_mangle)]
-pub extern "C" fn rowanchess_set_up(
+pub fn rowanchess_set_up(
     m: &mut [u8],
     fee: u64,
     limit: u64,
@@ -63,8 +62,7 @@ pub extern "C" fn rowanchess_set_up(
 }
 
 // `accounts` has rows of 7 words, and `bytes` is a checkpoint.
-#[unsafe(no_mangle)]
-pub extern "C" fn rowanchess_restore(
+pub fn rowanchess_restore(
     m: &mut [u8],
     fee: u64,
     limit: u64,
@@ -88,8 +86,7 @@ pub extern "C" fn rowanchess_restore(
 
 // ---- the state, read and set
 
-#[unsafe(no_mangle)]
-pub extern "C" fn rowanchess_last_seq(m: &[u8]) -> Number
+pub fn rowanchess_last_seq(m: &[u8]) -> Number
     requires { Lent m.now }
     ensures { Tells P.number_of result (asked true m.now C.last_seq) result.code m.now m.now }
 {
@@ -105,8 +102,7 @@ pub extern "C" fn rowanchess_last_seq(m: &[u8]) -> Number
     }
 }
 
-#[unsafe(no_mangle)]
-pub extern "C" fn rowanchess_wallet(m: &[u8], account: u32) -> Wallet
+pub fn rowanchess_wallet(m: &[u8], account: u32) -> Wallet
     requires { Lent m.now }
     ensures { Tells P.wallet_of result (asked true m.now (C.wallet account)) result.code m.now m.now }
 {
@@ -118,8 +114,7 @@ pub extern "C" fn rowanchess_wallet(m: &[u8], account: u32) -> Wallet
 }
 
 // The levels of a side, best price first: rows of 3 words. A side is 0 for buy, 1 for sell.
-#[unsafe(no_mangle)]
-pub extern "C" fn rowanchess_levels(m: &[u8], side: u64, out: &mut [u8]) -> Reply
+pub fn rowanchess_levels(m: &[u8], side: u64, out: &mut [u8]) -> Reply
     requires { Lent m.now }
     ensures { Lists 24 (asked (leb side 1) m.now (C.depth_levels (View.side side) (length out.old / 24))) result m.now m.now out.old out.new }
 {
@@ -138,8 +133,7 @@ pub extern "C" fn rowanchess_levels(m: &[u8], side: u64, out: &mut [u8]) -> Repl
 }
 
 // `there` is 0 for no collar, else 1.
-#[unsafe(no_mangle)]
-pub extern "C" fn rowanchess_set_paper_collar(m: &mut [u8], there: u64, percent: u32) -> u64
+pub fn rowanchess_set_paper_collar(m: &mut [u8], there: u64, percent: u32) -> u64
     requires { Lent m.old }
     ensures { Says nothing (asked (leb there 1) m.old (C.set_paper_collar (View.maybe there percent))) result m.old m.new }
 {
@@ -153,8 +147,7 @@ pub extern "C" fn rowanchess_set_paper_collar(m: &mut [u8], there: u64, percent:
 
 // ---- sessions
 
-#[unsafe(no_mangle)]
-pub extern "C" fn rowanchess_connect(m: &mut [u8], session: usize, time: u64) -> u64
+pub fn rowanchess_connect(m: &mut [u8], session: usize, time: u64) -> u64
     requires { Lent m.old }
     ensures { Says nothing (asked true m.old (C.connect session time)) result m.old m.new }
 {
@@ -165,8 +158,7 @@ pub extern "C" fn rowanchess_connect(m: &mut [u8], session: usize, time: u64) ->
 }
 
 // `row` is a message.
-#[unsafe(no_mangle)]
-pub extern "C" fn rowanchess_receive(
+pub fn rowanchess_receive(
     m: &mut [u8],
     session: usize,
     row: &[u8],
@@ -190,8 +182,7 @@ pub extern "C" fn rowanchess_receive(
     }
 }
 
-#[unsafe(no_mangle)]
-pub extern "C" fn rowanchess_tick(m: &mut [u8], time: u64, out: &mut [u8]) -> Reply
+pub fn rowanchess_tick(m: &mut [u8], time: u64, out: &mut [u8]) -> Reply
     requires { Lent m.old }
     ensures { Gives (asked true m.old (C.tick time (places (length out.old)))) result m.old m.new out.old out.new }
 {
@@ -208,8 +199,7 @@ pub extern "C" fn rowanchess_tick(m: &mut [u8], time: u64, out: &mut [u8]) -> Re
     }
 }
 
-#[unsafe(no_mangle)]
-pub extern "C" fn rowanchess_publish(m: &mut [u8], out: &mut [u8]) -> Reply
+pub fn rowanchess_publish(m: &mut [u8], out: &mut [u8]) -> Reply
     requires { Lent m.old }
     ensures { Gives (asked true m.old (C.publish (places (length out.old)))) result m.old m.new out.old out.new }
 {
@@ -227,8 +217,7 @@ pub extern "C" fn rowanchess_publish(m: &mut [u8], out: &mut [u8]) -> Reply
 }
 
 // `why` is the code of a reason to log out.
-#[unsafe(no_mangle)]
-pub extern "C" fn rowanchess_end(m: &mut [u8], session: usize, why: u8, out: &mut [u8]) -> Reply
+pub fn rowanchess_end(m: &mut [u8], session: usize, why: u8, out: &mut [u8]) -> Reply
     requires { Lent m.old }
     ensures { Gives (asked (P.is_reason (logout_of why)) m.old (C.end_session session (P.reason_or (logout_of why)) (places (length out.old)))) result m.old m.new out.old out.new }
 {
@@ -246,8 +235,7 @@ pub extern "C" fn rowanchess_end(m: &mut [u8], session: usize, why: u8, out: &mu
     }
 }
 
-#[unsafe(no_mangle)]
-pub extern "C" fn rowanchess_shut_down(m: &mut [u8], out: &mut [u8]) -> Reply
+pub fn rowanchess_shut_down(m: &mut [u8], out: &mut [u8]) -> Reply
     requires { Lent m.old }
     ensures { Gives (asked true m.old (C.shut_down (places (length out.old)))) result m.old m.new out.old out.new }
 {
@@ -264,8 +252,7 @@ pub extern "C" fn rowanchess_shut_down(m: &mut [u8], out: &mut [u8]) -> Reply
     }
 }
 
-#[unsafe(no_mangle)]
-pub extern "C" fn rowanchess_disconnect(m: &mut [u8], session: usize) -> u64
+pub fn rowanchess_disconnect(m: &mut [u8], session: usize) -> u64
     requires { Lent m.old }
     ensures { Says nothing (asked true m.old (C.disconnect session)) result m.old m.new }
 {
@@ -275,8 +262,7 @@ pub extern "C" fn rowanchess_disconnect(m: &mut [u8], session: usize) -> u64
     outcome::MALFORMED
 }
 
-#[unsafe(no_mangle)]
-pub extern "C" fn rowanchess_detach(m: &mut [u8], session: usize) -> Account
+pub fn rowanchess_detach(m: &mut [u8], session: usize) -> Account
     requires { Lent m.old }
     ensures { Tells P.account_of result (asked true m.old (C.detach session)) result.code m.old m.new }
 {
@@ -293,8 +279,7 @@ pub extern "C" fn rowanchess_detach(m: &mut [u8], session: usize) -> Account
 
 // ---- the engine
 
-#[unsafe(no_mangle)]
-pub extern "C" fn rowanchess_take_batch(m: &mut [u8], out: &mut [u8]) -> Reply
+pub fn rowanchess_take_batch(m: &mut [u8], out: &mut [u8]) -> Reply
     requires { Lent m.old }
     ensures { Lists 96 (asked true m.old (C.take_batch (places (length out.old)))) result m.old m.new out.old out.new }
 {
@@ -312,8 +297,7 @@ pub extern "C" fn rowanchess_take_batch(m: &mut [u8], out: &mut [u8]) -> Reply
 }
 
 // `row` is an event of the command `n`.
-#[unsafe(no_mangle)]
-pub extern "C" fn rowanchess_deliver(m: &mut [u8], n: u64, row: &[u8], out: &mut [u8]) -> Reply
+pub fn rowanchess_deliver(m: &mut [u8], n: u64, row: &[u8], out: &mut [u8]) -> Reply
     requires { Lent m.old }
     ensures { Gives (asked (is_event row.now) m.old (C.deliver_event n (event_of row.now) (places (length out.old)))) result m.old m.new out.old out.new }
 {
@@ -333,8 +317,7 @@ pub extern "C" fn rowanchess_deliver(m: &mut [u8], n: u64, row: &[u8], out: &mut
 // ---- restarting
 
 // `row` is an account.
-#[unsafe(no_mangle)]
-pub extern "C" fn rowanchess_add_account(m: &mut [u8], row: &[u8]) -> u64
+pub fn rowanchess_add_account(m: &mut [u8], row: &[u8]) -> u64
     requires { Lent m.old }
     ensures { Says nothing (asked (is_account row.now) m.old (C.add_account (account_of row.now))) result m.old m.new }
 {
@@ -346,8 +329,7 @@ pub extern "C" fn rowanchess_add_account(m: &mut [u8], row: &[u8]) -> u64
 }
 
 // `row` is the command `n`.
-#[unsafe(no_mangle)]
-pub extern "C" fn rowanchess_replay_command(m: &mut [u8], n: u64, row: &[u8]) -> u64
+pub fn rowanchess_replay_command(m: &mut [u8], n: u64, row: &[u8]) -> u64
     requires { Lent m.old }
     ensures { Says nothing (asked (is_command row.now) m.old (C.replay_command n (command_of row.now))) result m.old m.new }
 {
@@ -359,8 +341,7 @@ pub extern "C" fn rowanchess_replay_command(m: &mut [u8], n: u64, row: &[u8]) ->
 }
 
 // `row` is an event of the command `n`.
-#[unsafe(no_mangle)]
-pub extern "C" fn rowanchess_replay_event(m: &mut [u8], n: u64, row: &[u8]) -> u64
+pub fn rowanchess_replay_event(m: &mut [u8], n: u64, row: &[u8]) -> u64
     requires { Lent m.old }
     ensures { Says nothing (asked (is_event row.now) m.old (C.replay_event n (event_of row.now))) result m.old m.new }
 {
@@ -372,8 +353,7 @@ pub extern "C" fn rowanchess_replay_event(m: &mut [u8], n: u64, row: &[u8]) -> u
 }
 
 // `list` is a book listing: rows of 8 words.
-#[unsafe(no_mangle)]
-pub extern "C" fn rowanchess_finish(m: &mut [u8], list: &[u8]) -> u64
+pub fn rowanchess_finish(m: &mut [u8], list: &[u8]) -> u64
     requires { Lent m.old }
     ensures { Says nothing (asked (is_listing list.now) m.old (C.finish (listing list.now))) result m.old m.new }
 {
@@ -384,8 +364,7 @@ pub extern "C" fn rowanchess_finish(m: &mut [u8], list: &[u8]) -> u64
 }
 
 // The bytes of a checkpoint, at the front of `out`.
-#[unsafe(no_mangle)]
-pub extern "C" fn rowanchess_checkpoint(m: &[u8], out: &mut [u8]) -> Reply
+pub fn rowanchess_checkpoint(m: &[u8], out: &mut [u8]) -> Reply
     requires { Lent m.now }
     ensures { Writes (asked true m.now (C.checkpoint (length out.old))) result m.now m.now out.old out.new }
 {
@@ -403,8 +382,7 @@ pub extern "C" fn rowanchess_checkpoint(m: &[u8], out: &mut [u8]) -> Reply
 }
 
 // Where the order section of a checkpoint's bytes starts; it goes to their end. The end itself where they are no checkpoint.
-#[unsafe(no_mangle)]
-pub extern "C" fn rowanchess_order_section(bytes: &[u8]) -> usize
+pub fn rowanchess_order_section(bytes: &[u8]) -> usize
     ensures { (result ≡ length bytes.now - length (order_section bytes.now)) × (drop result bytes.now ≡ order_section bytes.now) }
 {
     bytes.len() - saved::order_section(bytes).len()
