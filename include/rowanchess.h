@@ -1,4 +1,4 @@
-/* Rowanchess: the gateway of a seat exchange, proved. The entry points of libedge.a (crates/edge), which `rt staticlib edge` writes.
+/* Rowanchess: the gateway of a seat exchange, proved. The entry points of libedge.a (crates/edge_c), which `tools/archive edge` makes.
  *
  * The caller lends all memory: a slice is an address, never null, and a length in bytes. No byte that a call writes is in two of its slices. `m`
  * is the state, ROWANCHESS_STATE bytes that rowanchess_set_up or rowanchess_restore made. Each call wants it as the last call left it: nobody else

@@ -1,4 +1,4 @@
-//! Links the proved library, which `rt staticlib edge` writes at the top of the repository.
+//! Links the proved library, which `tools/archive edge` makes from crates/edge_c.
 
 use std::env;
 use std::path::PathBuf;
@@ -13,7 +13,7 @@ fn main() {
     if !library.is_file() {
         eprintln!("rowanchess: no {}", library.display());
         eprintln!(
-            "Make it with `rt staticlib edge` at the top of the repository, or name its folder by ROWANCHESS_LIB."
+            "Make it with `tools/archive edge` at the top of the repository, or name its folder by ROWANCHESS_LIB."
         );
         exit(1);
     }

@@ -1,4 +1,4 @@
-//! Links what `rt staticlib comparison` wrote.
+//! Links what `tools/archive comparison` made.
 
 fn main() {
     let folder = concat!(env!("CARGO_MANIFEST_DIR"), "/../../target/staticlib");

@@ -1,4 +1,4 @@
-//! Links what `rt staticlib maps` wrote.
+//! Links what `tools/archive maps` made.
 
 fn main() {
     let folder = concat!(env!("CARGO_MANIFEST_DIR"), "/../../target/staticlib");

@@ -41,7 +41,7 @@ pub enum Start {
 impl Start {
     pub fn name(&self) -> &'static str {
         match self {
-            Start::SetUp(..) => "set-up",
+            Start::SetUp(..) => "set_up",
             Start::Restore(..) => "restore",
         }
     }
@@ -92,23 +92,23 @@ impl Call {
     /// Its number in the player's file, and its name in the definitions.
     pub fn numbered(&self) -> (u64, &'static str) {
         match self {
-            Call::AddAccount(_) => (1, "add-account"),
+            Call::AddAccount(_) => (1, "add_account"),
             Call::Connect(..) => (2, "connect"),
-            Call::Collar(_) => (3, "set-paper-collar"),
+            Call::Collar(_) => (3, "set_paper_collar"),
             Call::Wallet(_) => (4, "wallet"),
-            Call::LastSeq => (5, "last-seq"),
-            Call::Levels(_) => (6, "depth-levels"),
-            Call::Receive(..) => (7, "receive-from"),
+            Call::LastSeq => (5, "last_seq"),
+            Call::Levels(_) => (6, "depth_levels"),
+            Call::Receive(..) => (7, "receive_from"),
             Call::Tick(_) => (8, "tick"),
             Call::Publish => (9, "publish"),
-            Call::End(..) => (10, "end-session"),
-            Call::ShutDown => (11, "shut-down"),
+            Call::End(..) => (10, "end_session"),
+            Call::ShutDown => (11, "shut_down"),
             Call::Disconnect(_) => (12, "disconnect"),
             Call::Detach(_) => (13, "detach"),
-            Call::TakeBatch => (14, "take-batch"),
-            Call::Deliver(..) => (15, "deliver-event"),
-            Call::ReplayCommand(..) => (16, "replay-command"),
-            Call::ReplayEvent(..) => (17, "replay-event"),
+            Call::TakeBatch => (14, "take_batch"),
+            Call::Deliver(..) => (15, "deliver_event"),
+            Call::ReplayCommand(..) => (16, "replay_command"),
+            Call::ReplayEvent(..) => (17, "replay_event"),
             Call::Finish(_) => (18, "finish"),
             Call::Checkpoint => (19, "checkpoint"),
         }

@@ -60,7 +60,7 @@ impl Theme {
 pub struct Draw {
     state: u64,
     pub theme: Theme,
-    /// For the player: the calls to draw, by their names. `set-up` lists orders, `restore` begins lists and restarts gateways.
+    /// For the player: the calls to draw, by their names. `set_up` lists orders, `restore` begins lists and restarts gateways.
     pub only: Option<Vec<String>>,
     /// Accounts and sessions are drawn from all that document 01 has room for.
     pub wide: bool,
@@ -303,7 +303,7 @@ impl Draw {
         if !restores {
             let mut listing: Vec<Listed> = Vec::new();
             let listed = if matches!(self.theme, Theme::Market | Theme::Ends) { 85 } else { 45 };
-            if self.draws("set-up") && !full && self.chance(listed) {
+            if self.draws("set_up") && !full && self.chance(listed) {
                 for id in ids {
                     let id = if self.chance(3 * odd) { id + 1 } else { id };
                     let live = self.live();

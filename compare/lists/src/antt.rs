@@ -170,10 +170,10 @@ impl Antt for Seen {
         };
         let answer = match answer {
             Answer::Nothing => unreachable!(),
-            Answer::Account(account) => applied("account-was", &[account]),
-            Answer::Wallet(wallet) => applied("wallet-is", &[wallet]),
-            Answer::Number(number) => applied("number-is", &[number]),
-            Answer::Levels(levels) => format!("(levels-are {})", list(levels)),
+            Answer::Account(account) => applied("account_was", &[account]),
+            Answer::Wallet(wallet) => applied("wallet_is", &[wallet]),
+            Answer::Number(number) => applied("number_is", &[number]),
+            Answer::Levels(levels) => format!("(levels_are {})", list(levels)),
             Answer::Commands(commands) => format!("(commands {})", list(commands)),
             Answer::Bytes(bytes) => format!("(bytes {})", list(bytes)),
         };
@@ -185,7 +185,7 @@ impl Antt for Start {
     fn antt(&self) -> String {
         match self {
             Start::SetUp(fee, limit, last, accounts, listing, timing) => {
-                format!("set-up {} {limit} {last} {} {} {}", fee.antt(), list(accounts), list(listing), timing.antt())
+                format!("set_up {} {limit} {last} {} {} {}", fee.antt(), list(accounts), list(listing), timing.antt())
             }
             Start::Restore(fee, limit, accounts, timing, bytes) => {
                 format!("restore {} {limit} {} {} {}", fee.antt(), list(accounts), timing.antt(), list(bytes))

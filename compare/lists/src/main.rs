@@ -213,10 +213,10 @@ fn print(args: &[u64], draw: &mut Draw) {
         let list = list(draw, &mut saved);
         let terms = |items: Vec<String>| wrapped(&[items, vec!["[]".to_owned()]].concat().join(" ∷ "));
         let calls = list.calls.iter().map(|(call, room)| antt::call(call, *room)).collect();
-        println!("abbrev start-{at} : Started\nstart-{at} =\n{}\n", wrapped(&list.start.antt()));
-        println!("abbrev calls-{at} : List Call\ncalls-{at} =\n{}\n", terms(calls));
-        println!("abbrev seen-{at} : List Seen\nseen-{at} =\n{}\n", terms(list.seen.iter().map(Antt::antt).collect()));
-        rows += &format!("(run-from start-{at} calls-{at}, seen-{at}) ∷ ");
+        println!("abbrev start_{at} : Started\nstart_{at} =\n{}\n", wrapped(&list.start.antt()));
+        println!("abbrev calls_{at} : List Call\ncalls_{at} =\n{}\n", terms(calls));
+        println!("abbrev seen_{at} : List Seen\nseen_{at} =\n{}\n", terms(list.seen.iter().map(Antt::antt).collect()));
+        rows += &format!("(run_from start_{at} calls_{at}, seen_{at}) ∷ ");
     }
     print!("{}", include_str!("foot.txt").replace("ROWS", &wrapped(&(rows + "[]"))));
 }
@@ -225,7 +225,7 @@ fn print(args: &[u64], draw: &mut Draw) {
 fn play(args: &[u64], draw: &mut Draw) {
     let mut file = File::default();
     let count = args[1] as usize;
-    let entry = draw.only.as_ref().is_some_and(|only| only.iter().any(|name| name == "receive-from"));
+    let entry = draw.only.as_ref().is_some_and(|only| only.iter().any(|name| name == "receive_from"));
     let mut saved = None;
     for at in 0..count {
         draw.theme = match args.get(2) {

@@ -1,4 +1,4 @@
-// The calls of document 01 for programs that link this library: the methods of `Exchange` of exchange.rs, on numbers and byte slices.
+// The calls of document 01 for programs that link the archive of edge_c: the methods of `Exchange` of exchange.rs, on numbers and byte slices.
 // A slice arrives as its address and its length. Bytes that have not a state's length, a row of another length than its own, and a number outside
 // its enum or its integer type get 11 and change nothing. What the caller has to see to is document 01's premise alone (`Lent`).
 #![tactic(auto)]
