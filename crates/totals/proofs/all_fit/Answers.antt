@@ -9,22 +9,22 @@ use Rattle.totals.proofs.all_fit.Goals as goal
 pub loop-i-init : goal.loop-i-init
 loop-i-init c =
     let s = c.args in
-    (none_left (int s.fee) s.t4 (orders_in s.from s.list.now), omega arith)
+    (none_left (int s.fee) s.accounts (orders_in s.from s.list.now), omega arith)
 
 pub returns-then-not-fits : goal.returns-then-not-fits
 returns-then-not-fits c =
     let i = c.loop-i.invariant in
     let s = c.args in
-    slot_fails (int s.fee) s.t4 (orders_in s.from s.list.now) c.loop-i.i c.loop-i-test.true i.1 i.0 _ c.slot_fits-fits.ensures c.if-not-fits.true
+    slot_fails (int s.fee) s.accounts (orders_in s.from s.list.now) c.loop-i.i c.loop-i-test.true i.1 i.0 _ c.slot_fits-fits.ensures c.if-not-fits.true
 
 pub loop-i-preserved : goal.loop-i-preserved
 loop-i-preserved c =
     let i = c.loop-i.invariant in
     let s = c.args in
-    (slot_fine (int s.fee) s.t4 (orders_in s.from s.list.now) c.loop-i.i c.loop-i-test.true i.1 i.0 _ c.slot_fits-fits.ensures c.if-not-fits.false, omega (arith, i.1))
+    (slot_fine (int s.fee) s.accounts (orders_in s.from s.list.now) c.loop-i.i c.loop-i-test.true i.1 i.0 _ c.slot_fits-fits.ensures c.if-not-fits.false, omega (arith, i.1))
 
 pub returns : goal.returns
 returns c =
     let z : c.loop-i.i ≡ 0 = omega (arith, c.loop-i-test.false) in
     let s = c.args in
-    sym c.loop-i.invariant.0 ∙ ap (λ k. wallets_fit (int s.fee) s.t4 k (orders_in s.from s.list.now)) z
+    sym c.loop-i.invariant.0 ∙ ap (λ k. wallets_fit (int s.fee) s.accounts k (orders_in s.from s.list.now)) z
