@@ -68,6 +68,9 @@ kept S.code a_code (done a is ms g) out = refl
 kept S.number a_number (done a is ms g) out = refl
 kept S.wallet a_wallet (done a is ms g) out = refl
 kept S.account an_account (done a is ms g) out = refl
+kept S.mail i (done a is ms g) out = elim i [ ]
+kept (S.rows w) i (done a is ms g) out = elim i [ ]
+kept S.bytes i (done a is ms g) out = elim i [ ]
 
 -- ---- a step
 

@@ -1,3 +1,4 @@
+use native.Mathlib.Omega.{arith}
 use Rattle.script.proofs.Laws.{is_phase}
 use Rattle.deliver.proofs.Events.{events, as_event}
 use Rattle.deliver.proofs.deliver.Goals as goal
@@ -34,5 +35,4 @@ returns-in-9 c = search events
 
 pub returns-in_default : goal.returns-in_default
 returns-in_default c =
-    let r = c.in_default.rest in
-    as_event _ _ _ _ _ _ _ _ c.phase_changed.ensures (is_phase _ _ c.word.ensures _ r.0.0.0.0.0.0.0.0.0.1 r.0.0.0.0.0.0.0.0.1 r.0.0.0.0.0.0.0.1 r.0.0.0.0.0.0.1 r.0.0.0.0.0.1 r.0.0.0.0.1 r.0.0.0.1 r.0.0.1 r.0.1 r.1 c.phase.ensures)
+    as_event _ _ _ _ _ _ _ _ c.phase_changed.ensures (is_phase _ _ c.word.ensures _ (λ e. omega arith) (λ e. omega arith) (λ e. omega arith) (λ e. omega arith) (λ e. omega arith) (λ e. omega arith) (λ e. omega arith) (λ e. omega arith) (λ e. omega arith) (λ e. omega arith) c.phase.ensures)
