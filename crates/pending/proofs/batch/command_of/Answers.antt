@@ -24,4 +24,3 @@ returns-in-3 c = rw (c.in-3.is, read {x = c.to_i64-in-3.result} c.to_i64-in-3.ty
 pub returns-in-4 : goal.returns-in-4
 returns-in-4 c =
     rw (c.in-4.is, c.side_of-side.ensures, read {x = c.to_i64-in-4.result} c.to_i64-in-4.type_inv ∙ c.to_i64-in-4.ensures, c.price_of.ensures) refl
-

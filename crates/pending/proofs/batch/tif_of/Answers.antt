@@ -11,4 +11,3 @@ returns-in-1 c = rw c.in-1.is refl
 
 pub returns-in-2 : goal.returns-in-2
 returns-in-2 c = rw c.in-2.is refl
-
