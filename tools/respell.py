@@ -4,8 +4,7 @@
 usage: tools/respell.py    at the top of the repository, once, after the kit's port.py
 
 It rewrites specs/, the lemma files of proofs/, the clauses of src/, the texts of must-fail edits and the names in backquotes of comments and pages.
-Names of the kit, which a file imports from a module that is not this repository's, keep their spelling; so do Proof.antt files, which
-tools/answers.py turns. It prints names that would fall together, and then writes nothing.
+Names of the kit, which a file imports from a module that is not this repository's, keep their spelling; so do Proof.antt files (docs/PORT.md). It prints names that would fall together, and then writes nothing.
 """
 import os
 import re

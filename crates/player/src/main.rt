@@ -2,38 +2,22 @@
 // Rust's answers, and the written rule's for lists with a fee.
 #![tactic(auto)]
 
-ghost use Rattle.std.specs.Prelude.{◌≡◌, ◌*◌, ◌≤◌, length, IfOk};
+ghost use Rattle.std.specs.Prelude.{◌≡◌, ◌*◌, ◌≤◌, length};
 ghost use Rattle.store.specs.Layout.{Holds};
 ghost use Rattle.edge.specs.Entering.{Lent};
 
 use accounts::{Account, MaybeFunds, Timing};
 use std::fs::File;
-use std::io::Read;
 use std::{fs, io};
 use stored::{Difference, Tally};
 
 // ---- the file
 
-// Reads until `buf` is full or the file ends, and answers how many bytes came.
-fn read_full(file: &mut File, buf: &mut [u8]) -> io::Result<usize>
-    ensures { IfOk result (λ n. n ≤ length buf.new) }
-{
-    let mut done = 0;
-    while done < buf.len() {
-        let n = file.read(&mut buf[done..])?;
-        if n == 0 {
-            return Ok(done);
-        }
-        done += n;
-    }
-    Ok(done)
-}
-
 // The first 7 words of a row of 16.
 fn read_account(file: &mut File, to: &mut [u8]) -> io::Result<()> {
     let mut rest = [0u8; 72];
-    read_full(file, to)?;
-    read_full(file, &mut rest)?;
+    stored::read_full(file, to)?;
+    stored::read_full(file, &mut rest)?;
     Ok(())
 }
 
@@ -54,7 +38,7 @@ fn read_rows(file: &mut File, row: &[u8]) -> io::Result<[u8; 24576]> {
     let mut rows = [0xa5u8; 24576];
     let n = stored::given(row);
     let whole = 8 * ((n + 7) / 8);
-    read_full(file, &mut rows[..whole])?;
+    stored::read_full(file, &mut rows[..whole])?;
     Ok(rows)
 }
 
@@ -122,6 +106,15 @@ fn play_both(
 
 // ---- all rows
 
+// Says where: what was compared, and then the words on the rest of the line, where whole ones differ.
+fn say_difference(rt: &impl Print, at: &Difference<'_>) -> io::Result<()> {
+    rt.write_all(at.text)?;
+    match at.first {
+        Some(d) => println!(rt; ", word {}: {} wanted, got {}", d.word, d.want, d.got),
+        None => Ok(()),
+    }
+}
+
 fn say_where(rt: &impl Print, t: Tally) -> io::Result<()> {
     println!(rt; " in list {}, row {}", t.lists, t.rows)
 }
@@ -144,7 +137,7 @@ fn next_row(
     let more = play_both(file, m, s, row, &mut at)?;
     let after = stored::counted(row, t, more);
     if !more {
-        stored::say_difference(rt, &at)?;
+        say_difference(rt, &at)?;
         say_where(rt, after)?;
     }
     Ok(after)
@@ -155,7 +148,7 @@ fn next(rt: &impl Print, file: &mut File, m: &mut [u8], s: &mut [u8], t: Tally) 
     ensures { Lent m.new × Lent s.new }
 {
     let mut row = [0u8; 128];
-    let got = read_full(file, &mut row)?;
+    let got = stored::read_full(file, &mut row)?;
     if got != 128 {
         return stored::finish(rt, got, t);
     }

@@ -6,6 +6,7 @@ ghost use Rattle.std.specs.Prelude.{◌≤◌, length};
 
 use le::Loaded;
 use risk::Bucket;
+use std::fs::File;
 use std::{fs, io};
 
 fn word(row: &[u8], at: usize) -> u64 {
@@ -126,17 +127,22 @@ fn replay(row: &[u8], bucket: &mut [u8]) -> bool
     same(row, code, &out)
 }
 
-fn replay_all(rt: &impl Print, rows: &[u8]) -> io::Result<()> {
+fn replay_all(rt: &impl Print, file: &mut File) -> io::Result<()> {
     let mut bucket = [0u8; 16];
-    for (n, row) in rows.chunks(120).enumerate() {
-        if row.len() != 120 || !replay(row, &mut bucket) {
+    for n in 0..u64::MAX {
+        let mut row = [0u8; 120];
+        let got = stored::read_full(file, &mut row)?;
+        if got == 0 {
+            return println!(rt; "{n} rows equal");
+        }
+        if got != 120 || !replay(&row, &mut bucket) {
             return println!(rt; "{n} rows equal, and the next differs");
         }
     }
-    println!(rt; "{} rows equal", rows.len() / 120)
+    Ok(())
 }
 
 fn main(rt: HostRuntime) -> io::Result<()> {
-    let rows = fs::read(&rt, "answers")?;
-    replay_all(&rt, &rows)
+    let mut file = fs::open(&rt, "answers")?;
+    replay_all(&rt, &mut file)
 }

@@ -1,10 +1,12 @@
 // The rows of a stored file of lists of calls: their words, read, compared and said. compare/README.md has the file's rows.
 #![tactic(auto)]
 
-ghost use Rattle.std.specs.Prelude.{◌≡◌, ◌≤◌, min, true, false, IfOk};
+ghost use Rattle.std.specs.Prelude.{◌≡◌, ◌≤◌, min, true, false, IfOk, length};
 ghost use Rattle.stored.specs.Rows as R;
 
+use std::fs::File;
 use std::io;
+use std::io::Read;
 
 // ---- the words of a row
 
@@ -120,16 +122,22 @@ pub fn agrees<'a>(text: &'a [u8], want: &[u8], got: &[u8], at: &mut Difference<'
     false
 }
 
-// Says where: what was compared, and then the words on the rest of the line, where whole ones differ.
-pub fn say_difference(rt: &impl Print, at: &Difference<'_>) -> io::Result<()> {
-    rt.write_all(at.text)?;
-    match at.first {
-        Some(d) => println!(rt; ", word {}: {} wanted, got {}", d.word, d.want, d.got),
-        None => Ok(()),
-    }
-}
-
 // ---- the file
+
+// Reads until `buf` is full or the file ends, and answers how many bytes came.
+pub fn read_full(file: &mut File, buf: &mut [u8]) -> io::Result<usize>
+    ensures { IfOk result (λ n. n ≤ length buf.new) }
+{
+    let mut done = 0;
+    while done < buf.len() {
+        let n = file.read(&mut buf[done..])?;
+        if n == 0 {
+            return Ok(done);
+        }
+        done += n;
+    }
+    Ok(done)
+}
 
 pub fn at_most(n: u64, most: usize) -> usize
     ensures upper_bound { result ≤ most }
