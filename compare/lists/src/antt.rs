@@ -45,21 +45,21 @@ impl Antt for i64 {
 }
 
 macro_rules! options {
-    ($($part:ty, $none:literal, $some:literal;)*) => {
+    ($($part:ty, $some:literal;)*) => {
         $(impl Antt for Option<$part> {
             fn antt(&self) -> String {
-                self.as_ref().map_or($none.to_owned(), |part| applied($some, &[part]))
+                self.as_ref().map_or("None".to_owned(), |part| applied($some, &[part]))
             }
         })*
     };
 }
 
 options! {
-    i64, "None", "Some";
-    u64, "Qty.None", "Qty.Some";
-    u32, "none", "some";
-    Funds, "F.None", "funds";
-    Wallet, "none", "some";
+    i64, "Some";
+    u64, "Some";
+    u32, "Some";
+    Funds, "funds";
+    Wallet, "Some";
 }
 
 // A struct is a word of the printed file's head, applied to its fields.

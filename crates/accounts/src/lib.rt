@@ -10,14 +10,7 @@ pub struct Account {
     pub token: u64,
     pub max_open_orders: u32,
     pub messages_per_second: u32,
-    pub funds: MaybeFunds,
-}
-
-// What a prepaid account starts with; none for an account whose orders are not checked against money or position.
-#[derive(Clone, Copy)]
-pub enum MaybeFunds {
-    None,
-    Some(Funds),
+    pub funds: Option<Funds>,
 }
 
 #[derive(Clone, Copy)]
@@ -37,9 +30,10 @@ impl Timing {
     pub const HEARTBEAT: u64 = 1_000_000_000;
 
     pub const IDLE_TIMEOUT: u64 = 5_000_000_000;
+}
 
-    // The Rust's `Timing::default`.
-    pub fn default() -> Self
+impl Default for Timing {
+    fn default() -> Self
         ensures { result ≡ record { heartbeat = 1000000000; idle_timeout = 5000000000 } }
     {
         Self {

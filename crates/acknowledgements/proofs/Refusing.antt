@@ -1,4 +1,5 @@
 -- A command is refused: a new order ends, another command changes nothing. Assumes nothing.
+use Rattle.std.specs.Prelude.{Ok, Err, Result}
 use mathlib.Core.Path.{◌≡◌, refl, sym, ap, ap₂, subst, ◌∙◌}
 use mathlib.Core.Bool.{Bool, true, false, cond, not, ◌&&◌, ◌||◌}
 use mathlib.Core.List.{List, [], ◌∷◌, append-nil}
@@ -15,13 +16,14 @@ use Rattle.gateway.specs.Core.{Core, names_below, numbers_agree, drop_below, fir
 use Rattle.gateway.specs.Depth.{apply, depth_agrees}
 use Rattle.gateway.specs.Rest.{Rest}
 use Rattle.gateway.specs.Deliver.{tell_sender, reports, tick_of, change_notices}
-use Rattle.gateway.specs.Invariant.{Ok}
+use Rattle.gateway.specs.Invariant.{GatewayOk}
 use Rattle.gateway.specs.Calls.{Gateway, call, deliver_event}
 use Rattle.store.specs.Layout.{cell}
 use Rattle.store.specs.View.{word, ledger, gateway, in_slot}
 use Rattle.sound.specs.Sound.{State, Becomes}
 use Rattle.mailbox.specs.Mailbox.{places}
-use Rattle.outcome.specs.declared.Reply.{Reply}
+use Rattle.outcome.specs.declared.Refusal.{Refusal}
+use Rattle.outcome.specs.Refusals.{refusal_code}
 use Rattle.outcome.specs.Between.{Between}
 use Rattle.outcome.specs.Answers.{verdict, Gives}
 use Rattle.outcome.specs.Parts.{Sends}
@@ -68,7 +70,7 @@ module _ (n : ℕ) (why : RejectReason) (g : Gateway) where
       go true = refl
       go false = refl
 
-  order_judges : Ok g → (h : Shift) → Weighs n Retire h g → (t : Told) → TellsSender n n t g → (room : ℕ) → Judges n (Rejected n why) room g (order_refused n h t room g)
+  order_judges : GatewayOk g → (h : Shift) → Weighs n Retire h g → (t : Told) → TellsSender n n t g → (room : ℕ) → Judges n (Rejected n why) room g (order_refused n h t room g)
   unfolding names_below depth_agrees step apply tick_of
   order_judges ok h w t tells room =
       record {
@@ -88,33 +90,33 @@ module _ (n : ℕ) (why : RejectReason) (g : Gateway) where
   unfolding step apply tick_of
   order_after = rw (own, append-nil g.rest.trades, append-nil (change_notices (retire n) g.core.ledger)) refl
 
-module _ (xs out : List ℕ) (n : ℕ) (why : RejectReason) (b : Between xs) (h : Shift) (w : Weighs n Retire h (gateway (cell xs))) (t : Told) (tells : TellsSender n n t (gateway (cell xs))) (p v : ℕ)
-    (room : p ≡ places (length out)) (v_is : v ≡ verdict (tests (order_refused n h t p (gateway (cell xs))))) where
-  order_whole : v ≡ verdict (call_tests n (Rejected n why) (places (length out)) (gateway (cell xs)))
-  order_whole =
+module _ (xs out : List ℕ) (n : ℕ) (why : RejectReason) (b : Between xs) (h : Shift) (w : Weighs n Retire h (gateway (cell xs))) (t : Told) (tells : TellsSender n n t (gateway (cell xs))) (p : ℕ)
+    (room : p ≡ places (length out)) where
+  order_whole : (v : ℕ) → v ≡ verdict (tests (order_refused n h t p (gateway (cell xs)))) → v ≡ verdict (call_tests n (Rejected n why) (places (length out)) (gateway (cell xs)))
+  order_whole v v_is =
       v_is ∙ ap (λ r. verdict (tests (order_refused n h t r (gateway (cell xs))))) room
       ∙ judged_is n (Rejected n why) (places (length out)) (gateway (cell xs)) (order_refused n h t (places (length out)) (gateway (cell xs)))
       (order_judges n why (gateway (cell xs)) b.ok h w t tells (places (length out)))
 
-  pub order_not : (v ≡ 0 → ⊥) → Gives (call (gateway (cell xs)) (deliver_event n (Rejected n why) (places (length out)))) (record { code = v; count = 0 }) xs xs out out
-  order_not = deliver_refused xs out n (Rejected n why) tt b v order_whole
+  pub order_not : (x : Refusal) → refusal_code x ≡ verdict (tests (order_refused n h t p (gateway (cell xs)))) → Gives (call (gateway (cell xs)) (deliver_event n (Rejected n why) (places (length out)))) (Err x) xs xs out out
+  order_not x e = deliver_refused xs out n (Rejected n why) tt b x (order_whole (refusal_code x) e)
 
-  module _ (z : v ≡ 0) where
+  module _ (z : 0 ≡ verdict (tests (order_refused n h t p (gateway (cell xs))))) where
     passed_flying : in_flight n (gateway (cell xs)).core ≡ true
-    passed_flying = (all_pass (order_refused n h t p (gateway (cell xs))) v v_is z).0
+    passed_flying = (all_pass (order_refused n h t p (gateway (cell xs))) z).0
 
     pub order_room : 0 + told_rows t ≤ places (length out)
-    order_room = told_room (order_refused n h t p (gateway (cell xs))) v (told_rows t) p (places (length out)) v_is z refl room
+    order_room = told_room (order_refused n h t p (gateway (cell xs))) (told_rows t) p (places (length out)) z refl room
 
     pub can_retire : CanRetire n (gateway (cell xs))
     can_retire =
-        let a = all_pass (order_refused n h t p (gateway (cell xs))) v v_is z in
+        let a = all_pass (order_refused n h t p (gateway (cell xs))) z in
         record { flying = a.0; noticed = few_noticed (gateway (cell xs)) w a.1.1.1.1.1.1.1.1.0 }
 
     pub order_done : {ys zs end : List ℕ} (m : ℕ) → m ≡ told_rows t → Becomes ys (retired n (gateway (cell xs))) → Sends 0 (told_mail n n (Kind.Rejected why) t) (λ x. x) ys zs out end →
-        Gives (call (gateway (cell xs)) (deliver_event n (Rejected n why) (places (length out)))) (record { code = 0; count = m }) xs zs out end
+        Gives (call (gateway (cell xs)) (deliver_event n (Rejected n why) (places (length out)))) (Ok m) xs zs out end
     order_done {ys} m m_is d u =
-        deliver_done xs out n (Rejected n why) tt b v order_whole z (told_mail n n (Kind.Rejected why) t)
+        deliver_done xs out n (Rejected n why) tt b (order_whole 0 z) (told_mail n n (Kind.Rejected why) t)
         (tells.mail passed_flying (Kind.Rejected why) ∙ refused_told n n why (gateway (cell xs)).core (gateway (cell xs)).rest) m (m_is ∙ told_length n n (Kind.Rejected why) t)
         (subst (Becomes ys) (order_after n why (gateway (cell xs))) d) u
 
@@ -158,7 +160,7 @@ module _ (xs : List ℕ) (st : State xs) (n i : ℕ) (ne : i ≡ n → ⊥) (why
       go true = refl
       go false = refl
 
-  command_judges : Ok g → (t : Told) → TellsSender n i t g → (room : ℕ) → Judges n (Rejected i why) room g (command_refused n i t room (cell xs))
+  command_judges : GatewayOk g → (t : Told) → TellsSender n i t g → (room : ℕ) → Judges n (Rejected i why) room g (command_refused n i t room (cell xs))
   unfolding names_below depth_agrees step apply tick_of
   command_judges ok t tells room =
       record {
@@ -178,32 +180,31 @@ module _ (xs : List ℕ) (st : State xs) (n i : ℕ) (ne : i ≡ n → ⊥) (why
   unfolding step apply tick_of
   command_after = rw (none_changes, append-nil g.rest.trades, append-nil g.rest.notices) refl
 
-module _ (xs out : List ℕ) (n i : ℕ) (ne : i ≡ n → ⊥) (why : RejectReason) (b : Between xs) (t : Told) (tells : TellsSender n i t (gateway (cell xs))) (p v : ℕ) (room : p ≡ places (length out))
-    (v_is : v ≡ verdict (tests (command_refused n i t p (cell xs)))) where
-  command_whole : v ≡ verdict (call_tests n (Rejected i why) (places (length out)) (gateway (cell xs)))
-  command_whole =
+module _ (xs out : List ℕ) (n i : ℕ) (ne : i ≡ n → ⊥) (why : RejectReason) (b : Between xs) (t : Told) (tells : TellsSender n i t (gateway (cell xs))) (p : ℕ) (room : p ≡ places (length out)) where
+  command_whole : (v : ℕ) → v ≡ verdict (tests (command_refused n i t p (cell xs))) → v ≡ verdict (call_tests n (Rejected i why) (places (length out)) (gateway (cell xs)))
+  command_whole v v_is =
       v_is ∙ ap (λ r. verdict (tests (command_refused n i t r (cell xs)))) room
       ∙ judged_is n (Rejected i why) (places (length out)) (gateway (cell xs)) (command_refused n i t (places (length out)) (cell xs)) (command_judges xs b.state n i ne why b.ok t tells (places (length out)))
 
-  pub command_not : (v ≡ 0 → ⊥) → Gives (call (gateway (cell xs)) (deliver_event n (Rejected i why) (places (length out)))) (record { code = v; count = 0 }) xs xs out out
-  command_not = deliver_refused xs out n (Rejected i why) tt b v command_whole
+  pub command_not : (x : Refusal) → refusal_code x ≡ verdict (tests (command_refused n i t p (cell xs))) → Gives (call (gateway (cell xs)) (deliver_event n (Rejected i why) (places (length out)))) (Err x) xs xs out out
+  command_not x e = deliver_refused xs out n (Rejected i why) tt b x (command_whole (refusal_code x) e)
 
-  module _ (z : v ≡ 0) where
+  module _ (z : 0 ≡ verdict (tests (command_refused n i t p (cell xs)))) where
     pub command_flying : in_flight n (gateway (cell xs)).core ≡ true
-    command_flying = (all_pass (command_refused n i t p (cell xs)) v v_is z).0
+    command_flying = (all_pass (command_refused n i t p (cell xs)) z).0
 
     pub command_room : 0 + told_rows t ≤ places (length out)
-    command_room = told_room (command_refused n i t p (cell xs)) v (told_rows t) p (places (length out)) v_is z refl room
+    command_room = told_room (command_refused n i t p (cell xs)) (told_rows t) p (places (length out)) z refl room
 
     pub command_done : {ys zs end : List ℕ} (m : ℕ) → m ≡ told_rows t → Becomes ys (landed n (gateway (cell xs))) → Sends 0 (told_mail n i (Kind.Rejected why) t) (λ x. x) ys zs out end →
-        Gives (call (gateway (cell xs)) (deliver_event n (Rejected i why) (places (length out)))) (record { code = 0; count = m }) xs zs out end
+        Gives (call (gateway (cell xs)) (deliver_event n (Rejected i why) (places (length out)))) (Ok m) xs zs out end
     command_done {ys} m m_is d u =
-        deliver_done xs out n (Rejected i why) tt b v command_whole z (told_mail n i (Kind.Rejected why) t)
+        deliver_done xs out n (Rejected i why) tt b (command_whole 0 z) (told_mail n i (Kind.Rejected why) t)
         (tells.mail command_flying (Kind.Rejected why) ∙ refused_told n i why (gateway (cell xs)).core (gateway (cell xs)).rest) m (m_is ∙ told_length n i (Kind.Rejected why) t)
         (subst (Becomes ys) (command_after xs b.state n i ne why) d) u
 
 -- the refusal of the order of its own number
-pub own_refusal : (xs out : List ℕ) {ys end : List ℕ} (n i : ℕ) (why : RejectReason) (r : Reply) → i ≡ n → Gives (call (gateway (cell xs)) (deliver_event n (Rejected n why) (places (length out)))) r xs ys out end →
+pub own_refusal : (xs out : List ℕ) {ys end : List ℕ} (n i : ℕ) (why : RejectReason) (r : Result ℕ Refusal) → i ≡ n → Gives (call (gateway (cell xs)) (deliver_event n (Rejected n why) (places (length out)))) r xs ys out end →
     Gives (call (gateway (cell xs)) (deliver_event n (Rejected i why) (places (length out)))) r xs ys out end
 own_refusal xs out {ys} {end} n i why r e h = subst (λ (k : ℕ). Gives (call (gateway (cell xs)) (deliver_event n (Rejected k why) (places (length out)))) r xs ys out end) (sym e) h
 

@@ -13,6 +13,7 @@ ghost use Rattle.orders.specs.Orders.{Sees};
 ghost use Rattle.sound.specs.Sound.{State, Becomes};
 ghost use Rattle.mailbox.specs.Mailbox.{places};
 ghost use Rattle.outcome.specs.Between.{Between};
+ghost use Rattle.outcome.specs.Refusals.{code_of};
 ghost use Rattle.outcome.specs.Answers.{verdict, Gives};
 ghost use Rattle.delivery.specs.Delivery as Delivery;
 ghost use Rattle.holds.specs.declared.Move.TheVariants.{Retire};
@@ -21,21 +22,20 @@ ghost use Rattle.acknowledgements.specs.Acknowledgements as P;
 
 use delivery::Tests;
 use holds::Shift;
-use orderbook::{MaybePrice, RejectReason, Side};
-use outcome::Reply;
+use orderbook::{RejectReason, Side};
+use outcome::Refusal;
 use protocol::ReportKind;
 use reporting::Told;
-use table::Found;
 
 // ---- nothing but the run of numbers moves
 
-fn judge_quiet(m: &[u8], n: u64, id: u64, t: Told, room: usize) -> u64
+fn judge_quiet(m: &[u8], n: u64, id: u64, t: Told, room: usize) -> Result<(), Refusal>
     requires { State m.now }
-    ensures { result ≡ verdict (Delivery.tests (P.quiet_tests n id t room (gateway (cell m.now)))) }
+    ensures { code_of result ≡ verdict (Delivery.tests (P.quiet_tests n id t room (gateway (cell m.now)))) }
 {
     let flying = delivery::is_flying(m, n);
     let rows = reporting::rows(t);
-    delivery::code_of(Tests {
+    delivery::judge(Tests {
         flying,
         below: true,
         numbers: id <= n,
@@ -49,24 +49,21 @@ fn judge_quiet(m: &[u8], n: u64, id: u64, t: Told, room: usize) -> u64
     })
 }
 
-fn quiet(m: &mut [u8], n: u64, id: u64, kind: ReportKind, out: &mut [u8]) -> Reply
+fn quiet(m: &mut [u8], n: u64, id: u64, kind: ReportKind, out: &mut [u8]) -> Result<usize, Refusal>
     requires { Between m.old }
     ensures { (e : Event) → P.Still id kind e → Gives (call (gateway (cell m.old)) (deliver_event n e (places (length out.old)))) result m.old m.new out.old out.new }
 {
     let live = orders::find_live(m, id);
     let t = reporting::owner(m, id, live);
-    let code = judge_quiet(m, n, id, t, mailbox::room(out));
-    if code != 0 {
-        return Reply { code, count: 0 };
-    }
+    judge_quiet(m, n, id, t, mailbox::room(out))?;
     let k = reporting::rows(t);
     delivery::land(m, n);
     reporting::report(m, out, 0, n, id, t, kind);
-    Reply { code: 0, count: k }
+    Ok(k)
 }
 
 // The order was taken.
-pub fn accepted(m: &mut [u8], n: u64, id: u64, out: &mut [u8]) -> Reply
+pub fn accepted(m: &mut [u8], n: u64, id: u64, out: &mut [u8]) -> Result<usize, Refusal>
     requires { Between m.old }
     ensures { Gives (call (gateway (cell m.old)) (deliver_event n (Accepted id) (places (length out.old)))) result m.old m.new out.old out.new }
 {
@@ -74,7 +71,7 @@ pub fn accepted(m: &mut [u8], n: u64, id: u64, out: &mut [u8]) -> Reply
 }
 
 // A stop's price was reached.
-pub fn triggered(m: &mut [u8], n: u64, id: u64, out: &mut [u8]) -> Reply
+pub fn triggered(m: &mut [u8], n: u64, id: u64, out: &mut [u8]) -> Result<usize, Refusal>
     requires { Between m.old }
     ensures { Gives (call (gateway (cell m.old)) (deliver_event n (Triggered id) (places (length out.old)))) result m.old m.new out.old out.new }
 {
@@ -88,10 +85,10 @@ pub fn stop_placed(
     id: u64,
     side: Side,
     trigger: i64,
-    limit: MaybePrice,
+    limit: Option<i64>,
     qty: u64,
     out: &mut [u8],
-) -> Reply
+) -> Result<usize, Refusal>
     requires { Between m.old }
     ensures { Gives (call (gateway (cell m.old)) (deliver_event n (StopPlaced id side trigger limit qty) (places (length out.old)))) result m.old m.new out.old out.new }
 {
@@ -106,15 +103,15 @@ pub fn stop_placed(
 
 // ---- a command is refused
 
-fn judge_order(m: &[u8], n: u64, h: Shift, t: Told, room: usize) -> u64
+fn judge_order(m: &[u8], n: u64, h: Shift, t: Told, room: usize) -> Result<(), Refusal>
     requires { Between m.now × Holds.Weighed h (ledger (cell m.now)) }
-    ensures { result ≡ verdict (Delivery.tests (P.order_refused n h t room (gateway (cell m.now)))) }
+    ensures { code_of result ≡ verdict (Delivery.tests (P.order_refused n h t room (gateway (cell m.now)))) }
 {
     let flying = delivery::is_flying(m, n);
     let fits = holds::fits(m, h);
     let few = holds::few(m, h.notices);
     let rows = reporting::rows(t);
-    delivery::code_of(Tests {
+    delivery::judge(Tests {
         flying,
         below: true,
         numbers: true,
@@ -128,7 +125,7 @@ fn judge_order(m: &[u8], n: u64, h: Shift, t: Told, room: usize) -> u64
     })
 }
 
-fn retire(m: &mut [u8], n: u64, live: Found)
+fn retire(m: &mut [u8], n: u64, live: Option<usize>)
     requires { State m.old × Sees C.order_live order number_of (cell m.old) n live × P.CanRetire n (gateway (cell m.old)) }
     ensures { Becomes m.new (P.retired n (gateway (cell m.old))) }
 {
@@ -137,21 +134,23 @@ fn retire(m: &mut [u8], n: u64, live: Found)
 }
 
 // A new order is refused: it ends.
-fn order_refused(m: &mut [u8], n: u64, reason: RejectReason, out: &mut [u8]) -> Reply
+fn order_refused(
+    m: &mut [u8],
+    n: u64,
+    reason: RejectReason,
+    out: &mut [u8],
+) -> Result<usize, Refusal>
     requires { Between m.old }
     ensures { Gives (call (gateway (cell m.old)) (deliver_event n (Rejected n reason) (places (length out.old)))) result m.old m.new out.old out.new }
 {
     let live = orders::find_live(m, n);
     let h = holds::weigh(m, n, live, 0, 0);
     let t = reporting::sender(m, n, n, live);
-    let code = judge_order(m, n, h, t, mailbox::room(out));
-    if code != 0 {
-        return Reply { code, count: 0 };
-    }
+    judge_order(m, n, h, t, mailbox::room(out))?;
     let k = reporting::rows(t);
     retire(m, n, live);
     reporting::report(m, out, 0, n, n, t, ReportKind::Rejected(reason));
-    Reply { code: 0, count: k }
+    Ok(k)
 }
 
 // A refusal that names another order is not of a new one.
@@ -166,14 +165,14 @@ pub fn names_earlier(m: &[u8], n: u64, id: u64) -> bool
     false
 }
 
-fn judge_command(m: &[u8], n: u64, id: u64, t: Told, room: usize) -> u64
+fn judge_command(m: &[u8], n: u64, id: u64, t: Told, room: usize) -> Result<(), Refusal>
     requires { State m.now }
-    ensures { result ≡ verdict (Delivery.tests (P.command_refused n id t room (cell m.now))) }
+    ensures { code_of result ≡ verdict (Delivery.tests (P.command_refused n id t room (cell m.now))) }
 {
     let flying = delivery::is_flying(m, n);
     let numbers = names_earlier(m, n, id);
     let rows = reporting::rows(t);
-    delivery::code_of(Tests {
+    delivery::judge(Tests {
         flying,
         below: true,
         numbers,
@@ -188,23 +187,32 @@ fn judge_command(m: &[u8], n: u64, id: u64, t: Told, room: usize) -> u64
 }
 
 // Another command is refused: nothing changes.
-fn command_refused(m: &mut [u8], n: u64, id: u64, reason: RejectReason, out: &mut [u8]) -> Reply
+fn command_refused(
+    m: &mut [u8],
+    n: u64,
+    id: u64,
+    reason: RejectReason,
+    out: &mut [u8],
+) -> Result<usize, Refusal>
     requires { Between m.old × (id ≡ n → ⊥) }
     ensures { Gives (call (gateway (cell m.old)) (deliver_event n (Rejected id reason) (places (length out.old)))) result m.old m.new out.old out.new }
 {
     let live = orders::find_live(m, id);
     let t = reporting::sender(m, n, id, live);
-    let code = judge_command(m, n, id, t, mailbox::room(out));
-    if code != 0 {
-        return Reply { code, count: 0 };
-    }
+    judge_command(m, n, id, t, mailbox::room(out))?;
     let k = reporting::rows(t);
     delivery::land(m, n);
     reporting::report(m, out, 0, n, id, t, ReportKind::Rejected(reason));
-    Reply { code: 0, count: k }
+    Ok(k)
 }
 
-pub fn rejected(m: &mut [u8], n: u64, id: u64, reason: RejectReason, out: &mut [u8]) -> Reply
+pub fn rejected(
+    m: &mut [u8],
+    n: u64,
+    id: u64,
+    reason: RejectReason,
+    out: &mut [u8],
+) -> Result<usize, Refusal>
     requires { Between m.old }
     ensures { Gives (call (gateway (cell m.old)) (deliver_event n (Rejected id reason) (places (length out.old)))) result m.old m.new out.old out.new }
 {

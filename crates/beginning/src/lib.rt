@@ -7,9 +7,11 @@ ghost use Rattle.words.specs.Words.{int};
 ghost use Rattle.gateway.specs.Start.{set_up, restore};
 ghost use Rattle.store.specs.Layout.{Holds};
 ghost use Rattle.listing.specs.Rows.{listing};
+ghost use Rattle.outcome.specs.Refusals.{code_of};
 ghost use Rattle.opening.specs.Starts.{Starts};
 
 use accounts::{Account, Timing};
+use outcome::Refusal;
 
 pub fn set_up(
     m: &mut [u8],
@@ -19,9 +21,9 @@ pub fn set_up(
     timing: Timing,
     accounts: &[Account],
     list: &[u8],
-) -> u64
+) -> Result<(), Refusal>
     requires { Holds m.old }
-    ensures { Starts (set_up (int fee) limit last accounts.now (listing list.now) timing) result m.old m.new }
+    ensures { Starts (set_up (int fee) limit last accounts.now (listing list.now) timing) (code_of result) m.old m.new }
 {
     let r = roster::gather(limit, accounts);
     setup::set_up(m, fee, limit, last, timing, r, list)
@@ -34,9 +36,9 @@ pub fn restore(
     timing: Timing,
     accounts: &[Account],
     bytes: &[u8],
-) -> u64
+) -> Result<(), Refusal>
     requires { Holds m.old }
-    ensures { Starts (restore (int fee) limit accounts.now timing bytes.now) result m.old m.new }
+    ensures { Starts (restore (int fee) limit accounts.now timing bytes.now) (code_of result) m.old m.new }
 {
     let r = roster::gather(limit, accounts);
     restore::restore(m, fee, limit, timing, r, bytes)
@@ -51,9 +53,9 @@ pub fn set_up_one(
     timing: Timing,
     account: Account,
     list: &[u8],
-) -> u64
+) -> Result<(), Refusal>
     requires { Holds m.old }
-    ensures { Starts (set_up (int fee) limit last (account ∷ []) (listing list.now) timing) result m.old m.new }
+    ensures { Starts (set_up (int fee) limit last (account ∷ []) (listing list.now) timing) (code_of result) m.old m.new }
 {
     let accounts = [account];
     set_up(m, fee, limit, last, timing, &accounts, list)
@@ -66,9 +68,9 @@ pub fn restore_one(
     timing: Timing,
     account: Account,
     bytes: &[u8],
-) -> u64
+) -> Result<(), Refusal>
     requires { Holds m.old }
-    ensures { Starts (restore (int fee) limit (account ∷ []) timing bytes.now) result m.old m.new }
+    ensures { Starts (restore (int fee) limit (account ∷ []) timing bytes.now) (code_of result) m.old m.new }
 {
     let accounts = [account];
     restore(m, fee, limit, timing, &accounts, bytes)

@@ -46,11 +46,8 @@ pub fn clear(m: &mut [u8], b: usize, n: usize)
     requires { Holds m.old × P.Map b n }
     ensures { Is m.new (P.emptied b (n / 64) (cell m.old)) }
 {
-    let k = n / 64;
-    let mut g: usize = 0;
-    while g < k {
+    for g in 0..n / 64 {
         store::set(m, b, g, MAP_BITS, 0);
-        g += 1;
     }
 }
 

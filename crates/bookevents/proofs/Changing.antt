@@ -1,4 +1,5 @@
 -- Events that change a live order, and its level where it rests. Assumes nothing.
+use Rattle.std.specs.Prelude.{Option, Ok, Err}
 use mathlib.Core.Path.{◌≡◌, refl, sym, ap, subst, ◌∙◌}
 use mathlib.Core.Bool.{Bool, true}
 use mathlib.Core.List.{List, [], ◌∷◌, append-nil}
@@ -15,16 +16,15 @@ use Rattle.orderbook.specs.declared.Event.TheVariants.{Cancelled, Modified}
 use Rattle.protocol.specs.declared.ReportKind.{ReportKind}
 use Rattle.protocol.specs.declared.ReportKind.TheVariants as Kind
 use Rattle.words.specs.Words.{int, modulus}
-use Rattle.table.specs.declared.Found.{Found}
 use Rattle.clients.proofs.Laws.{word_fits}
-use Rattle.gateway.specs.Ledger.{reprice, change, changes, step}
+use Rattle.gateway.specs.Ledger.{reprice, changes, step}
 use Rattle.gateway.specs.Core.{Core, names_below, numbers_agree, in_flight}
 use Rattle.gateway.specs.Depth.{Depth, apply, depth_agrees, take_off, modified, where_resting, levels_fit}
 use Rattle.gateway.specs.Depth as D
 use Rattle.gateway.specs.Rest.{Rest}
 use Rattle.gateway.specs.Deliver.{tell_owner, reports, tick_of, change_notices}
 use Rattle.gateway.specs.Fits.{EventFits}
-use Rattle.gateway.specs.Invariant.{Ok}
+use Rattle.gateway.specs.Invariant.{GatewayOk}
 use Rattle.gateway.specs.Calls.{Gateway, call, deliver_event}
 use Rattle.gateway.proofs.Feed.{Ascending, Acts, off_acts, modified_acts}
 use Rattle.gateway.proofs.Depths as Depths
@@ -36,6 +36,8 @@ use Rattle.sound.specs.Sound.{Becomes, InPlace}
 use Rattle.sound.proofs.Kept.{seen_resting}
 use Rattle.mailbox.specs.Mailbox.{places}
 use Rattle.marketdata.specs.Marketdata.{with_depth, Roomy}
+use Rattle.outcome.specs.declared.Refusal.{Refusal}
+use Rattle.outcome.specs.Refusals.{refusal_code}
 use Rattle.outcome.specs.Between.{Between}
 use Rattle.outcome.specs.Answers.{verdict, Gives}
 use Rattle.outcome.specs.Parts.{Sends}
@@ -107,12 +109,12 @@ abbrev weighed_tests : (n i : ℕ) → Shift → Told → (room : ℕ) → Gatew
 weighed_tests n i h t room g = changed_tests n i (shift_fits h g.core.ledger) (few_notices h g) (told_rows t) room g
 
 -- room for the level of an order, where it rests
-touched_roomy : (g : Gateway) → Ok g → (i : ℕ) (f : D.Resting → Depth → Depth) → Acts f → touched_few i g.rest.depth ≡ true → Roomy (where_resting i f g.rest.depth)
+touched_roomy : (g : Gateway) → GatewayOk g → (i : ℕ) (f : D.Resting → Depth → Depth) → Acts f → touched_few i g.rest.depth ≡ true → Roomy (where_resting i f g.rest.depth)
 touched_roomy g ok i f acts h =
     omega (arith, ap length (Depths.after i f g.rest.depth ok.rest_is.feed.ascending acts).changed_is, leb-true (length (touched i g.rest.depth.resting g.rest.depth.changed)) most_changed h)
 
 module _ {n i : ℕ} {x : Move} {f : D.Resting → Depth → Depth} {k : ReportKind} {e : Event} (s : Changing n i x f k e) (g : Gateway) where
-  changing_judges : Ok g → (h : Shift) → Weighs i x h g → (t : Told) → Tells i t g → (room : ℕ) → Judges n e room g (weighed_tests n i h t room g)
+  changing_judges : GatewayOk g → (h : Shift) → Weighs i x h g → (t : Told) → Tells i t g → (room : ℕ) → Judges n e room g (weighed_tests n i h t room g)
   unfolding step
   changing_judges ok h w t tells room =
       let o = ok.rest_is.feed in
@@ -134,19 +136,19 @@ module _ {n i : ℕ} {x : Move} {f : D.Resting → Depth → Depth} {k : ReportK
   changing_after = rw (s.one_change, s.applies g.rest.depth, s.no_tick, append-nil g.rest.trades, append-nil (change_notices (change_of i x) g.core.ledger)) refl
 
 module _ {n i : ℕ} {x : Move} {f : D.Resting → Depth → Depth} {k : ReportKind} {e : Event} (s : Changing n i x f k e) (xs out : List ℕ) (b : Between xs) (h : Shift) (w : Weighs i x h (gateway (cell xs))) (t : Told)
-    (tells : Tells i t (gateway (cell xs))) (p v : ℕ) (room : p ≡ places (length out)) (v_is : v ≡ verdict (tests (weighed_tests n i h t p (gateway (cell xs))))) where
-  whole : v ≡ verdict (call_tests n e (places (length out)) (gateway (cell xs)))
-  whole =
+    (tells : Tells i t (gateway (cell xs))) (p : ℕ) (room : p ≡ places (length out)) where
+  whole : (v : ℕ) → v ≡ verdict (tests (weighed_tests n i h t p (gateway (cell xs)))) → v ≡ verdict (call_tests n e (places (length out)) (gateway (cell xs)))
+  whole v v_is =
       v_is ∙ ap (λ r. verdict (tests (weighed_tests n i h t r (gateway (cell xs))))) room
       ∙ judged_is n e (places (length out)) (gateway (cell xs)) (weighed_tests n i h t (places (length out)) (gateway (cell xs))) (changing_judges s (gateway (cell xs)) b.ok h w t tells (places (length out)))
 
-  changing_refused : (v ≡ 0 → ⊥) → Gives (call (gateway (cell xs)) (deliver_event n e (places (length out)))) (record { code = v; count = 0 }) xs xs out out
-  changing_refused = deliver_refused xs out n e s.fits b v whole
+  changing_refused : (x : Refusal) → refusal_code x ≡ verdict (tests (weighed_tests n i h t p (gateway (cell xs)))) → Gives (call (gateway (cell xs)) (deliver_event n e (places (length out)))) (Err x) xs xs out out
+  changing_refused x c = deliver_refused xs out n e s.fits b x (whole (refusal_code x) c)
 
-  module _ (z : v ≡ 0) where
+  module _ (z : 0 ≡ verdict (tests (weighed_tests n i h t p (gateway (cell xs))))) where
     can_change : CanChange n i x f (gateway (cell xs))
     can_change =
-        let a = all_pass (weighed_tests n i h t p (gateway (cell xs))) v v_is z in
+        let a = all_pass (weighed_tests n i h t p (gateway (cell xs))) z in
         record {
           flying = a.0;
           noticed = few_noticed (gateway (cell xs)) w a.1.1.1.1.1.1.1.1.0;
@@ -154,53 +156,52 @@ module _ {n i : ℕ} {x : Move} {f : D.Resting → Depth → Depth} {k : ReportK
         }
 
     changing_room : 0 + told_rows t ≤ places (length out)
-    changing_room = told_room (weighed_tests n i h t p (gateway (cell xs))) v (told_rows t) p (places (length out)) v_is z refl room
+    changing_room = told_room (weighed_tests n i h t p (gateway (cell xs))) (told_rows t) p (places (length out)) z refl room
 
     changing_done : {ys zs end : List ℕ} (m : ℕ) → m ≡ told_rows t → Becomes ys (in_book n i x f (gateway (cell xs))) → Sends 0 (told_mail n i k t) (λ y. y) ys zs out end →
-        Gives (call (gateway (cell xs)) (deliver_event n e (places (length out)))) (record { code = 0; count = m }) xs zs out end
+        Gives (call (gateway (cell xs)) (deliver_event n e (places (length out)))) (Ok m) xs zs out end
     changing_done {ys} m m_is d u =
-        deliver_done xs out n e s.fits b v whole z (told_mail n i k t) (tells.mail n k ∙ sym (s.told (gateway (cell xs)).core (gateway (cell xs)).rest)) m (m_is ∙ told_length n i k t)
+        deliver_done xs out n e s.fits b (whole 0 z) (told_mail n i k t) (tells.mail n k ∙ sym (s.told (gateway (cell xs)).core (gateway (cell xs)).rest)) m (m_is ∙ told_length n i k t)
         (subst (Becomes ys) (changing_after s (gateway (cell xs))) d) u
 
 -- ---- cancelled, and modified
 
-module _ (xs out : List ℕ) (n i : ℕ) (b : Between xs) (h : Shift) (t : Told) (tells : Tells i t (gateway (cell xs))) (p v : ℕ) (room : p ≡ places (length out))
-    (v_is : v ≡ verdict (tests (weighed_tests n i h t p (gateway (cell xs))))) where
+module _ (xs out : List ℕ) (n i : ℕ) (b : Between xs) (h : Shift) (t : Told) (tells : Tells i t (gateway (cell xs))) (p : ℕ) (room : p ≡ places (length out)) where
   module _ (q : ℕ) (why : CancelReason) (w : Weighs i Retire h (gateway (cell xs))) where
-    pub cancelled_refused : (v ≡ 0 → ⊥) → Gives (call (gateway (cell xs)) (deliver_event n (Cancelled i q why) (places (length out)))) (record { code = v; count = 0 }) xs xs out out
-    cancelled_refused = changing_refused (cancelling n i q why) xs out b h w t tells p v room v_is
+    pub cancelled_refused : (x : Refusal) → refusal_code x ≡ verdict (tests (weighed_tests n i h t p (gateway (cell xs)))) → Gives (call (gateway (cell xs)) (deliver_event n (Cancelled i q why) (places (length out)))) (Err x) xs xs out out
+    cancelled_refused = changing_refused (cancelling n i q why) xs out b h w t tells p room
 
-    pub cancelled_done : {ys zs end : List ℕ} (m : ℕ) → v ≡ 0 → m ≡ told_rows t → Becomes ys (in_book n i Retire take_off (gateway (cell xs))) →
+    pub cancelled_done : {ys zs end : List ℕ} (m : ℕ) → 0 ≡ verdict (tests (weighed_tests n i h t p (gateway (cell xs)))) → m ≡ told_rows t → Becomes ys (in_book n i Retire take_off (gateway (cell xs))) →
         Sends 0 (told_mail n i (Kind.Cancelled q why) t) (λ y. y) ys zs out end →
-        Gives (call (gateway (cell xs)) (deliver_event n (Cancelled i q why) (places (length out)))) (record { code = 0; count = m }) xs zs out end
-    cancelled_done m z = changing_done (cancelling n i q why) xs out b h w t tells p v room v_is z m
+        Gives (call (gateway (cell xs)) (deliver_event n (Cancelled i q why) (places (length out)))) (Ok m) xs zs out end
+    cancelled_done m z = changing_done (cancelling n i q why) xs out b h w t tells p room z m
 
-  pub cancel_room : Weighs i Retire h (gateway (cell xs)) → v ≡ 0 → 0 + told_rows t ≤ places (length out)
-  cancel_room w = changing_room (cancelling n i 0 Requested) xs out b h w t tells p v room v_is
+  pub cancel_room : Weighs i Retire h (gateway (cell xs)) → 0 ≡ verdict (tests (weighed_tests n i h t p (gateway (cell xs)))) → 0 + told_rows t ≤ places (length out)
+  cancel_room w = changing_room (cancelling n i 0 Requested) xs out b h w t tells p room
 
-  pub can_cancel : Weighs i Retire h (gateway (cell xs)) → v ≡ 0 → CanChange n i Retire take_off (gateway (cell xs))
-  can_cancel w = can_change (cancelling n i 0 Requested) xs out b h w t tells p v room v_is
+  pub can_cancel : Weighs i Retire h (gateway (cell xs)) → 0 ≡ verdict (tests (weighed_tests n i h t p (gateway (cell xs)))) → CanChange n i Retire take_off (gateway (cell xs))
+  can_cancel w = can_change (cancelling n i 0 Requested) xs out b h w t tells p room
 
   module _ (z : ℤ) (q l c : ℕ) (r : Repriced z l c) (w : Weighs i (Reprice c l) h (gateway (cell xs))) where
-    pub modified_refused : (v ≡ 0 → ⊥) → Gives (call (gateway (cell xs)) (deliver_event n (Modified i z q l) (places (length out)))) (record { code = v; count = 0 }) xs xs out out
-    modified_refused = changing_refused (modifying n i z q l c r) xs out b h w t tells p v room v_is
+    pub modified_refused : (x : Refusal) → refusal_code x ≡ verdict (tests (weighed_tests n i h t p (gateway (cell xs)))) → Gives (call (gateway (cell xs)) (deliver_event n (Modified i z q l) (places (length out)))) (Err x) xs xs out out
+    modified_refused = changing_refused (modifying n i z q l c r) xs out b h w t tells p room
 
-    pub can_modify : v ≡ 0 → CanChange n i (Reprice c l) (modified (int c) l) (gateway (cell xs))
-    can_modify = can_change (modifying n i z q l c r) xs out b h w t tells p v room v_is
+    pub can_modify : 0 ≡ verdict (tests (weighed_tests n i h t p (gateway (cell xs)))) → CanChange n i (Reprice c l) (modified (int c) l) (gateway (cell xs))
+    can_modify = can_change (modifying n i z q l c r) xs out b h w t tells p room
 
-    pub modify_room : v ≡ 0 → 0 + told_rows t ≤ places (length out)
-    modify_room = changing_room (modifying n i z q l c r) xs out b h w t tells p v room v_is
+    pub modify_room : 0 ≡ verdict (tests (weighed_tests n i h t p (gateway (cell xs)))) → 0 + told_rows t ≤ places (length out)
+    modify_room = changing_room (modifying n i z q l c r) xs out b h w t tells p room
 
-    pub modified_done : {ys zs end : List ℕ} (m : ℕ) (y : ℤ) → y ≡ z → v ≡ 0 → m ≡ told_rows t → Becomes ys (in_book n i (Reprice c l) (modified (int c) l) (gateway (cell xs))) →
+    pub modified_done : {ys zs end : List ℕ} (m : ℕ) (y : ℤ) → y ≡ z → 0 ≡ verdict (tests (weighed_tests n i h t p (gateway (cell xs)))) → m ≡ told_rows t → Becomes ys (in_book n i (Reprice c l) (modified (int c) l) (gateway (cell xs))) →
         Sends 0 (told_mail n i (Kind.Modified y q l) t) (λ x. x) ys zs out end →
-        Gives (call (gateway (cell xs)) (deliver_event n (Modified i z q l) (places (length out)))) (record { code = 0; count = m }) xs zs out end
+        Gives (call (gateway (cell xs)) (deliver_event n (Modified i z q l) (places (length out)))) (Ok m) xs zs out end
     modified_done {ys} {zs} {end} m y y_is e m_is d u =
-        changing_done (modifying n i z q l c r) xs out b h w t tells p v room v_is e m m_is d (subst (λ (k : ℤ). Sends 0 (told_mail n i (Kind.Modified k q l) t) (λ x. x) ys zs out end) y_is u)
+        changing_done (modifying n i z q l c r) xs out b h w t tells p room e m m_is d (subst (λ (k : ℤ). Sends 0 (told_mail n i (Kind.Modified k q l) t) (λ x. x) ys zs out end) y_is u)
 
 -- ---- applying
 
 -- what happens to a live order leaves it where it rests
-pub still_rests : {xs ys : List ℕ} (i : ℕ) (x : Move) (at : Found) → InPlace xs ys (moved (change_of i x) (gateway (cell xs))) →
+pub still_rests : {xs ys : List ℕ} (i : ℕ) (x : Move) (at : Option ℕ) → InPlace xs ys (moved (change_of i x) (gateway (cell xs))) →
     Sees C.order_resting resting D.resting_number (cell xs) i at → Sees C.order_resting resting D.resting_number (cell ys) i at
 still_rests i x at a = seen_resting a i at refl
 

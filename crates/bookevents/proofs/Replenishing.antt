@@ -1,4 +1,5 @@
 -- An iceberg shows its next part. Assumes nothing.
+use Rattle.std.specs.Prelude.{Ok, Err}
 use mathlib.Core.Path.{◌≡◌, refl, sym, ap, subst, ◌∙◌}
 use mathlib.Core.Bool.{Bool, true}
 use mathlib.Core.List.{List, append-nil}
@@ -16,7 +17,7 @@ use Rattle.gateway.specs.Core.{Core, names_below, numbers_agree, in_flight}
 use Rattle.gateway.specs.Depth.{apply, depth_agrees, where_resting, levels_fit}
 use Rattle.gateway.specs.Rest.{Rest}
 use Rattle.gateway.specs.Deliver.{tell_owner, reports, tick_of}
-use Rattle.gateway.specs.Invariant.{Ok}
+use Rattle.gateway.specs.Invariant.{GatewayOk}
 use Rattle.gateway.specs.Calls.{Gateway, call, deliver_event}
 use Rattle.gateway.proofs.Feed.{shown_acts}
 use Rattle.store.specs.Layout.{cell}
@@ -24,6 +25,8 @@ use Rattle.store.specs.View.{depth, gateway}
 use Rattle.sound.specs.Sound.{Becomes, InPlace}
 use Rattle.mailbox.specs.Mailbox.{places}
 use Rattle.marketdata.specs.Marketdata.{with_depth, replenished}
+use Rattle.outcome.specs.declared.Refusal.{Refusal}
+use Rattle.outcome.specs.Refusals.{refusal_code}
 use Rattle.outcome.specs.Between.{Between}
 use Rattle.outcome.specs.Answers.{verdict, Gives}
 use Rattle.outcome.specs.Parts.{Sends}
@@ -41,7 +44,7 @@ module _ (n i : ℕ) (z : Side) (p : ℤ) (v : ℕ) (g : Gateway) where
   abbrev e : Event
   e = Replenished i z p v
 
-  replenished_judges : Ok g → (t : Told) → Tells i t g → (room : ℕ) → Judges n e room g (replenished_tests n i v t room g)
+  replenished_judges : GatewayOk g → (t : Told) → Tells i t g → (room : ℕ) → Judges n e room g (replenished_tests n i v t room g)
   unfolding names_below numbers_agree depth_agrees changes step apply tick_of reports
   replenished_judges ok t tells room =
       record {
@@ -65,34 +68,33 @@ module _ (n i : ℕ) (z : Side) (p : ℤ) (v : ℕ) (g : Gateway) where
   unfolding reports
   replenished_told c r = refl
 
-module _ (xs out : List ℕ) (n i v : ℕ) (b : Between xs) (t : Told) (tells : Tells i t (gateway (cell xs))) (p w : ℕ) (room : p ≡ places (length out))
-    (w_is : w ≡ verdict (tests (replenished_tests n i v t p (gateway (cell xs))))) where
-  pub can_reshow : w ≡ 0 → CanReshow n i v (gateway (cell xs))
+module _ (xs out : List ℕ) (n i v : ℕ) (b : Between xs) (t : Told) (tells : Tells i t (gateway (cell xs))) (p : ℕ) (room : p ≡ places (length out)) where
+  pub can_reshow : 0 ≡ verdict (tests (replenished_tests n i v t p (gateway (cell xs)))) → CanReshow n i v (gateway (cell xs))
   can_reshow e =
-      let a = all_pass (replenished_tests n i v t p (gateway (cell xs))) w w_is e in
+      let a = all_pass (replenished_tests n i v t p (gateway (cell xs))) e in
       let f = b.ok.rest_is.feed in
       record {
         flying = a.0;
         judged = record { fits = a.1.1.1.1.1.0; few = few_after (depth (cell xs)) f i (replenished v) (shown_acts v) ∙ a.1.1.1.1.1.1.0 };
       }
 
-  pub reshow_room : w ≡ 0 → 0 + told_rows t ≤ places (length out)
-  reshow_room e = told_room (replenished_tests n i v t p (gateway (cell xs))) w (told_rows t) p (places (length out)) w_is e refl room
+  pub reshow_room : 0 ≡ verdict (tests (replenished_tests n i v t p (gateway (cell xs)))) → 0 + told_rows t ≤ places (length out)
+  reshow_room e = told_room (replenished_tests n i v t p (gateway (cell xs))) (told_rows t) p (places (length out)) e refl room
 
   module _ (z : Side) (y : ℤ) where
-    whole : w ≡ verdict (call_tests n (Replenished i z y v) (places (length out)) (gateway (cell xs)))
-    whole =
+    whole : (w : ℕ) → w ≡ verdict (tests (replenished_tests n i v t p (gateway (cell xs)))) → w ≡ verdict (call_tests n (Replenished i z y v) (places (length out)) (gateway (cell xs)))
+    whole w w_is =
         w_is ∙ ap (λ r. verdict (tests (replenished_tests n i v t r (gateway (cell xs))))) room
         ∙ judged_is n (Replenished i z y v) (places (length out)) (gateway (cell xs)) (replenished_tests n i v t (places (length out)) (gateway (cell xs)))
         (replenished_judges n i z y v (gateway (cell xs)) b.ok t tells (places (length out)))
 
-    pub replenished_refused : (w ≡ 0 → ⊥) → Gives (call (gateway (cell xs)) (deliver_event n (Replenished i z y v) (places (length out)))) (record { code = w; count = 0 }) xs xs out out
-    replenished_refused = deliver_refused xs out n (Replenished i z y v) tt b w whole
+    pub replenished_refused : (x : Refusal) → refusal_code x ≡ verdict (tests (replenished_tests n i v t p (gateway (cell xs)))) → Gives (call (gateway (cell xs)) (deliver_event n (Replenished i z y v) (places (length out)))) (Err x) xs xs out out
+    replenished_refused x e = deliver_refused xs out n (Replenished i z y v) tt b x (whole (refusal_code x) e)
 
-    pub replenished_done : {ys zs end : List ℕ} (m : ℕ) (y' : ℤ) → y' ≡ y → w ≡ 0 → m ≡ told_rows t → Becomes ys (reshown n i v (gateway (cell xs))) → Sends 0 (told_mail n i (Kind.Replenished z y' v) t) (λ x. x) ys zs out end →
-        Gives (call (gateway (cell xs)) (deliver_event n (Replenished i z y v) (places (length out)))) (record { code = 0; count = m }) xs zs out end
+    pub replenished_done : {ys zs end : List ℕ} (m : ℕ) (y' : ℤ) → y' ≡ y → 0 ≡ verdict (tests (replenished_tests n i v t p (gateway (cell xs)))) → m ≡ told_rows t → Becomes ys (reshown n i v (gateway (cell xs))) → Sends 0 (told_mail n i (Kind.Replenished z y' v) t) (λ x. x) ys zs out end →
+        Gives (call (gateway (cell xs)) (deliver_event n (Replenished i z y v) (places (length out)))) (Ok m) xs zs out end
     replenished_done {ys} {zs} {end} m y' y_is e m_is d u =
-        deliver_done xs out n (Replenished i z y v) tt b w whole e (told_mail n i (Kind.Replenished z y v) t)
+        deliver_done xs out n (Replenished i z y v) tt b (whole 0 e) (told_mail n i (Kind.Replenished z y v) t)
         (tells.mail n (Kind.Replenished z y v) ∙ replenished_told n i z y v (gateway (cell xs)) (gateway (cell xs)).core (gateway (cell xs)).rest) m (m_is ∙ told_length n i (Kind.Replenished z y v) t)
         (subst (Becomes ys) (replenished_after n i z y v (gateway (cell xs))) d) (subst (λ (k : ℤ). Sends 0 (told_mail n i (Kind.Replenished z k v) t) (λ x. x) ys zs out end) y_is u)
 

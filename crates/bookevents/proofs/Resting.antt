@@ -1,4 +1,5 @@
 -- An order comes to rest. Assumes nothing.
+use Rattle.std.specs.Prelude.{Option, Some, None, is_some, Ok, Err}
 use mathlib.Core.Path.{◌≡◌, refl, sym, ap, ap₂, subst, ◌∙◌}
 use mathlib.Core.Bool.{Bool, true, not, false≢true}
 use mathlib.Core.List.{List, [], ◌∷◌, append-nil}
@@ -18,13 +19,15 @@ use Rattle.gateway.specs.Depth.{Depth, apply, depth_agrees, find_resting, add, l
 use Rattle.gateway.specs.Depth as D
 use Rattle.gateway.specs.Rest.{Rest}
 use Rattle.gateway.specs.Deliver.{tell_owner, reports, tick_of, change_notices}
-use Rattle.gateway.specs.Invariant.{Ok}
+use Rattle.gateway.specs.Invariant.{GatewayOk}
 use Rattle.gateway.specs.Calls.{Gateway, call, deliver_event}
 use Rattle.store.specs.Layout.{cell}
 use Rattle.store.specs.View.{side, word, ledger, depth, gateway}
 use Rattle.sound.specs.Sound.{State, Becomes, InPlace}
 use Rattle.mailbox.specs.Mailbox.{places}
 use Rattle.marketdata.specs.Marketdata.{with_depth, CanAdd, Judged}
+use Rattle.outcome.specs.declared.Refusal.{Refusal}
+use Rattle.outcome.specs.Refusals.{refusal_code}
 use Rattle.outcome.specs.Between.{Between}
 use Rattle.outcome.specs.Answers.{verdict, Gives}
 use Rattle.outcome.specs.Parts.{Sends}
@@ -41,10 +44,8 @@ use Rattle.holds.specs.Holds.{change_of, moved, NewHold, Weighs, shift_fits}
 use Rattle.holds.proofs.Laws.{left_live, one_fits, notices_come, few_noticed, few_is, weighed, noticed_room}
 use Rattle.gateway.specs.Limits.{most_notices}
 use Rattle.bookevents.specs.BookEvents.{rested_tests, joined, CanJoin, Stands}
-use mathlib.Core.Option.{Option, none, some}
 use borrow.Author.Tests.{leb-true}
 use Rattle.protocol.specs.Codes.{side_code}
-use Rattle.gateway.specs.Basics.{is_some}
 use Rattle.orders.specs.declared.Resting as Words
 use Rattle.orders.specs.Orders.{resting_of}
 use Rattle.store.specs.Cells as C
@@ -61,7 +62,7 @@ module _ (n i : ℕ) (z : Side) (p : ℤ) (q v : ℕ) (g : Gateway) where
   abbrev e : Event
   e = Rested i z p q v
 
-  rested_judges : Ok g → (h : Shift) → Weighs i (Leaves q) h g → (t : Told) → Tells i t g → (room : ℕ) → Judges n e room g (rested_tests n (its i z p q v) h t room g)
+  rested_judges : GatewayOk g → (h : Shift) → Weighs i (Leaves q) h g → (t : Told) → Tells i t g → (room : ℕ) → Judges n e room g (rested_tests n (its i z p q v) h t room g)
   unfolding names_below numbers_agree depth_agrees changes step apply tick_of reports
   rested_judges ok h w t tells room =
       record {
@@ -86,20 +87,20 @@ module _ (n i : ℕ) (z : Side) (p : ℤ) (q v : ℕ) (g : Gateway) where
   rested_told c r = refl
 
 module _ (xs out : List ℕ) (n i : ℕ) (z : Side) (y : ℤ) (q v : ℕ) (o : Words.Resting) (o_is : Stands z y q v o) (b : Between xs) (h : Shift) (w : Weighs i (Leaves q) h (gateway (cell xs))) (t : Told)
-    (tells : Tells i t (gateway (cell xs))) (p c : ℕ) (room : p ≡ places (length out)) (c_is : c ≡ verdict (tests (rested_tests n (resting_of i o) h t p (gateway (cell xs))))) where
-  whole : c ≡ verdict (call_tests n (Rested i z y q v) (places (length out)) (gateway (cell xs)))
-  whole =
+    (tells : Tells i t (gateway (cell xs))) (p : ℕ) (room : p ≡ places (length out)) where
+  whole : (c : ℕ) → c ≡ verdict (tests (rested_tests n (resting_of i o) h t p (gateway (cell xs)))) → c ≡ verdict (call_tests n (Rested i z y q v) (places (length out)) (gateway (cell xs)))
+  whole c c_is =
       c_is ∙ ap₂ (λ (r : ℕ) (x : D.Resting). verdict (tests (rested_tests n x h t r (gateway (cell xs))))) room (o_is.is i)
       ∙ judged_is n (Rested i z y q v) (places (length out)) (gateway (cell xs)) (rested_tests n (its i z y q v) h t (places (length out)) (gateway (cell xs)))
       (rested_judges n i z y q v (gateway (cell xs)) b.ok h w t tells (places (length out)))
 
-  pub rested_refused : (c ≡ 0 → ⊥) → Gives (call (gateway (cell xs)) (deliver_event n (Rested i z y q v) (places (length out)))) (record { code = c; count = 0 }) xs xs out out
-  rested_refused = deliver_refused xs out n (Rested i z y q v) o_is.qty_fits b c whole
+  pub rested_refused : (x : Refusal) → refusal_code x ≡ verdict (tests (rested_tests n (resting_of i o) h t p (gateway (cell xs)))) → Gives (call (gateway (cell xs)) (deliver_event n (Rested i z y q v) (places (length out)))) (Err x) xs xs out out
+  rested_refused x e = deliver_refused xs out n (Rested i z y q v) o_is.qty_fits b x (whole (refusal_code x) e)
 
-  module _ (e : c ≡ 0) where
+  module _ (e : 0 ≡ verdict (tests (rested_tests n (resting_of i o) h t p (gateway (cell xs))))) where
     pub can_join : CanJoin n (Leaves o.leaves) (resting_of i o) (gateway (cell xs))
     can_join =
-        let a = all_pass (rested_tests n (resting_of i o) h t p (gateway (cell xs))) c c_is e in
+        let a = all_pass (rested_tests n (resting_of i o) h t p (gateway (cell xs))) e in
         record {
           flying = a.0;
           number_is = leb-true i n a.1.1.0;
@@ -108,18 +109,18 @@ module _ (xs out : List ℕ) (n i : ℕ) (z : Side) (y : ℤ) (q v : ℕ) (o : W
           judged = record { fits = a.1.1.1.1.1.0; few = a.1.1.1.1.1.1.0 };
         }
       where
-        none_there : (x : Option D.Resting) → not (is_some x) ≡ true → x ≡ none
-        none_there none k = refl
-        none_there (some x) k = absurd (false≢true k)
+        none_there : (x : Option D.Resting) → not (is_some x) ≡ true → x ≡ None
+        none_there None k = refl
+        none_there (Some x) k = absurd (false≢true k)
 
     pub join_room : 0 + told_rows t ≤ places (length out)
-    join_room = told_room (rested_tests n (resting_of i o) h t p (gateway (cell xs))) c (told_rows t) p (places (length out)) c_is e refl room
+    join_room = told_room (rested_tests n (resting_of i o) h t p (gateway (cell xs))) (told_rows t) p (places (length out)) e refl room
 
     pub rested_done : {ys zs end : List ℕ} (m : ℕ) (y' : ℤ) → y' ≡ y → m ≡ told_rows t → Becomes ys (joined n (Leaves o.leaves) (resting_of i o) (gateway (cell xs))) →
         Sends 0 (told_mail n i (Kind.Rested z y' q v) t) (λ x. x) ys zs out end →
-        Gives (call (gateway (cell xs)) (deliver_event n (Rested i z y q v) (places (length out)))) (record { code = 0; count = m }) xs zs out end
+        Gives (call (gateway (cell xs)) (deliver_event n (Rested i z y q v) (places (length out)))) (Ok m) xs zs out end
     rested_done {ys} {zs} {end} m y' y_is m_is d u =
-        deliver_done xs out n (Rested i z y q v) o_is.qty_fits b c whole e (told_mail n i (Kind.Rested z y q v) t)
+        deliver_done xs out n (Rested i z y q v) o_is.qty_fits b (whole 0 e) (told_mail n i (Kind.Rested z y q v) t)
         (tells.mail n (Kind.Rested z y q v) ∙ rested_told n i z y q v (gateway (cell xs)) (gateway (cell xs)).core (gateway (cell xs)).rest) m (m_is ∙ told_length n i (Kind.Rested z y q v) t)
         (subst (Becomes ys)
         (ap₂ (λ (l : ℕ) (x : D.Resting). joined n (Leaves l) x (gateway (cell xs))) o_is.leaves_is (o_is.is i) ∙ rested_after n i z y q v (gateway (cell xs))) d)

@@ -1,17 +1,13 @@
 -- Events of one order that change the book: the tests in the code's words, what is asked before they are applied, and the gateway after them.
-use Rattle.std.specs.Prelude.{ℕ, ◌+◌, ◌≤◌, ◌≡◌, Bool, true, not, leb, ℤ, length}
-use Rattle.std.proofs.Math.Option.{none}
+use Rattle.std.specs.Prelude.{ℕ, ◌+◌, ◌≤◌, ◌≡◌, Bool, true, not, leb, ℤ, length, None, is_some}
 use Rattle.orderbook.specs.declared.Side.{Side}
 use Rattle.words.specs.Words.{int}
-use Rattle.gateway.specs.Basics.{is_some}
 use Rattle.gateway.specs.Limits.{most_notices}
-use Rattle.gateway.specs.Ledger.{changes}
 use Rattle.gateway.specs.Core.{in_flight}
 use Rattle.gateway.specs.Depth.{Resting, Depth, find_resting, where_resting, add, levels_fit, depth_few}
 use Rattle.gateway.specs.Fits.{Signed, Unsigned}
 use Rattle.gateway.specs.Deliver.{change_notices}
 use Rattle.gateway.specs.Calls.{Gateway}
-use Rattle.store.specs.View.{gateway}
 use Rattle.orders.specs.declared.Resting as Words
 use Rattle.orders.specs.Orders.{resting_of}
 use Rattle.marketdata.specs.Marketdata.{with_depth, Roomy, Judged, replenished}
@@ -105,7 +101,7 @@ pub record CanJoin (n : ℕ) (x : Move) (o : Resting) (g : Gateway) : Type 0 whe
   pub flying : in_flight n g.core ≡ true
   pub number_is : o.number ≤ n
   pub noticed : length (change_notices (change_of o.number x) g.core.ledger) + length g.rest.notices ≤ most_notices
-  pub absent : find_resting o.number g.rest.depth.resting ≡ none
+  pub absent : find_resting o.number g.rest.depth.resting ≡ None
   pub judged : Judged (add o g.rest.depth)
 
 -- the stored words of an order of these fields

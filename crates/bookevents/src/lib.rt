@@ -16,6 +16,7 @@ ghost use Rattle.sound.specs.Sound.{State, Becomes};
 ghost use Rattle.mailbox.specs.Mailbox.{places};
 ghost use Rattle.marketdata.specs.Marketdata.{Placed};
 ghost use Rattle.outcome.specs.Between.{Between};
+ghost use Rattle.outcome.specs.Refusals.{code_of};
 ghost use Rattle.outcome.specs.Answers.{verdict, Gives};
 ghost use Rattle.delivery.specs.Delivery as Delivery;
 ghost use Rattle.holds.specs.declared.Move.TheVariants.{Retire, Leaves, Reprice};
@@ -26,10 +27,9 @@ use delivery::Tests;
 use holds::Shift;
 use orderbook::{CancelReason, Side};
 use orders::Resting;
-use outcome::Reply;
-use protocol::{ReportKind, codes};
+use outcome::Refusal;
+use protocol::ReportKind;
 use reporting::Told;
-use table::Found;
 
 // ---- a live order changes, and its level where it rests
 
@@ -38,18 +38,18 @@ fn judge_changed(
     m: &[u8],
     n: u64,
     id: u64,
-    at: Found,
+    at: Option<usize>,
     fits: bool,
     few: bool,
     rows: usize,
     room: usize,
-) -> u64
+) -> Result<(), Refusal>
     requires { Between m.now × Sees C.order_resting resting D.resting_number (cell m.now) id at }
-    ensures { result ≡ verdict (Delivery.tests (P.changed_tests n id fits few rows room (gateway (cell m.now)))) }
+    ensures { code_of result ≡ verdict (Delivery.tests (P.changed_tests n id fits few rows room (gateway (cell m.now)))) }
 {
     let flying = delivery::is_flying(m, n);
     let depth = shows::has_room(m, id, at);
-    delivery::code_of(Tests {
+    delivery::judge(Tests {
         flying,
         below: true,
         numbers: id <= n,
@@ -63,7 +63,7 @@ fn judge_changed(
     })
 }
 
-fn apply_cancelled(m: &mut [u8], n: u64, id: u64, live: Found, resting: Found)
+fn apply_cancelled(m: &mut [u8], n: u64, id: u64, live: Option<usize>, resting: Option<usize>)
     requires { State m.old × Sees C.order_live order number_of (cell m.old) id live × Sees C.order_resting View.resting D.resting_number (cell m.old) id resting × P.CanChange n id Retire D.take_off (gateway (cell m.old)) }
     ensures { Becomes m.new (P.in_book n id Retire D.take_off (gateway (cell m.old))) }
 {
@@ -80,7 +80,7 @@ pub fn cancelled(
     qty: u64,
     reason: CancelReason,
     out: &mut [u8],
-) -> Reply
+) -> Result<usize, Refusal>
     requires { Between m.old }
     ensures { Gives (call (gateway (cell m.old)) (deliver_event n (Cancelled id qty reason) (places (length out.old)))) result m.old m.new out.old out.new }
 {
@@ -92,13 +92,10 @@ pub fn cancelled(
     let k = reporting::rows(t);
     let fits = holds::fits(m, h);
     let few = holds::few(m, h.notices);
-    let code = judge_changed(m, n, id, resting, fits, few, k, mailbox::room(out));
-    if code != 0 {
-        return Reply { code, count: 0 };
-    }
+    judge_changed(m, n, id, resting, fits, few, k, mailbox::room(out))?;
     apply_cancelled(m, n, id, live, resting);
     reporting::report(m, out, 0, n, id, t, ReportKind::Cancelled { qty, reason });
-    Reply { code: 0, count: k }
+    Ok(k)
 }
 
 // The price's word. That price and quantity fit comes of their types.
@@ -112,8 +109,8 @@ fn apply_modified(
     m: &mut [u8],
     n: u64,
     id: u64,
-    live: Found,
-    resting: Found,
+    live: Option<usize>,
+    resting: Option<usize>,
     price: u64,
     leaves: u64,
     new: u64,
@@ -135,7 +132,7 @@ pub fn modified(
     qty: u64,
     leaves: u64,
     out: &mut [u8],
-) -> Reply
+) -> Result<usize, Refusal>
     requires { Between m.old }
     ensures { Gives (call (gateway (cell m.old)) (deliver_event n (Modified id price qty leaves) (places (length out.old)))) result m.old m.new out.old out.new }
 {
@@ -149,10 +146,7 @@ pub fn modified(
     let k = reporting::rows(t);
     let fits = holds::fits(m, h);
     let few = holds::few(m, h.notices);
-    let code = judge_changed(m, n, id, resting, fits, few, k, mailbox::room(out));
-    if code != 0 {
-        return Reply { code, count: 0 };
-    }
+    judge_changed(m, n, id, resting, fits, few, k, mailbox::room(out))?;
     apply_modified(m, n, id, live, resting, p, leaves, h.new);
     reporting::report(
         m,
@@ -163,7 +157,7 @@ pub fn modified(
         t,
         ReportKind::Modified { price, qty, leaves },
     );
-    Reply { code: 0, count: k }
+    Ok(k)
 }
 
 // ---- an iceberg shows its next part
@@ -172,19 +166,19 @@ fn judge_replenished(
     m: &[u8],
     n: u64,
     id: u64,
-    at: Found,
+    at: Option<usize>,
     visible: u64,
     t: Told,
     room: usize,
-) -> u64
+) -> Result<(), Refusal>
     requires { Between m.now × Sees C.order_resting resting D.resting_number (cell m.now) id at }
-    ensures { result ≡ verdict (Delivery.tests (P.replenished_tests n id visible t room (gateway (cell m.now)))) }
+    ensures { code_of result ≡ verdict (Delivery.tests (P.replenished_tests n id visible t room (gateway (cell m.now)))) }
 {
     let flying = delivery::is_flying(m, n);
     let fits = shows::reshow_fits(m, id, at, visible);
     let depth = shows::has_room(m, id, at);
     let rows = reporting::rows(t);
-    delivery::code_of(Tests {
+    delivery::judge(Tests {
         flying,
         below: true,
         numbers: id <= n,
@@ -198,7 +192,7 @@ fn judge_replenished(
     })
 }
 
-fn apply_replenished(m: &mut [u8], n: u64, id: u64, resting: Found, visible: u64)
+fn apply_replenished(m: &mut [u8], n: u64, id: u64, resting: Option<usize>, visible: u64)
     requires { State m.old × Sees C.order_resting View.resting D.resting_number (cell m.old) id resting × P.CanReshow n id visible (gateway (cell m.old)) }
     ensures { Becomes m.new (P.reshown n id visible (gateway (cell m.old))) }
 {
@@ -214,7 +208,7 @@ pub fn replenished(
     price: i64,
     visible: u64,
     out: &mut [u8],
-) -> Reply
+) -> Result<usize, Refusal>
     requires { Between m.old }
     ensures { Gives (call (gateway (cell m.old)) (deliver_event n (Replenished id side price visible) (places (length out.old)))) result m.old m.new out.old out.new }
 {
@@ -222,10 +216,7 @@ pub fn replenished(
     let live = at.live;
     let resting = at.resting;
     let t = reporting::owner(m, id, live);
-    let code = judge_replenished(m, n, id, resting, visible, t, mailbox::room(out));
-    if code != 0 {
-        return Reply { code, count: 0 };
-    }
+    judge_replenished(m, n, id, resting, visible, t, mailbox::room(out))?;
     let k = reporting::rows(t);
     apply_replenished(m, n, id, resting, visible);
     reporting::report(
@@ -241,7 +232,7 @@ pub fn replenished(
             visible,
         },
     );
-    Reply { code: 0, count: k }
+    Ok(k)
 }
 
 // ---- an order comes to rest
@@ -249,7 +240,7 @@ pub fn replenished(
 fn row_of(side: Side, price: i64, qty: u64, visible: u64) -> Resting
     ensures { P.Stands side price qty visible result }
 {
-    let s = codes::side_code(side) as u64;
+    let s = side as u64;
     let p = words::of_i64(price);
     Resting {
         side: s,
@@ -263,15 +254,15 @@ fn judge_rested(
     m: &[u8],
     n: u64,
     id: u64,
-    at: Found,
+    at: Option<usize>,
     o: Resting,
     place: usize,
     h: Shift,
     t: Told,
     room: usize,
-) -> u64
+) -> Result<(), Refusal>
     requires { Between m.now × Sees C.order_resting resting D.resting_number (cell m.now) id at × Placed (View.side o.side) (int o.price) m.now place × Holds.Weighed h (ledger (cell m.now)) }
-    ensures { result ≡ verdict (Delivery.tests (P.rested_tests n (resting_of id o) h t room (gateway (cell m.now)))) }
+    ensures { code_of result ≡ verdict (Delivery.tests (P.rested_tests n (resting_of id o) h t room (gateway (cell m.now)))) }
 {
     let flying = delivery::is_flying(m, n);
     let absent = shows::is_absent(m, id, at);
@@ -280,7 +271,7 @@ fn judge_rested(
     let depth = shows::join_room(m, id, o);
     let few = holds::few(m, h.notices);
     let rows = reporting::rows(t);
-    delivery::code_of(Tests {
+    delivery::judge(Tests {
         flying,
         below: true,
         numbers: id <= n,
@@ -294,7 +285,15 @@ fn judge_rested(
     })
 }
 
-fn apply_rested(m: &mut [u8], n: u64, id: u64, live: Found, o: Resting, place: usize, new: u64)
+fn apply_rested(
+    m: &mut [u8],
+    n: u64,
+    id: u64,
+    live: Option<usize>,
+    o: Resting,
+    place: usize,
+    new: u64,
+)
     requires { State m.old × Sees C.order_live order number_of (cell m.old) id live × Holds.NewHold id (Leaves o.leaves) new (ledger (cell m.old)) × P.CanJoin n (Leaves o.leaves) (resting_of id o) (gateway (cell m.old)) }
     ensures { Becomes m.new (P.joined n (Leaves o.leaves) (resting_of id o) (gateway (cell m.old))) }
 {
@@ -313,7 +312,7 @@ pub fn rested(
     qty: u64,
     visible: u64,
     out: &mut [u8],
-) -> Reply
+) -> Result<usize, Refusal>
     requires { Between m.old }
     ensures { Gives (call (gateway (cell m.old)) (deliver_event n (Rested id side price qty visible) (places (length out.old)))) result m.old m.new out.old out.new }
 {
@@ -325,10 +324,7 @@ pub fn rested(
     let new = holds::left(m, id, live, false, 0, qty);
     let h = holds::weigh(m, id, live, 0, new);
     let t = reporting::owner(m, id, live);
-    let code = judge_rested(m, n, id, resting, o, place, h, t, mailbox::room(out));
-    if code != 0 {
-        return Reply { code, count: 0 };
-    }
+    judge_rested(m, n, id, resting, o, place, h, t, mailbox::room(out))?;
     let k = reporting::rows(t);
     apply_rested(m, n, id, live, o, place, h.new);
     reporting::report(
@@ -345,5 +341,5 @@ pub fn rested(
             visible,
         },
     );
-    Reply { code: 0, count: k }
+    Ok(k)
 }

@@ -1,4 +1,6 @@
 -- The call, from its tests. Assumes nothing.
+use Rattle.outcome.specs.declared.Refusal.TheVariants.{TooShort, NotQuiet}
+use Rattle.std.specs.Prelude.{Ok, Err}
 use mathlib.Core.Path.{◌≡◌, refl, sym, ap, ◌∙◌}
 use mathlib.Core.Bool.{Bool, true, false, ◌&&◌, and-eq-true_iff, false≢true}
 use mathlib.Core.List.{List, [], ◌∷◌, ◌++◌}
@@ -56,7 +58,7 @@ module _ (xs out : List ℕ) (b : Between xs) (q : Bool) (q_is : q ≡ quiet (ga
   abbrev x : Call
   x = checkpoint (length out)
 
-  pub loud : q ≡ false → Writes (call (gateway (cell xs)) x) (record { code = 10; count = 0 }) xs xs out out
+  pub loud : q ≡ false → Writes (call (gateway (cell xs)) x) (Err NotQuiet) xs xs out out
   unfolding plan unless
   loud t =
       refuses xs x tt b (Unsent 0 out out) (λ a ms. Written a ms 0 out out) not_quiet
@@ -77,11 +79,11 @@ module _ (xs out : List ℕ) (b : Between xs) (q : Bool) (q_is : q ≡ quiet (ga
         let h = (and-eq-true_iff (is_empty (rest_of xs).batch) (eqb (rest_of xs).delivered (gateway (cell xs)).core.ledger.last)).0 (sym q_is ∙ t) in
         rw (h.0, h.1, e) refl
 
-    pub short : length out < 25 + 20 * w + 37 * n → Writes (call (gateway (cell xs)) x) (record { code = 6; count = 0 }) xs xs out out
+    pub short : length out < 25 + 20 * w + 37 * n → Writes (call (gateway (cell xs)) x) (Err TooShort) xs xs out out
     unfolding unless
     short l = refuses xs x tt b (Unsent 0 out out) (λ a ms. Written a ms 0 out out) too_short (judged false (lt-leb (length bs) (length out) (omega (arith, size_is)))) (refl, refl)
 
-    pub saved : (end : List ℕ) → 25 + 20 * w + 37 * n ≤ length out → end ≡ put_bytes 0 bs out → Writes (call (gateway (cell xs)) x) (record { code = 0; count = 25 + 20 * w + 37 * n }) xs xs out end
+    pub saved : (end : List ℕ) → 25 + 20 * w + 37 * n ≤ length out → end ≡ put_bytes 0 bs out → Writes (call (gateway (cell xs)) x) (Ok (25 + 20 * w + 37 * n)) xs xs out end
     unfolding unless
     saved end l e =
         answers xs x tt b (Unsent (25 + 20 * w + 37 * n) out end) (λ a ms. Written a ms (25 + 20 * w + 37 * n) out end) (bytes bs) [] (rest_of xs) (judged true (le-leb (length bs) (length out) (omega (arith, size_is))))

@@ -1,14 +1,11 @@
 -- Bytes in lent bytes: one run behind another, numbers and rows as runs of bytes. Assumes nothing.
 use mathlib.Core.Path.{◌≡◌, refl, sym, ap, ap₂, ◌∙◌}
 use mathlib.Core.List.{List, [], ◌∷◌, ◌++◌}
-use Prim.Native.Nat.{ℕ, zero, suc, ◌+◌, ◌*◌, ◌^◌, ◌/◌, ◌%◌, ◌≤◌, ◌<◌}
+use Prim.Native.Nat.{ℕ, zero, suc, ◌+◌, ◌*◌, ◌/◌, ◌%◌, ◌≤◌, ◌<◌}
 use native.Mathlib.Numerals.{add-one}
 use native.Mathlib.Omega.{arith}
 use borrow.Author.Tests.{eq-eqb, ne_eqb}
-use lib.Bits.{bit_or, or_shifted_r}
-use lib.Dec.{lit≤}
 use lib.ListN.{length, drop, set, length-append}
-use lib.Pow.{shl_exact}
 use lib.Seq.{sets, sets-eq, length-sets}
 use Rattle.words.specs.Words.{int, modulus}
 use Rattle.words.proofs.Int.{of_int}
@@ -81,23 +78,7 @@ puts_run n bs out o l e = record { next_is = ap (λ k. o + k) (sym l); put = e }
 
 -- ---- fields
 
-pub pack_is : (buy priced : ℕ) → buy < 2 → priced < 2 → bit_or buy ((priced * 2 ^ 1) % 2 ^ 8) ≡ buy + 2 * priced
-pack_is buy priced h k =
-    ap (bit_or buy) (shl_exact 1 1 8 k (lit≤ tt)) ∙ or_shifted_r priced 1 buy h ∙ omega arith
-
-pub buy_is : (c : ℕ) → c ≡ 0 → 1 ≡ buy_flag (side c)
-buy_is c e = rw (eq-eqb c 0 e) refl
-
-pub sell_is : (c : ℕ) → (c ≡ 0 → ⊥) → 0 ≡ buy_flag (side c)
-sell_is c e = rw (ne_eqb c 0 e) refl
-
 module _ (n w : ℕ) where
-  pub flag_absent : n ≡ 0 → 0 ≡ price_flag (maybe_price n w)
-  flag_absent e = rw (eq-eqb n 0 e) refl
-
-  pub flag_present : (n ≡ 0 → ⊥) → 1 ≡ price_flag (maybe_price n w)
-  flag_present e = rw (ne_eqb n 0 e) refl
-
   pub word_absent : n ≡ 0 → 0 ≡ price_word (maybe_price n w)
   word_absent e = rw (eq-eqb n 0 e) refl
 
@@ -109,9 +90,6 @@ pub flags_are : (o : Live) (f b p : ℕ) → b ≡ buy_flag (side o.side) → p 
 flags_are o f b p h k e = e ∙ ap₂ (λ (x y : ℕ). x + 2 * y) h k
 
 -- ---- rows
-
-pub head_row : (out mid low end : List ℕ) (last f w : ℕ) → mid ≡ put 8 out 0 last → low ≡ put 1 mid 8 f → end ≡ put 8 low 9 w → end ≡ puts head_widths out 0 (last ∷ f ∷ w ∷ [])
-head_row out mid low end last f w a b c = c ∙ ap (λ ys. put 8 ys 9 w) (b ∙ ap (λ ys. put 1 ys 8 f) a)
 
 pub head_put : (out end : List ℕ) (last n p f w : ℕ) → f ≡ price_flag (maybe_price n p) → w ≡ price_word (maybe_price n p) → end ≡ puts head_widths out 0 (last ∷ f ∷ w ∷ []) →
     end ≡ put_bytes 0 (head_bytes last (maybe_price n p)) out
@@ -126,12 +104,6 @@ wallet_put out mid low end o a c p f g x y z =
     z ∙ ap (λ ys. put 8 ys (o + 4 + 8) p) (y ∙ ap (λ ys. put 8 ys (o + 4) c) x) ∙ puts_row wallet_widths out o (a ∷ c ∷ p ∷ [])
     ∙ ap₂ (λ (u v : ℕ). put_bytes o (row wallet_widths (a ∷ u ∷ v ∷ [])) out) (sym (of_int c f)) (sym (of_int p g))
 
-pub name_put : (out mid low end : List ℕ) (o n a r : ℕ) → mid ≡ put 8 out o n → low ≡ put 4 mid (o + 8) a → end ≡ put 8 low (o + 8 + 4) r → end ≡ puts (8 ∷ 4 ∷ 8 ∷ []) out o (n ∷ a ∷ r ∷ [])
-name_put out mid low end o n a r x y z = z ∙ ap (λ ys. put 8 ys (o + 8 + 4) r) (y ∙ ap (λ ys. put 4 ys (o + 8) a) x)
-
-pub terms_put : (out mid low end : List ℕ) (o f p v : ℕ) → mid ≡ put 1 out o f → low ≡ put 8 mid (o + 1) p → end ≡ put 8 low (o + 1 + 8) v → end ≡ puts (1 ∷ 8 ∷ 8 ∷ []) out o (f ∷ p ∷ v ∷ [])
-terms_put out mid low end o f p v x y z = z ∙ ap (λ ys. put 8 ys (o + 1 + 8) v) (y ∙ ap (λ ys. put 8 ys (o + 1) p) x)
-
 pub order_put : (out mid end : List ℕ) (o n f w : ℕ) (x : Live) → f ≡ buy_flag (side x.side) + 2 * price_flag (maybe_price x.priced x.price) → w ≡ price_word (maybe_price x.priced x.price) →
     mid ≡ puts (8 ∷ 4 ∷ 8 ∷ []) out o (n ∷ x.account ∷ x.client_ref ∷ []) → end ≡ puts (1 ∷ 8 ∷ 8 ∷ []) mid (o + 20) (f ∷ w ∷ x.leaves ∷ []) → end ≡ put_bytes o (order_bytes (order_of n x)) out
 unfolding order_bytes
@@ -141,4 +113,4 @@ order_put out mid end o n f w x h k d e =
     ∙ puts_row order_widths out o (n ∷ x.account ∷ x.client_ref ∷ f ∷ w ∷ x.leaves ∷ [])
     ∙ ap₂ (λ (u v : ℕ). put_bytes o (row order_widths (n ∷ x.account ∷ x.client_ref ∷ u ∷ v ∷ x.leaves ∷ [])) out) h k
 
-pub ruleset stores = (pack_is, buy_is, sell_is, flag_absent, flag_present, word_absent, word_present, flags_are, head_row, head_put, wallet_put, name_put, terms_put, order_put, arith)
+pub ruleset stores = (word_absent, word_present, flags_are, head_put, wallet_put, order_put, arith)

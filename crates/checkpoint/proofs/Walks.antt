@@ -1,8 +1,8 @@
 -- The rows of the state are the definitions' lists, one by one. Assumes nothing.
+use Rattle.std.specs.Prelude.{Option, Some, None, is_some}
 use mathlib.Core.Path.{◌≡◌, refl, sym, ap, ap₂, ◌∙◌}
 use mathlib.Core.Bool.{Bool, true, false, cond, false≢true}
 use mathlib.Core.Logic.{⊎_elim}
-use mathlib.Core.Option.{Option, none, some}
 use mathlib.Core.List.{List, [], ◌∷◌, ◌++◌, map, map-append, append-nil, append_assoc}
 use Prim.Native.Nat.{ℕ, zero, suc, ◌+◌, ◌*◌, ◌^◌, ◌≤◌, ◌<◌}
 use native.Mathlib.Numerals.{add-one}
@@ -15,7 +15,7 @@ use Rattle.le.proofs.Laws.{lt_or_le, length_put}
 use Rattle.words.specs.Words.{int}
 use Rattle.accounts.specs.declared.Funds.{Funds}
 use Rattle.table.specs.Live.{live, pick}
-use Rattle.gateway.specs.Basics.{option, is_some}
+use Rattle.gateway.specs.Basics.{option}
 use Rattle.gateway.specs.Limits.{owner_slots, most_orders}
 use Rattle.gateway.specs.Ledger.{Order}
 use Rattle.gateway.specs.Saved.{Saved, saved_from, contents}
@@ -86,17 +86,17 @@ order_length o = refl
 
 saved_append : (a : ℕ) (ws vs : List (Option Funds)) → saved_from a (ws ++ vs) ≡ saved_from a ws ++ saved_from (a + length ws) vs
 saved_append a [] vs = let e : a + 0 ≡ a = omega arith in ap (λ n. saved_from n vs) (sym e)
-saved_append a (none ∷ ws) vs =
+saved_append a (None ∷ ws) vs =
     let e : suc a + length ws ≡ a + suc (length ws) = omega arith in
     saved_append (suc a) ws vs ∙ ap (λ n. saved_from (suc a) ws ++ saved_from n vs) e
-saved_append a (some w ∷ ws) vs =
+saved_append a (Some w ∷ ws) vs =
     let e : suc a + length ws ≡ a + suc (length ws) = omega arith in
     ap (λ l. (a, w) ∷ l) (saved_append (suc a) ws vs ∙ ap (λ n. saved_from (suc a) ws ++ saved_from n vs) e)
 
 one_slot : (a : ℕ) (o : Option Funds) → rows wallet_widths (map wallet_row (saved_from a (o ∷ []))) ≡ option [] (λ w. wallet_bytes (a, w)) o
 unfolding wallet_bytes
-one_slot a none = refl
-one_slot a (some w) = append-nil (row wallet_widths (wallet_row (a, w)))
+one_slot a None = refl
+one_slot a (Some w) = append-nil (row wallet_widths (wallet_row (a, w)))
 
 module _ (s : Store) where
   abbrev slot : ℕ → Option Funds
@@ -133,7 +133,7 @@ module _ (s : Store) (a : ℕ) (b : Bool) (e : b ≡ is_some (wallet (s C.accoun
   slot_is : (c : Bool) → b ≡ c → slot_bytes s a ≡ cond c (wallet_bytes (a, money)) []
   slot_is c t = go (flag (s C.accounts a C.account_funded)) c (sym e ∙ t)
     where
-      go : (x c : Bool) → is_some (cond x (some money) none) ≡ c → option [] (λ w. wallet_bytes (a, w)) (cond x (some money) none) ≡ cond c (wallet_bytes (a, money)) []
+      go : (x c : Bool) → is_some (cond x (Some money) None) ≡ c → option [] (λ w. wallet_bytes (a, w)) (cond x (Some money) None) ≡ cond c (wallet_bytes (a, money)) []
       go true true q = refl
       go true false q = absurd (false≢true (sym q))
       go false true q = absurd (false≢true q)

@@ -1,7 +1,6 @@
 -- The bytes of the checkpoint, row by row of the state.
-use Rattle.std.specs.Prelude.{ℕ, zero, suc, ◌+◌, ◌≡◌, Bool, cond, ◌&&◌, List, [], ◌∷◌, ◌++◌, map, eqb, length}
+use Rattle.std.specs.Prelude.{ℕ, zero, suc, ◌+◌, ◌≡◌, Bool, cond, ◌&&◌, List, [], ◌∷◌, ◌++◌, map, eqb, length, Option, ℤ}
 use Rattle.std.proofs.lemmas.List.Edits.{sets}
-use Rattle.orderbook.specs.declared.MaybePrice.{MaybePrice}
 use Rattle.accounts.specs.declared.Funds.{Funds}
 use Rattle.gateway.specs.Basics.{option, is_empty}
 use Rattle.gateway.specs.Ledger.{Order}
@@ -22,7 +21,7 @@ saved_in xs = contents (gateway (cell xs)).core.ledger
 
 -- ---- the bytes of each row
 
-unfoldable pub head_bytes : ℕ → MaybePrice → List ℕ
+unfoldable pub head_bytes : ℕ → Option ℤ → List ℕ
 head_bytes last mark = row head_widths (last ∷ price_flag mark ∷ price_word mark ∷ [])
 
 unfoldable pub wallet_bytes : ℕ × Funds → List ℕ

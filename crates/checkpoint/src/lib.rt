@@ -16,10 +16,9 @@ ghost use Rattle.outcome.specs.Between.{Between};
 ghost use Rattle.checkpoint.specs.Put as P;
 ghost use Rattle.checkpoint.specs.Written.{Writes};
 
-use outcome::Reply;
+use outcome::Refusal;
 use store::{cells, limits};
 
-// The refusal while commands wait or events are to come.
 // Whether no command waits and every event was delivered.
 fn is_quiet(m: &[u8]) -> bool
     requires { State m.now }
@@ -50,10 +49,8 @@ fn wallets(m: &[u8]) -> usize
     ensures { (result ≡ length (P.saved_in m.now).wallets) × (result ≤ owner_slots) }
 {
     let mut n: usize = 0;
-    let mut a: usize = 0;
-    while a < limits::OWNER_SLOTS {
+    for a in 0..limits::OWNER_SLOTS {
         n += wallets_at(m, a);
-        a += 1;
     }
     n
 }
@@ -96,10 +93,8 @@ fn put_wallets(m: &[u8], out: &mut [u8], o: usize) -> usize
     ensures { P.Puts o (P.wallets_bytes (P.saved_in m.now)) result out.old out.new }
 {
     let mut n = o;
-    let mut a: usize = 0;
-    while a < limits::OWNER_SLOTS {
+    for a in 0..limits::OWNER_SLOTS {
         n = put_slot(m, out, n, a);
-        a += 1;
     }
     n
 }
@@ -124,10 +119,8 @@ fn put_orders(m: &[u8], out: &mut [u8], o: usize) -> usize
 {
     let size = pending::header::word_at(m, cells::ORDER_ROWS) as usize;
     let mut n = o;
-    let mut j: usize = 0;
-    while j < size {
+    for j in 0..size {
         n = put_live(m, out, n, j);
-        j += 1;
     }
     n
 }
@@ -162,28 +155,19 @@ fn put(m: &[u8], w: usize, n: usize, out: &mut [u8])
 // ---- the call
 
 // The bytes of a checkpoint, at the front of `out`.
-pub fn checkpoint(m: &[u8], out: &mut [u8]) -> Reply
+pub fn checkpoint(m: &[u8], out: &mut [u8]) -> Result<usize, Refusal>
     requires { Between m.now }
     ensures { Writes (call (gateway (cell m.now)) (Calls.checkpoint (length out.old))) result m.now m.now out.old out.new }
 {
     if !is_quiet(m) {
-        return Reply {
-            code: outcome::NOT_QUIET,
-            count: 0,
-        };
+        return Err(Refusal::NotQuiet);
     }
     let w = wallets(m);
     let n = orders(m);
     let size = 25 + 20 * w + 37 * n;
     if out.len() < size {
-        return Reply {
-            code: outcome::TOO_SHORT,
-            count: 0,
-        };
+        return Err(Refusal::TooShort);
     }
     put(m, w, n, out);
-    Reply {
-        code: 0,
-        count: size,
-    }
+    Ok(size)
 }

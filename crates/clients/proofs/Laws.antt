@@ -1,8 +1,9 @@
 -- What the readers find and what the writers write. Assumes nothing.
+use Rattle.std.proofs.lemmas.Option.{none-some}
+use Rattle.std.specs.Prelude.{Option, Some, None, is_some}
 use mathlib.Core.Path.{◌≡◌, refl, sym, ap, ◌∙◌}
 use mathlib.Core.Logic.{⊎_elim}
 use mathlib.Core.Bool.{Bool, true, false, cond, not-not, ◌&&◌}
-use mathlib.Core.Option.{Option, none, some}
 use mathlib.Core.List.{List, [], ◌∷◌}
 use Prim.Native.Nat.{ℕ, zero, suc, ◌+◌, ◌-◌, ◌≤◌, ◌<◌}
 use native.Mathlib.Omega.{arith}
@@ -12,7 +13,6 @@ use lib.ListN.{get_or-eq_default}
 use mathlib.Core.Bool.{and-eq-true_iff}
 use Rattle.accounts.specs.declared.Account.{Account}
 use Rattle.accounts.specs.declared.Funds.{Funds}
-use Rattle.accounts.specs.declared.MaybeFunds as F
 use Rattle.table.proofs.Live.{same?}
 use lib.IntN.{ℤ}
 use Rattle.words.specs.Words.{int, fit, word_of, modulus}
@@ -20,7 +20,6 @@ use Rattle.words.proofs.Int.{of_int}
 use Rattle.words.proofs.Wrap.{fit_int}
 use Rattle.risk.specs.declared.Bucket.{Bucket}
 use Rattle.risk.specs.Throttle as Throttle
-use Rattle.gateway.specs.Basics.{is_some}
 use Rattle.gateway.specs.Fits.{Signed, FundsFit, MaybeFundsFit}
 use Rattle.gateway.specs.Ledger.{fits}
 use Rattle.gateway.specs.Limits.{owner_slots, session_slots}
@@ -42,7 +41,7 @@ use Rattle.clients.specs.Clients.{put_cells, session_words, session_in, logged_i
 there : {A : Type 0} (n : ℕ) (a : A) → flag n ≡ is_some (maybe n a)
 there n a = go (flag n)
   where
-    go : (b : Bool) → b ≡ is_some (cond b (some a) none)
+    go : (b : Bool) → b ≡ is_some (cond b (Some a) None)
     go true = refl
     go false = refl
 
@@ -58,23 +57,23 @@ module _ (xs : List ℕ) (i : ℕ) where
   wallet_there = there (row C.account_funded) _
 
   pub funds_some : (b : Bool) (c p : ℕ) (f : Funds) → b ≡ flag (row C.account_funded) → b ≡ true →
-      c ≡ row C.account_funds_cash → p ≡ row C.account_funds_position → f ≡ record { cash = int c; position = int p } → F.TheVariants.Some f ≡ P.funds row
+      c ≡ row C.account_funds_cash → p ≡ row C.account_funds_position → f ≡ record { cash = int c; position = int p } → Some f ≡ P.funds row
   funds_some b c p f h t ce pe e = let g : flag (row C.account_funded) ≡ true = sym h ∙ t in rw (e, ce, pe, g) refl
 
-  pub funds_none : (b : Bool) → b ≡ flag (row C.account_funded) → b ≡ false → F.TheVariants.None ≡ P.funds row
+  pub funds_none : (b : Bool) → b ≡ flag (row C.account_funded) → b ≡ false → None ≡ P.funds row
   funds_none b h t = let g : flag (row C.account_funded) ≡ false = sym h ∙ t in rw g refl
 
-  pub account_row_is : (t n m : ℕ) (f : F.MaybeFunds) → flag (row C.account_exists) ≡ true →
+  pub account_row_is : (t n m : ℕ) (f : Option Funds) → flag (row C.account_exists) ≡ true →
       t ≡ row C.account_token → n ≡ row C.account_max_open → m ≡ row C.account_rate → f ≡ P.funds row →
-      some (record { id = i; token = t; max_open_orders = n; messages_per_second = m; funds = f }) ≡ account i row
+      Some (record { id = i; token = t; max_open_orders = n; messages_per_second = m; funds = f }) ≡ account i row
   account_row_is t n m f h te ne me fe = rw (te, ne, me, fe, h) refl
 
-  pub no_row : (b : Bool) → b ≡ flag (row C.account_exists) → b ≡ false → none ≡ account i row
+  pub no_row : (b : Bool) → b ≡ flag (row C.account_exists) → b ≡ false → None ≡ account i row
   no_row b h t = let g : flag (row C.account_exists) ≡ false = sym h ∙ t in rw g refl
 
 -- a row that is not connected, and one that is
 module _ (x : Session) where
-  pub absent : x.connected ≡ 0 → session_in x ≡ none
+  pub absent : x.connected ≡ 0 → session_in x ≡ None
   absent e = rw e refl
 
   pub present : (x.connected ≡ 0 → ⊥) → eqb x.closing 0 ≡ is_present (session_in x)
@@ -91,12 +90,12 @@ module _ (x : Session) where
 
 -- open: logged in and present
 open_by : (o : Option Rest.Session) → is_open o ≡ (is_some (account_of o) && is_present o)
-open_by none = refl
-open_by (some x) = refl
+open_by None = refl
+open_by (Some x) = refl
 
 pub not_open : (o : Option Rest.Session) (n : ℕ) → optional n ≡ account_of o → n ≡ 0 → false ≡ is_open o
 not_open o n e z =
-    let f : account_of o ≡ none = sym e ∙ ap optional z in sym (open_by o ∙ ap (λ a. is_some a && is_present o) f)
+    let f : account_of o ≡ None = sym e ∙ ap optional z in sym (open_by o ∙ ap (λ a. is_some a && is_present o) f)
 
 pub open_present : (o : Option Rest.Session) (n : ℕ) (p : Bool) → optional n ≡ account_of o → (n ≡ 0 → ⊥) → p ≡ is_present o → p ≡ is_open o
 open_present o n p e h q =
@@ -106,12 +105,12 @@ open_present o n p e h q =
 -- the session of a slot, and past the slots
 pub in_slot : (xs : List ℕ) (i : ℕ) (x : Session) → i < session_slots → x ≡ session_words (cell xs C.sessions i) →
     session_in x ≡ session_at i (gateway (cell xs)).rest
-in_slot xs i x l e = rw e (sym (listed_at (λ j. session (cell xs C.sessions j)) session_slots i none l))
+in_slot xs i x l e = rw e (sym (listed_at (λ j. session (cell xs C.sessions j)) session_slots i None l))
 
-pub past_slots : (xs : List ℕ) (i : ℕ) (x : Session) → session_slots ≤ i → session_in x ≡ none →
+pub past_slots : (xs : List ℕ) (i : ℕ) (x : Session) → session_slots ≤ i → session_in x ≡ None →
     session_in x ≡ session_at i (gateway (cell xs)).rest
 past_slots xs i x l e =
-    e ∙ sym (get_or-eq_default (gateway (cell xs)).rest.sessions none {n = i} (rw (listed_length (λ j. session (cell xs C.sessions j)) session_slots) l))
+    e ∙ sym (get_or-eq_default (gateway (cell xs)).rest.sessions None {n = i} (rw (listed_length (λ j. session (cell xs C.sessions j)) session_slots) l))
 
 -- ---- writers
 
@@ -171,18 +170,18 @@ pub fund_is : {zs : List ℕ} (s : Store) (i c p : ℕ) (f : Funds) → c < modu
     Is zs (P.fund i c p s) → Is zs (P.fund i (word_of f.cash) (word_of f.position) s) × FundsFit f
 fund_is s i c p f h k e g q = (rw (← e, ← g, of_int c h, of_int p k) q, (word_fits c f.cash h e, word_fits p f.position k g))
 
-pub no_funds_is : {xs zs : List ℕ} (i : ℕ) (f : F.MaybeFunds) → Holds xs → i < owner_slots → f ≡ F.TheVariants.None →
+pub no_funds_is : {xs zs : List ℕ} (i : ℕ) (f : Option Funds) → Holds xs → i < owner_slots → f ≡ None →
     Set xs zs C.accounts i C.account_funded 0 → Is zs (P.set_funds i f (cell xs))
 no_funds_is i f h l e p = rw e (sets_is C.accounts i ((C.account_funded, 0) ∷ []) h (omega arith) l refl (then_sets p no_sets))
 
-pub no_funds_fit : (f : F.MaybeFunds) → f ≡ F.TheVariants.None → MaybeFundsFit f
+pub no_funds_fit : (f : Option Funds) → f ≡ None → MaybeFundsFit f
 no_funds_fit f e = rw e tt
 
-pub some_funds_is : {zs : List ℕ} (xs : List ℕ) (i : ℕ) (f : F.MaybeFunds) (x : Funds) → f ≡ F.TheVariants.Some x →
+pub some_funds_is : {zs : List ℕ} (xs : List ℕ) (i : ℕ) (f : Option Funds) (x : Funds) → f ≡ Some x →
     Is zs (P.fund i (word_of x.cash) (word_of x.position) (cell xs)) → Is zs (P.set_funds i f (cell xs))
 some_funds_is xs i f x e p = rw e p
 
-pub some_funds_fit : (f : F.MaybeFunds) (x : Funds) → f ≡ F.TheVariants.Some x → FundsFit x → MaybeFundsFit f
+pub some_funds_fit : (f : Option Funds) (x : Funds) → f ≡ Some x → FundsFit x → MaybeFundsFit f
 some_funds_fit f x e p = rw e p
 
 pub add_account_is : (xs : List ℕ) {a b zs : List ℕ} (x : Account) (y : Bucket) → y ≡ Throttle.full x.messages_per_second →
@@ -212,8 +211,13 @@ pub account_known : (r : Row) → optional (logged_in r) ≡ account_of (session
 account_known r = ⊎_elim (λ e. rw e refl) (λ ne. rw (ne_eqb (r C.session_connected) 0 ne) refl) (same? (r C.session_connected) 0)
 
 -- a number plus one
-pub plus_one : (n m : ℕ) → n ≡ m + 1 → optional n ≡ some m
-plus_one n m e = rw (ne_eqb n 0 (λ z. omega arith)) (ap some (let q : n - 1 ≡ m = omega arith in q))
+pub plus_one : (n m : ℕ) → n ≡ m + 1 → optional n ≡ Some m
+plus_one n m e = rw (ne_eqb n 0 (λ z. omega arith)) (ap Some (let q : n - 1 ≡ m = omega arith in q))
+
+-- and back
+pub from_plus_one : (n m : ℕ) → optional n ≡ Some m → n ≡ m + 1
+from_plus_one zero m e = absurd (none-some m e)
+from_plus_one (suc n) m e = grind arith
 
 account_below : (s : Store) (i n : ℕ) → Linked s → i < session_slots → optional n ≡ account_of (session (s C.sessions i)) → n ≤ owner_slots
 account_below s i zero k l e = omega arith

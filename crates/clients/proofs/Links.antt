@@ -1,8 +1,8 @@
 -- Sessions and accounts name each other: the session that an account's row names is the one that the definitions find. Assumes nothing.
+use Rattle.std.specs.Prelude.{Option, Some, None, option_map, is_some}
 use mathlib.Core.Path.{◌≡◌, refl, sym, ap, ◌∙◌}
 use mathlib.Core.Logic.{⊎_elim}
 use mathlib.Core.Bool.{true, false}
-use mathlib.Core.Option.{Option, none, some, map}
 use mathlib.Core.List.{List, [], ◌∷◌}
 use Prim.Native.Nat.{ℕ, zero, suc, ◌+◌, ◌-◌, ◌≤◌, ◌<◌}
 use native.Mathlib.Nat.{not-suc-le-zero, le_of_suc-le-suc}
@@ -11,11 +11,11 @@ use borrow.Author.Tests.{eq-eqb, ne_eqb}
 use lib.ListN.{length, get_or}
 use lib.Dec.{eqb}
 use Rattle.accounts.specs.declared.Account.{Account}
-use Rattle.accounts.specs.declared.MaybeFunds as F
+use Rattle.accounts.specs.declared.Funds.{Funds}
 use Rattle.risk.specs.declared.Bucket.{Bucket}
 use Rattle.risk.specs.Throttle as Throttle
 use Rattle.table.proofs.Live.{same?}
-use Rattle.gateway.specs.Basics.{option, is_some}
+use Rattle.gateway.specs.Basics.{option}
 use Rattle.gateway.specs.Limits.{owner_slots, session_slots}
 use Rattle.gateway.specs.Rest as Rest
 use Rattle.gateway.specs.Rest.{account_of, logged_in, session_from, session_of}
@@ -38,21 +38,21 @@ session_cell_of s a = s C.accounts a C.account_session
 
 -- ---- what the definitions find
 
-not_in : (a : ℕ) (o : Option ℕ) → (o ≡ some a → ⊥) → option false (eqb a) o ≡ false
-not_in a none h = refl
-not_in a (some b) h = ne_eqb a b (λ e. h (ap some (sym e)))
+not_in : (a : ℕ) (o : Option ℕ) → (o ≡ Some a → ⊥) → option false (eqb a) o ≡ false
+not_in a None h = refl
+not_in a (Some b) h = ne_eqb a b (λ e. h (ap Some (sym e)))
 
-from_first : (k a : ℕ) (xs : List (Option Rest.Session)) (i : ℕ) → i < length xs → account_of (get_or xs i none) ≡ some a →
-    ((j : ℕ) → j < i → account_of (get_or xs j none) ≡ some a → ⊥) → session_from k a xs ≡ some (k + i)
+from_first : (k a : ℕ) (xs : List (Option Rest.Session)) (i : ℕ) → i < length xs → account_of (get_or xs i None) ≡ Some a →
+    ((j : ℕ) → j < i → account_of (get_or xs j None) ≡ Some a → ⊥) → session_from k a xs ≡ Some (k + i)
 from_first k a [] i l e h = absurd (not-suc-le-zero l)
 from_first k a (x ∷ xs) zero l e h =
     let t : logged_in a x ≡ true = ap (option false (eqb a)) e ∙ eq-eqb a a refl in
-    rw t (ap some (let q : k ≡ k + 0 = omega arith in q))
+    rw t (ap Some (let q : k ≡ k + 0 = omega arith in q))
 from_first k a (x ∷ xs) (suc i) l e h =
     rw (not_in a (account_of x) (h 0 (omega arith)))
-    (from_first (suc k) a xs i (le_of_suc-le-suc l) e (λ j m. h (suc j) (omega arith)) ∙ ap some (let q : suc k + i ≡ k + suc i = omega arith in q))
+    (from_first (suc k) a xs i (le_of_suc-le-suc l) e (λ j m. h (suc j) (omega arith)) ∙ ap Some (let q : suc k + i ≡ k + suc i = omega arith in q))
 
-from_nobody : (k a : ℕ) (xs : List (Option Rest.Session)) → ((j : ℕ) → j < length xs → account_of (get_or xs j none) ≡ some a → ⊥) → session_from k a xs ≡ none
+from_nobody : (k a : ℕ) (xs : List (Option Rest.Session)) → ((j : ℕ) → j < length xs → account_of (get_or xs j None) ≡ Some a → ⊥) → session_from k a xs ≡ None
 from_nobody k a [] h = refl
 from_nobody k a (x ∷ xs) h =
     rw (not_in a (account_of x) (h 0 (omega arith))) (from_nobody (suc k) a xs (λ j l. h (suc j) (omega arith)))
@@ -61,13 +61,13 @@ module _ (s : Store) where
   abbrev slots : List (Option Rest.Session)
   slots = listed (λ i. session (s C.sessions i)) session_slots
 
-  in_list : (i : ℕ) → i < session_slots → account_of (get_or slots i none) ≡ account_in s i
-  in_list i l = ap account_of (listed_at (λ j. session (s C.sessions j)) session_slots i none l)
+  in_list : (i : ℕ) → i < session_slots → account_of (get_or slots i None) ≡ account_in s i
+  in_list i l = ap account_of (listed_at (λ j. session (s C.sessions j)) session_slots i None l)
 
   in_slots : (i : ℕ) → i < length slots → i < session_slots
   in_slots i l = rw (listed_length (λ j. session (s C.sessions j)) session_slots) at l
 
-  nobody_in : (a : ℕ) → ((i : ℕ) → i < session_slots → account_in s i ≡ some a → ⊥) → session_of a (gateway s).rest ≡ none
+  nobody_in : (a : ℕ) → ((i : ℕ) → i < session_slots → account_in s i ≡ Some a → ⊥) → session_of a (gateway s).rest ≡ None
   nobody_in a h = from_nobody 0 a slots (λ j l e. h j (in_slots j l) (sym (in_list j (in_slots j l)) ∙ e))
 
   session_by : (a n : ℕ) → Linked s → a < owner_slots → session_cell_of s a ≡ n → session_of a (gateway s).rest ≡ optional n
@@ -85,7 +85,7 @@ module _ (s : Store) where
   pub session_of_cell : (a : ℕ) → Linked s → a < owner_slots → session_of a (gateway s).rest ≡ optional (session_cell_of s a)
   session_of_cell a k l = session_by a (session_cell_of s a) k l refl
 
-  pub session_of_past : (a : ℕ) → Linked s → owner_slots ≤ a → session_of a (gateway s).rest ≡ none
+  pub session_of_past : (a : ℕ) → Linked s → owner_slots ≤ a → session_of a (gateway s).rest ≡ None
   session_of_past a k l = nobody_in a (λ i m e. omega (arith, (k.forth i a m e).0))
 
 -- ---- what leaves the links
@@ -135,9 +135,9 @@ linked_money i c p s k = linked_cells i (P.money_cells c p) s refl k
 pub linked_bucket : (i : ℕ) (b : Bucket) (s : Store) → Linked s → Linked (P.set_bucket i b s)
 linked_bucket i b s k = linked_cells i (P.bucket_cells b) s refl k
 
-linked_funds : (i : ℕ) (f : F.MaybeFunds) (s : Store) → Linked s → Linked (P.set_funds i f s)
-linked_funds i F.TheVariants.None s k = linked_cells i ((C.account_funded, 0) ∷ []) s refl k
-linked_funds i (F.TheVariants.Some f) s k = linked_cells i (P.fund_cells (word_of f.cash) (word_of f.position)) s refl k
+linked_funds : (i : ℕ) (f : Option Funds) (s : Store) → Linked s → Linked (P.set_funds i f s)
+linked_funds i None s k = linked_cells i ((C.account_funded, 0) ∷ []) s refl k
+linked_funds i (Some f) s k = linked_cells i (P.fund_cells (word_of f.cash) (word_of f.position)) s refl k
 
 pub linked_add_account : (a : Account) (s : Store) → Linked s → Linked (P.add_account a s)
 linked_add_account a s k =
@@ -147,7 +147,7 @@ linked_add_account a s k =
 
 -- ---- connecting: nobody was in the slot
 
-pub linked_connect : (i t : ℕ) (s : Store) → session (s C.sessions i) ≡ none → Linked s → Linked (P.connect i t s)
+pub linked_connect : (i t : ℕ) (s : Store) → session (s C.sessions i) ≡ None → Linked s → Linked (P.connect i t s)
 unfolding put_cells
 linked_connect i t s e k =
     linked_ext s (P.connect i t s)
@@ -159,15 +159,15 @@ linked_connect i t s e k =
 -- ---- logging in and leaving: session i and account a name each other, or neither names anybody
 
 data Paired (i a : ℕ) (s : Store) : Type 0 where
-  apart : account_in s i ≡ none → session_cell_of s a ≡ 0 → Paired i a s
-  joined : account_in s i ≡ some a → session_cell_of s a ≡ i + 1 → Paired i a s
+  apart : account_in s i ≡ None → session_cell_of s a ≡ 0 → Paired i a s
+  joined : account_in s i ≡ Some a → session_cell_of s a ≡ i + 1 → Paired i a s
 
 module _ {i a : ℕ} {s : Store} where
-  its_account : Paired i a s → (b : ℕ) → account_in s i ≡ some b → (b ≡ a) × (session_cell_of s a ≡ i + 1)
+  its_account : Paired i a s → (b : ℕ) → account_in s i ≡ Some b → (b ≡ a) × (session_cell_of s a ≡ i + 1)
   its_account (apart p q) b e = absurd (let z : ◌≡◌ {A = ℕ} 0 1 = cc in omega arith)
   its_account (joined p q) b e = (cc, q)
 
-  its_session : Paired i a s → (j : ℕ) → session_cell_of s a ≡ j + 1 → (j ≡ i) × (account_in s i ≡ some a)
+  its_session : Paired i a s → (j : ℕ) → session_cell_of s a ≡ j + 1 → (j ≡ i) × (account_in s i ≡ Some a)
   its_session (apart p q) j e = absurd (let z : ◌≡◌ {A = ℕ} 0 (j + 1) = sym q ∙ e in omega arith)
   its_session (joined p q) j e = (let z : j + 1 ≡ i + 1 = sym e ∙ q in omega arith, p)
 
@@ -179,32 +179,32 @@ relinked i a s t li la before after p q k =
       back = λ b j l e. ⊎_elim (λ (f : b ≡ a). home b j f e) (λ ne. away b j l ne (sym (q b ne) ∙ e)) (same? b a);
     }
   where
-    here : (j b : ℕ) → j ≡ i → account_in t j ≡ some b → (b < owner_slots) × (session_cell_of t b ≡ j + 1)
+    here : (j b : ℕ) → j ≡ i → account_in t j ≡ Some b → (b < owner_slots) × (session_cell_of t b ≡ j + 1)
     here j b f e =
         let u = its_account after b (ap (account_in t) (sym f) ∙ e) in
         (rw u.0 la, ap (session_cell_of t) u.0 ∙ u.1 ∙ ap (λ n. n + 1) (sym f))
 
-    there : (j b : ℕ) → j < session_slots → (j ≡ i → ⊥) → account_in s j ≡ some b → (b < owner_slots) × (session_cell_of t b ≡ j + 1)
+    there : (j b : ℕ) → j < session_slots → (j ≡ i → ⊥) → account_in s j ≡ Some b → (b < owner_slots) × (session_cell_of t b ≡ j + 1)
     there j b l ne e =
         let u = k.forth j b l e in
         (u.0, q b (λ f. ne (its_session before j (ap (session_cell_of s) (sym f) ∙ u.1)).0) ∙ u.1)
 
-    home : (b j : ℕ) → b ≡ a → session_cell_of t b ≡ j + 1 → (j < session_slots) × (account_in t j ≡ some b)
+    home : (b j : ℕ) → b ≡ a → session_cell_of t b ≡ j + 1 → (j < session_slots) × (account_in t j ≡ Some b)
     home b j f e =
         let u = its_session after j (ap (session_cell_of t) (sym f) ∙ e) in
-        (rw u.0 li, ap (account_in t) u.0 ∙ u.1 ∙ ap some (sym f))
+        (rw u.0 li, ap (account_in t) u.0 ∙ u.1 ∙ ap Some (sym f))
 
-    away : (b j : ℕ) → b < owner_slots → (b ≡ a → ⊥) → session_cell_of s b ≡ j + 1 → (j < session_slots) × (account_in t j ≡ some b)
+    away : (b j : ℕ) → b < owner_slots → (b ≡ a → ⊥) → session_cell_of s b ≡ j + 1 → (j < session_slots) × (account_in t j ≡ Some b)
     away b j l ne e =
         let u = k.back b j l e in
         (u.0, p j (λ f. ne (its_account before b (ap (account_in s) (sym f) ∙ u.1)).0) ∙ u.1)
 
-account_set : (a : ℕ) (o : Option Rest.Session) → is_some o ≡ true → account_of (map (Rest.set_account a) o) ≡ some a
-account_set a none e = absurd (let z : ◌≡◌ {A = ℕ} 0 1 = cc in omega arith)
-account_set a (some x) e = refl
+account_set : (a : ℕ) (o : Option Rest.Session) → is_some o ≡ true → account_of (option_map (Rest.set_account a) o) ≡ Some a
+account_set a None e = absurd (let z : ◌≡◌ {A = ℕ} 0 1 = cc in omega arith)
+account_set a (Some x) e = refl
 
 -- the session is there and not logged in, and the account has no session
-pub linked_log_in : (i a : ℕ) (s : Store) → i < session_slots → a < owner_slots → is_some (session (s C.sessions i)) ≡ true → account_in s i ≡ none →
+pub linked_log_in : (i a : ℕ) (s : Store) → i < session_slots → a < owner_slots → is_some (session (s C.sessions i)) ≡ true → account_in s i ≡ None →
     session_cell_of s a ≡ 0 → Linked s → Linked (P.log_in i a s)
 linked_log_in i a s li la e n z k =
     relinked i a s (P.log_in i a s) li la (apart n z)
@@ -214,18 +214,18 @@ linked_log_in i a s li la e n z k =
 
 -- a session that goes, and the account that it was logged in for
 module _ (i : ℕ) (s : Store) (l : i < session_slots) (k : Linked s) where
-  gone : (t : Store) → account_in (write C.sessions i C.session_connected 0 t) i ≡ none
+  gone : (t : Store) → account_in (write C.sessions i C.session_connected 0 t) i ≡ None
   gone t = rw (eq-eqb i i refl) refl
 
   others : (t : Store) (j : ℕ) → (j ≡ i → ⊥) → account_in (write C.sessions i C.session_connected 0 t) j ≡ account_in t j
   others t j ne = ap (λ r. account_of (session r)) (write_rows C.sessions i C.session_connected 0 t j ne)
 
-  was_nobody : account_in s i ≡ none → Linked (write C.sessions i C.session_connected 0 s)
+  was_nobody : account_in s i ≡ None → Linked (write C.sessions i C.session_connected 0 s)
   was_nobody e =
       linked_ext s (write C.sessions i C.session_connected 0 s)
       (λ j m. ⊎_elim (λ (q : j ≡ i). rw q (gone s ∙ sym e)) (λ ne. others s j ne) (same? j i)) (λ a m. refl) k
 
-  was_in : (a : ℕ) → account_in s i ≡ some a → Linked (write C.sessions i C.session_connected 0 (write C.accounts a C.account_session 0 s))
+  was_in : (a : ℕ) → account_in s i ≡ Some a → Linked (write C.sessions i C.session_connected 0 (write C.accounts a C.account_session 0 s))
   was_in a e =
       let u = k.forth i a l e in
       let t = write C.accounts a C.account_session 0 s in

@@ -1,7 +1,7 @@
 -- What the operations do to the gateway that the cells hold: each changes its own part, and the rest stays by computation. Assumes nothing.
+use Rattle.std.specs.Prelude.{Option, Some, None, option_map}
 use mathlib.Core.Path.{◌≡◌, refl, sym, ap, ◌∙◌}
 use mathlib.Core.Bool.{Bool, true, false, cond}
-use mathlib.Core.Option.{Option, none, some, map}
 use mathlib.Core.List.{List, [], ◌∷◌}
 use Prim.Native.Nat.{ℕ, ◌+◌, ◌-◌, ◌^◌, ◌≤◌, ◌<◌}
 use native.Mathlib.Omega.{arith}
@@ -10,13 +10,12 @@ use lib.IntN.{ℤ}
 use lib.ListN.{set, get_or-eq_default}
 use Rattle.accounts.specs.declared.Account.{Account}
 use Rattle.accounts.specs.declared.Funds.{Funds}
-use Rattle.accounts.specs.declared.MaybeFunds as F
 use Rattle.words.specs.Words.{int, word_of}
 use Rattle.risk.specs.declared.Bucket.{Bucket}
 use Rattle.risk.specs.Throttle as Throttle
 use Rattle.gateway.specs.Limits.{owner_slots, session_slots}
 use Rattle.gateway.specs.Ledger as Ledger
-use Rattle.gateway.specs.Ledger.{step, fits, funds_of}
+use Rattle.gateway.specs.Ledger.{step, fits}
 use Rattle.gateway.specs.Core.{account_at, system, core_step}
 use Rattle.gateway.specs.Entry.{wallet_at, bucket_at}
 use Rattle.gateway.specs.Rest as Rest
@@ -45,17 +44,17 @@ session_view i k v s x l e =
 
 -- what a writer's f does to a session that may be there
 update_view : (i k v : ℕ) (f : Rest.Session → Rest.Session) (s : Store) → i < session_slots →
-    session (write C.sessions i k v s C.sessions i) ≡ map f (session (s C.sessions i)) →
+    session (write C.sessions i k v s C.sessions i) ≡ option_map f (session (s C.sessions i)) →
     gateway (write C.sessions i k v s) ≡ with_rest (update_session i f) (gateway s)
 update_view i k v f s l e =
-    session_view i k v s (map f (session (s C.sessions i))) l e
-    ∙ ap (λ x. with_rest (λ r. with_sessions (set r.sessions i (map f x)) r) (gateway s)) (sym (listed_at (λ j. session (s C.sessions j)) session_slots i none l))
+    session_view i k v s (option_map f (session (s C.sessions i))) l e
+    ∙ ap (λ x. with_rest (λ r. with_sessions (set r.sessions i (option_map f x)) r) (gateway s)) (sym (listed_at (λ j. session (s C.sessions j)) session_slots i None l))
 
 -- f of a value that may be there
-map_maybe : {A B : Type 0} (f : A → B) (n : ℕ) (a : A) → maybe n (f a) ≡ map f (maybe n a)
+map_maybe : {A B : Type 0} (f : A → B) (n : ℕ) (a : A) → maybe n (f a) ≡ option_map f (maybe n a)
 map_maybe f n a = go (flag n)
   where
-    go : (b : Bool) → cond b (some (f a)) none ≡ map f (cond b (some a) none)
+    go : (b : Bool) → cond b (Some (f a)) None ≡ option_map f (cond b (Some a) None)
     go true = refl
     go false = refl
 
@@ -76,20 +75,20 @@ module _ (i : ℕ) (s : Store) (l : i < session_slots) where
   pub subscribed_view : gateway (P.set_subscribed i s) ≡ with_rest (update_session i Rest.set_subscribed) (gateway s)
   subscribed_view = update_view i C.session_subscribed 1 Rest.set_subscribed s l (rw (eq-eqb i i refl) (map_maybe Rest.set_subscribed connected _))
 
-  pub named_account : (a : ℕ) → session (write C.sessions i C.session_account (a + 1) s C.sessions i) ≡ map (Rest.set_account a) (session (s C.sessions i))
+  pub named_account : (a : ℕ) → session (write C.sessions i C.session_account (a + 1) s C.sessions i) ≡ option_map (Rest.set_account a) (session (s C.sessions i))
   named_account a = rw (eq-eqb i i refl, plus_one (a + 1) a refl) (map_maybe (Rest.set_account a) connected _)
 
   account_view : (a : ℕ) → gateway (write C.sessions i C.session_account (a + 1) s) ≡ with_rest (update_session i (Rest.set_account a)) (gateway s)
   account_view a = update_view i C.session_account (a + 1) (Rest.set_account a) s l (named_account a)
 
   gone_view : gateway (write C.sessions i C.session_connected 0 s) ≡ with_rest (without_session i) (gateway s)
-  gone_view = session_view i C.session_connected 0 s none l (rw (eq-eqb i i refl) refl)
+  gone_view = session_view i C.session_connected 0 s None l (rw (eq-eqb i i refl) refl)
 
-  pub connect_view : (t : ℕ) → gateway (P.connect i t s) ≡ with_rest (λ r. with_sessions (set r.sessions i (some (fresh_session t))) r) (gateway s)
+  pub connect_view : (t : ℕ) → gateway (P.connect i t s) ≡ with_rest (λ r. with_sessions (set r.sessions i (Some (fresh_session t))) r) (gateway s)
   unfolding put_cells
   connect_view t =
       ap (λ xs. with_rest (with_sessions xs) (gateway s))
-      (rows_set (λ j. session) C.sessions i session_slots s (P.connect i t s) (cells_rows C.sessions i (P.connect_cells t) s) (some (fresh_session t)) l (rw (eq-eqb i i refl) refl))
+      (rows_set (λ j. session) C.sessions i session_slots s (P.connect i t s) (cells_rows C.sessions i (P.connect_cells t) s) (Some (fresh_session t)) l (rw (eq-eqb i i refl) refl))
 
 -- ---- accounts
 
@@ -134,9 +133,9 @@ module _ (i : ℕ) (s t : Store) (h : Touched i s t) where
   accounts_kept : account i (t C.accounts i) ≡ account i (s C.accounts i) → (gateway t).core.accounts ≡ (gateway s).core.accounts
   accounts_kept e = ap (listed (λ j. account j (t C.accounts j))) h.limit ∙ rows_kept account C.accounts i (word s C.owner_limit) s t h.rows e
 
-  accounts_set : (a : Account) → i < word s C.owner_limit → account i (t C.accounts i) ≡ some a → (gateway t).core.accounts ≡ set (gateway s).core.accounts i (some a)
+  accounts_set : (a : Account) → i < word s C.owner_limit → account i (t C.accounts i) ≡ Some a → (gateway t).core.accounts ≡ set (gateway s).core.accounts i (Some a)
   accounts_set a l e =
-      ap (listed (λ j. account j (t C.accounts j))) h.limit ∙ rows_set account C.accounts i (word s C.owner_limit) s t h.rows (some a) l e
+      ap (listed (λ j. account j (t C.accounts j))) h.limit ∙ rows_set account C.accounts i (word s C.owner_limit) s t h.rows (Some a) l e
 
   wallets_kept : wallet (t C.accounts i) ≡ wallet (s C.accounts i) → (gateway t).core.ledger.wallets ≡ (gateway s).core.ledger.wallets
   wallets_kept e = rows_kept (λ j. wallet) C.accounts i owner_slots s t h.rows e
@@ -159,11 +158,11 @@ with_wallets ws g = with_lists g.core.accounts ws g.rest.buckets g
 
 -- where the account has a wallet
 pub money_view : (i c p : ℕ) (s : Store) → i < owner_slots → flag (s C.accounts i C.account_funded) ≡ true →
-    gateway (P.set_money i c p s) ≡ with_wallets (set (gateway s).core.ledger.wallets i (some (record { cash = int c; position = int p }))) (gateway s)
+    gateway (P.set_money i c p s) ≡ with_wallets (set (gateway s).core.ledger.wallets i (Some (record { cash = int c; position = int p }))) (gateway s)
 unfolding put_cells
 money_view i c p s l e =
     let h = touched_cells i (P.money_cells c p) s in
-    lists_are i s t h (accounts_kept i s t h (rw (eq-eqb i i refl) refl)) (wallets_set i s t h (some (record { cash = int c; position = int p })) l (rw (eq-eqb i i refl, e) refl))
+    lists_are i s t h (accounts_kept i s t h (rw (eq-eqb i i refl) refl)) (wallets_set i s t h (Some (record { cash = int c; position = int p })) l (rw (eq-eqb i i refl, e) refl))
     (buckets_kept i s t h (rw (eq-eqb i i refl) refl))
   where
     t : Store
@@ -213,14 +212,14 @@ forget_view i s l =
 
 module _ (i : ℕ) (s : Store) where
   pub account_at_row : i < word s C.owner_limit → account_at i (gateway s).core ≡ account i (s C.accounts i)
-  account_at_row l = listed_at (λ j. account j (s C.accounts j)) (word s C.owner_limit) i none l
+  account_at_row l = listed_at (λ j. account j (s C.accounts j)) (word s C.owner_limit) i None l
 
-  pub account_past : word s C.owner_limit ≤ i → account_at i (gateway s).core ≡ none
+  pub account_past : word s C.owner_limit ≤ i → account_at i (gateway s).core ≡ None
   account_past l =
-      get_or-eq_default (gateway s).core.accounts none {n = i} (rw (listed_length (λ j. account j (s C.accounts j)) (word s C.owner_limit)) l)
+      get_or-eq_default (gateway s).core.accounts None {n = i} (rw (listed_length (λ j. account j (s C.accounts j)) (word s C.owner_limit)) l)
 
   pub wallet_at_row : i < owner_slots → wallet_at i (gateway s).core ≡ wallet (s C.accounts i)
-  wallet_at_row l = listed_at (λ j. wallet (s C.accounts j)) owner_slots i none l
+  wallet_at_row l = listed_at (λ j. wallet (s C.accounts j)) owner_slots i None l
 
   pub bucket_at_row : i < owner_slots → bucket_at i (gateway s).rest ≡ bucket (s C.accounts i)
   bucket_at_row l = listed_at (λ j. bucket (s C.accounts j)) owner_slots i (Throttle.full 0) l
@@ -233,30 +232,30 @@ int_back z h = word_back z h
 
 -- its row, by its funds
 module _ (i token most rate : ℕ) (s : Store) where
-  abbrev new : F.MaybeFunds → Account
+  abbrev new : Option Funds → Account
   new f = record { id = i; token = token; max_open_orders = most; messages_per_second = rate; funds = f }
 
-  abbrev new_row : F.MaybeFunds → Row
+  abbrev new_row : Option Funds → Row
   new_row f = P.add_account (new f) s C.accounts i
 
-  new_account : (f : F.MaybeFunds) → MaybeFundsFit f → account i (new_row f) ≡ some (new f)
+  new_account : (f : Option Funds) → MaybeFundsFit f → account i (new_row f) ≡ Some (new f)
   unfolding put_cells
-  new_account F.TheVariants.None h = rw (eq-eqb i i refl) refl
-  new_account (F.TheVariants.Some f) h = rw (eq-eqb i i refl, int_back f.cash h.0, int_back f.position h.1) refl
+  new_account None h = rw (eq-eqb i i refl) refl
+  new_account (Some f) h = rw (eq-eqb i i refl, int_back f.cash h.0, int_back f.position h.1) refl
 
-  new_wallet : (f : F.MaybeFunds) → MaybeFundsFit f → wallet (new_row f) ≡ funds_of f
+  new_wallet : (f : Option Funds) → MaybeFundsFit f → wallet (new_row f) ≡ f
   unfolding put_cells
-  new_wallet F.TheVariants.None h = rw (eq-eqb i i refl) refl
-  new_wallet (F.TheVariants.Some f) h = rw (eq-eqb i i refl, int_back f.cash h.0, int_back f.position h.1) refl
+  new_wallet None h = rw (eq-eqb i i refl) refl
+  new_wallet (Some f) h = rw (eq-eqb i i refl, int_back f.cash h.0, int_back f.position h.1) refl
 
-  new_bucket : (f : F.MaybeFunds) → bucket (new_row f) ≡ Throttle.full rate
+  new_bucket : (f : Option Funds) → bucket (new_row f) ≡ Throttle.full rate
   unfolding put_cells
   new_bucket f = rw (eq-eqb i i refl) refl
 
-  new_limits : (f : F.MaybeFunds) → most < 2 ^ 32 → rate < 2 ^ 32 → P.LimitsFit (new_row f)
+  new_limits : (f : Option Funds) → most < 2 ^ 32 → rate < 2 ^ 32 → P.LimitsFit (new_row f)
   unfolding put_cells
-  new_limits F.TheVariants.None m r = record { max_open_fits = rw (eq-eqb i i refl) m; rate_fits = rw (eq-eqb i i refl) r }
-  new_limits (F.TheVariants.Some f) m r = record { max_open_fits = rw (eq-eqb i i refl) m; rate_fits = rw (eq-eqb i i refl) r }
+  new_limits None m r = record { max_open_fits = rw (eq-eqb i i refl) m; rate_fits = rw (eq-eqb i i refl) r }
+  new_limits (Some f) m r = record { max_open_fits = rw (eq-eqb i i refl) m; rate_fits = rw (eq-eqb i i refl) r }
 
 touched_by_add : (a : Account) (s : Store) → Touched a.id s (P.add_account a s)
 touched_by_add a s =
@@ -277,7 +276,7 @@ add_account_view a s f l m =
     let h = touched_by_add a s in
     lists_are i s t h
     (accounts_set i s t h a l (new_account i a.token a.max_open_orders a.messages_per_second s a.funds f))
-    (wallets_set i s t h (funds_of a.funds) (omega arith) (new_wallet i a.token a.max_open_orders a.messages_per_second s a.funds f))
+    (wallets_set i s t h a.funds (omega arith) (new_wallet i a.token a.max_open_orders a.messages_per_second s a.funds f))
     (buckets_set i s t h (Throttle.full a.messages_per_second) (omega arith) (new_bucket i a.token a.max_open_orders a.messages_per_second s a.funds))
   where
     t : Store

@@ -1,8 +1,7 @@
 -- The rows of accounts and sessions: what a reader finds, and what each operation writes, as a store.
-use Rattle.std.specs.Prelude.{ℕ, ◌+◌, ◌-◌, ◌^◌, ◌<◌, ◌≡◌, cond, List, [], ◌∷◌, get_or}
-use Rattle.std.proofs.Math.Option.{Option, none, some}
+use Rattle.std.specs.Prelude.{ℕ, ◌+◌, ◌-◌, ◌^◌, ◌<◌, ◌≡◌, cond, List, [], ◌∷◌, get_or, Option, Some, None}
 use Rattle.accounts.specs.declared.Account.{Account}
-use Rattle.accounts.specs.declared.MaybeFunds as F
+use Rattle.accounts.specs.declared.Funds.{Funds}
 use Rattle.words.specs.Words.{int, word_of}
 use Rattle.wallet.specs.declared.Wallet.{Wallet}
 use Rattle.risk.specs.declared.Bucket.{Bucket}
@@ -11,15 +10,9 @@ use Rattle.gateway.specs.Limits.{owner_slots, session_slots}
 use Rattle.gateway.specs.Rest as Rest
 use Rattle.store.specs.Cells as C
 use Rattle.store.specs.View.{Row, Store, write, flag, optional, session}
-use Rattle.clients.specs.declared.MaybeAccount as A
 use Rattle.clients.specs.declared.Session.{Session}
 
 -- ---- rows
-
--- what an answer says
-abbrev pub maybe_account : A.MaybeAccount → Option Account
-maybe_account A.TheVariants.None = none
-maybe_account (A.TheVariants.Some a) = some a
 
 -- the limits of an account are of 32 bits
 pub record LimitsFit (r : Row) : Type 0 where
@@ -30,11 +23,11 @@ pub record LimitsFit (r : Row) : Type 0 where
 pub record Limited (s : Store) : Type 0 where
   pub limits : (i : ℕ) → i < owner_slots → LimitsFit (s C.accounts i)
 
-abbrev pub funds : Row → F.MaybeFunds
+abbrev pub funds : Row → Option Funds
 funds r =
     cond (flag (r C.account_funded))
-    (F.TheVariants.Some (record { cash = int (r C.account_funds_cash); position = int (r C.account_funds_position) }))
-    F.TheVariants.None
+    (Some (record { cash = int (r C.account_funds_cash); position = int (r C.account_funds_position) }))
+    None
 
 abbrev pub wallet_words : Row → Wallet
 wallet_words r =
@@ -107,11 +100,11 @@ fund_cells cash position =
 abbrev pub fund : ℕ → ℕ → ℕ → Store → Store
 fund i cash position = put_cells C.accounts i (fund_cells cash position)
 
-abbrev pub funds_cells : F.MaybeFunds → List (ℕ × ℕ)
-funds_cells F.TheVariants.None = (C.account_funded, 0) ∷ []
-funds_cells (F.TheVariants.Some f) = fund_cells (word_of f.cash) (word_of f.position)
+abbrev pub funds_cells : Option Funds → List (ℕ × ℕ)
+funds_cells None = (C.account_funded, 0) ∷ []
+funds_cells (Some f) = fund_cells (word_of f.cash) (word_of f.position)
 
-abbrev pub set_funds : ℕ → F.MaybeFunds → Store → Store
+abbrev pub set_funds : ℕ → Option Funds → Store → Store
 set_funds i f = put_cells C.accounts i (funds_cells f)
 
 -- a new account; it has no live orders and no session, and those cells stay
@@ -153,7 +146,7 @@ forget i s = write C.sessions i C.session_connected 0 (leave (logged_in (s C.ses
 -- ---- sessions and accounts name each other
 
 pub record Linked (s : Store) : Type 0 where
-  pub forth : (i a : ℕ) → i < session_slots → Rest.account_of (session (s C.sessions i)) ≡ some a →
+  pub forth : (i a : ℕ) → i < session_slots → Rest.account_of (session (s C.sessions i)) ≡ Some a →
       (a < owner_slots) × (s C.accounts a C.account_session ≡ i + 1)
   pub back : (a i : ℕ) → a < owner_slots → s C.accounts a C.account_session ≡ i + 1 →
-      (i < session_slots) × (Rest.account_of (session (s C.sessions i)) ≡ some a)
+      (i < session_slots) × (Rest.account_of (session (s C.sessions i)) ≡ Some a)

@@ -1,10 +1,8 @@
 // The rows of accounts and sessions. docs/STATE.md has the cells.
 #![tactic(auto)]
 
-ghost use Rattle.std.specs.Prelude.{true, ◌≡◌, ◌<◌, ◌≤◌};
-ghost use Rattle.std.proofs.Math.Option.{none, some};
+ghost use Rattle.std.specs.Prelude.{true, ◌≡◌, ◌<◌, ◌≤◌, is_some};
 ghost use Rattle.words.specs.Words.{int, word_of};
-ghost use Rattle.gateway.specs.Basics.{is_some};
 ghost use Rattle.gateway.specs.Fits.{FundsFit, MaybeFundsFit, AccountFits};
 ghost use Rattle.gateway.specs.Limits.{owner_slots, session_slots};
 ghost use Rattle.gateway.specs.Rest.{session_at, account_of, is_open, is_present, is_subscribed};
@@ -13,16 +11,10 @@ ghost use Rattle.store.specs.Layout.{cell, Cell, Holds};
 ghost use Rattle.store.specs.View.{flag, optional, account, wallet, bucket, write, gateway, Is};
 ghost use Rattle.clients.specs.Clients as P;
 
-use accounts::{Account, Funds, MaybeFunds};
+use accounts::{Account, Funds};
 use risk::Bucket;
 use store::{cells, limits};
 use wallet::Wallet;
-
-#[derive(Clone, Copy)]
-pub enum MaybeAccount {
-    None,
-    Some(Account),
-}
 
 // ---- accounts
 
@@ -80,22 +72,22 @@ fn funds_of(cash: u64, position: u64) -> Funds
     }
 }
 
-fn funds_at(m: &[u8], i: usize) -> MaybeFunds
+fn funds_at(m: &[u8], i: usize) -> Option<Funds>
     requires { Holds m.now × (i < owner_slots) }
     ensures { result ≡ P.funds (cell m.now C.accounts i) }
 {
     if is_set(m, store::ACCOUNTS, i, cells::ACCOUNT_FUNDED) {
         let cash = store::get(m, store::ACCOUNTS, i, cells::ACCOUNT_FUNDS_CASH);
         let position = store::get(m, store::ACCOUNTS, i, cells::ACCOUNT_FUNDS_POSITION);
-        MaybeFunds::Some(funds_of(cash, position))
+        Some(funds_of(cash, position))
     } else {
-        MaybeFunds::None
+        None
     }
 }
 
 fn account_row(m: &[u8], i: usize) -> Account
     requires { Holds m.now × (i < owner_slots) × P.LimitsFit (cell m.now C.accounts i) × (flag (cell m.now C.accounts i C.account_exists) ≡ true) }
-    ensures { some result ≡ account i (cell m.now C.accounts i) }
+    ensures { Some result ≡ account i (cell m.now C.accounts i) }
 {
     let token = store::get(m, store::ACCOUNTS, i, cells::ACCOUNT_TOKEN);
     let max_open = store::get(m, store::ACCOUNTS, i, cells::ACCOUNT_MAX_OPEN);
@@ -110,14 +102,14 @@ fn account_row(m: &[u8], i: usize) -> Account
     }
 }
 
-pub fn account_at(m: &[u8], i: usize) -> MaybeAccount
+pub fn account_at(m: &[u8], i: usize) -> Option<Account>
     requires { Holds m.now × (i < owner_slots) × P.LimitsFit (cell m.now C.accounts i) }
-    ensures { P.maybe_account result ≡ account i (cell m.now C.accounts i) }
+    ensures { result ≡ account i (cell m.now C.accounts i) }
 {
     if is_set(m, store::ACCOUNTS, i, cells::ACCOUNT_EXISTS) {
-        MaybeAccount::Some(account_row(m, i))
+        Some(account_row(m, i))
     } else {
-        MaybeAccount::None
+        None
     }
 }
 
@@ -216,15 +208,15 @@ fn fund(m: &mut [u8], i: usize, f: Funds)
     write_funds(m, i, cash, position);
 }
 
-fn set_funds(m: &mut [u8], i: usize, f: MaybeFunds)
+fn set_funds(m: &mut [u8], i: usize, f: Option<Funds>)
     requires { Holds m.old × (i < owner_slots) }
     ensures { Is m.new (P.set_funds i f (cell m.old)) × MaybeFundsFit f }
 {
     match f {
-        MaybeFunds::None => {
+        None => {
             store::set(m, store::ACCOUNTS, i, cells::ACCOUNT_FUNDED, 0);
         }
-        MaybeFunds::Some(x) => {
+        Some(x) => {
             fund(m, i, x);
         }
     }
@@ -257,7 +249,7 @@ pub struct Session {
 
 impl Session {
     fn nobody() -> Session
-        ensures { P.session_in result ≡ none }
+        ensures { P.session_in result ≡ None }
     {
         Session {
             connected: 0,
@@ -291,7 +283,7 @@ impl Session {
     }
 
     // The account that it is logged in for, plus one; 0 for none.
-    pub fn account_of(self) -> u64
+    fn logged_in(self) -> u64
         ensures { P.AccountOf self result }
     {
         if self.connected == 0 { 0 } else { self.account }
@@ -301,7 +293,7 @@ impl Session {
     pub fn is_open(self) -> bool
         ensures { result ≡ is_open (P.session_in self) }
     {
-        if self.account_of() == 0 {
+        if self.logged_in() == 0 {
             false
         } else {
             self.is_present()
@@ -356,19 +348,27 @@ pub fn is_subscribed(m: &[u8], s: usize) -> bool
     find_session(m, s).is_subscribed()
 }
 
-pub fn account_of(m: &[u8], s: usize) -> u64
-    requires { Holds m.now }
-    ensures { optional result ≡ account_of (session_at s (gateway (cell m.now)).rest) }
+// A number of a cell that has it plus one, 0 for none.
+fn minus_one(w: u64) -> Option<usize>
+    ensures { result ≡ optional w }
 {
-    find_session(m, s).account_of()
+    (w as usize).checked_sub(1)
 }
 
-// The session logged in for an account, plus one; 0 for none.
-pub fn session_of(m: &[u8], a: usize) -> u64
-    requires { Holds m.now × (a < owner_slots) }
-    ensures { result ≡ cell m.now C.accounts a C.account_session }
+// The account that a session is logged in for.
+pub fn account_of(m: &[u8], s: usize) -> Option<usize>
+    requires { Holds m.now }
+    ensures { result ≡ account_of (session_at s (gateway (cell m.now)).rest) }
 {
-    store::get(m, store::ACCOUNTS, a, cells::ACCOUNT_SESSION)
+    minus_one(find_session(m, s).logged_in())
+}
+
+// The session logged in for an account.
+pub fn session_of(m: &[u8], a: usize) -> Option<usize>
+    requires { Holds m.now × (a < owner_slots) }
+    ensures { result ≡ optional (cell m.now C.accounts a C.account_session) }
+{
+    minus_one(store::get(m, store::ACCOUNTS, a, cells::ACCOUNT_SESSION))
 }
 
 pub fn is_closing(m: &[u8], s: usize) -> bool
@@ -461,7 +461,7 @@ pub fn forget(m: &mut [u8], s: usize)
     requires { Holds m.old × (s < session_slots) × P.Linked (cell m.old) }
     ensures { Is m.new (P.forget s (cell m.old)) }
 {
-    let a = session_at(m, s).account_of();
+    let a = session_at(m, s).logged_in();
     leave(m, a);
     set_cell(m, store::SESSIONS, s, cells::SESSION_CONNECTED, 0);
 }

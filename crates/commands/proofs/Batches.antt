@@ -1,4 +1,6 @@
 -- The batch is handed over. Assumes nothing.
+use Rattle.outcome.specs.declared.Refusal.TheVariants.{TooShort}
+use Rattle.std.specs.Prelude.{Ok, Err}
 use mathlib.Core.Path.{◌≡◌, refl, sym, ap, ◌∙◌}
 use mathlib.Core.List.{List, [], ◌∷◌, ◌++◌, map}
 use Prim.Native.Nat.{ℕ, ◌+◌, ◌*◌, ◌≤◌, ◌<◌}
@@ -9,12 +11,11 @@ use lib.ListN.{length, get_or, take, length-map}
 use lib.Seq.{take-suc, take_all, length-take-le}
 use Rattle.orderbook.specs.declared.Command.{Command}
 use Rattle.orderbook.specs.declared.Command.TheVariants.{CancelAll}
-use Rattle.gateway.specs.Limits.{most_in_batch}
 use Rattle.gateway.specs.Rest.{with_batch}
 use Rattle.gateway.specs.Entry.{number_is, commands, unless, quiet}
 use Rattle.gateway.specs.Calls.{call, plan, last_seq, take_batch}
 use Rattle.store.specs.Cells as C
-use Rattle.store.specs.Layout.{cell, Holds}
+use Rattle.store.specs.Layout.{cell}
 use Rattle.store.specs.View.{word, command, gateway, Is}
 use Rattle.store.proofs.Listed.{listed_at}
 use Rattle.orders.proofs.Shown.{map_append}
@@ -32,9 +33,6 @@ use Rattle.outcome.specs.Parts.{with_rest, rest_of}
 use Rattle.outcome.specs.Answers.{Says, Lists}
 use Rattle.outcome.proofs.Calls.{says_done, lists_short, lists_done}
 use Rattle.commands.proofs.Numbering.{batch_is}
-
-pub command_needs : {xs : List ℕ} (j : ℕ) → State xs → j < word (cell xs) C.waiting → Holds xs × (j < most_in_batch) × CommandFits (cell xs C.batch j)
-command_needs j st l = (st.holds, omega (arith, l, st.sound.tables.ordered.bounds.batch_fits), st.sound.clients.batch j l)
 
 -- ---- the loop: the first j rows stand in out
 
@@ -80,14 +78,14 @@ pub clear_becomes : {xs ys : List ℕ} → State xs → Is ys (Pending.clear_bat
 clear_becomes {xs} st h = becomes h (clear_sound (cell xs) st.sound) (clear_view (cell xs))
 
 module _ (xs out : List ℕ) (n p : ℕ) (b : Between xs) (n_is : n ≡ word (cell xs) C.waiting) (room : p ≡ places (length out)) where
-  pub batch_short : p < n → Lists 96 (call (gateway (cell xs)) (take_batch (places (length out)))) (record { code = 6; count = 0 }) xs xs out out
+  pub batch_short : p < n → Lists 96 (call (gateway (cell xs)) (take_batch (places (length out)))) (Err TooShort) xs xs out out
   unfolding plan unless
   batch_short l =
       lists_short xs out (take_batch (places (length out))) tt b 96
       (rw (lt-leb (length (rest_of xs).batch) (places (length out)) (omega (arith, l, n_is, room, batch_is (cell xs)))) refl)
 
   pub batch_done : {ys end : List ℕ} → n ≤ p → end ≡ put_rows 96 0 (map command_row (rest_of xs).batch) out → Becomes ys (with_rest (with_batch []) (gateway (cell xs))) →
-      Lists 96 (call (gateway (cell xs)) (take_batch (places (length out)))) (record { code = 0; count = n }) xs ys out end
+      Lists 96 (call (gateway (cell xs)) (take_batch (places (length out)))) (Ok n) xs ys out end
   unfolding plan unless
   batch_done l h d =
       lists_done xs out (take_batch (places (length out))) tt b 96 (commands (rest_of xs).batch) (with_batch [] (rest_of xs)) n

@@ -1,7 +1,7 @@
 -- Numbering: what can be numbered, and the gateway after it. Assumes nothing.
 use mathlib.Core.Path.{◌≡◌, refl, sym, ap, ◌∙◌}
-use mathlib.Core.Bool.{true, false, ◌&&◌, and-eq-true_iff}
-use mathlib.Core.Logic.{⊎_elim}
+use mathlib.Core.Bool.{true, ◌&&◌, and-eq-true_iff}
+use mathlib.Core.Logic.{◌⊎◌, ⊎_elim}
 use mathlib.Core.List.{List, append-nil}
 use Prim.Native.Nat.{ℕ, ◌+◌, ◌-◌, ◌≤◌, ◌<◌}
 use native.Mathlib.Omega.{arith}
@@ -52,11 +52,14 @@ module _ (xs : List ℕ) where
   number_left f w l e d h p q =
       rw (flights_are (cell xs), batch_is (cell xs), ← e, ← d, ← h, lt-ltb f most_in_flight p, lt-ltb w most_in_batch q) (below l)
 
-  pub many_flying : (f : ℕ) → f ≡ word (cell xs) C.flying → most_in_flight ≤ f → false ≡ can_number g
+  pub many_flying : (f : ℕ) → f ≡ word (cell xs) C.flying → most_in_flight ≤ f → ltb f most_in_flight ≡ can_number g
   many_flying f e p = rw (flights_are (cell xs), ← e, le-ltb f most_in_flight p) refl
 
-  pub many_waiting : (f w : ℕ) → f ≡ word (cell xs) C.flying → w ≡ word (cell xs) C.waiting → f < most_in_flight → most_in_batch ≤ w → false ≡ can_number g
-  many_waiting f w e d p q = rw (flights_are (cell xs), batch_is (cell xs), ← e, ← d, lt-ltb f most_in_flight p, le-ltb w most_in_batch q) refl
+  pub many_waiting : (f w : ℕ) → f ≡ word (cell xs) C.flying → w ≡ word (cell xs) C.waiting → f < most_in_flight → (f < most_in_flight × most_in_batch ≤ w) ⊎ (most_in_flight ≤ f) →
+      ltb w most_in_batch ≡ can_number g
+  many_waiting f w e d p q =
+      let h : most_in_batch ≤ w = omega arith in
+      rw (flights_are (cell xs), batch_is (cell xs), ← e, ← d, lt-ltb f most_in_flight p, le-ltb w most_in_batch h) refl
 
   -- and back
   pub record Room : Type 0 where
@@ -132,5 +135,3 @@ pub push_becomes : (xs : List ℕ) {ys zs : List ℕ} (sender owner : ℕ) (k : 
 push_becomes xs sender owner k p b d =
     let e = then_becomes (with_rest (queued k)) b.0 d in
     record { state = e.state; gateway_is = e.gateway_is ∙ plain_is sender owner k p (gateway (cell xs)) }
-
-pub ruleset numbering = (number_left, many_flying, many_waiting, arith)

@@ -1,6 +1,5 @@
 -- Numbering commands: what every numbering asks, and what it does to the gateway.
-use Rattle.std.specs.Prelude.{ℕ, ◌<◌, ◌≡◌, Bool, ◌&&◌, List, [], ◌∷◌, ◌++◌, length, ltb}
-use Rattle.std.proofs.Math.Option.{Option, none, some}
+use Rattle.std.specs.Prelude.{ℕ, ◌<◌, ◌≡◌, Bool, ◌&&◌, List, [], ◌∷◌, ◌++◌, length, ltb, None}
 use Rattle.orderbook.specs.declared.Command.{Command}
 use Rattle.words.specs.Words.{modulus}
 use Rattle.gateway.specs.Limits.{most_in_flight, most_in_batch}
@@ -12,7 +11,6 @@ use Rattle.store.specs.Cells as C
 use Rattle.store.specs.Layout.{cell}
 use Rattle.store.specs.View.{word, flag, optional}
 use Rattle.pending.specs.Pending.{Batched}
-use Rattle.commands.specs.declared.MaybeId as Id
 
 -- the three tests of `can_number`
 abbrev pub can_number : Gateway → Bool
@@ -42,7 +40,7 @@ flying sender owner places g =
 pub record Plain (owner : ℕ) (k : Command) : Type 0 where
   pub batched : Batched k
   pub owner_is : owner ≡ owner_of k
-  pub places_nothing : order_of k ≡ none
+  pub places_nothing : order_of k ≡ None
 
 -- it is numbered (`numbered` of the definitions)
 abbrev pub numbered : ℕ → Command → Gateway → Gateway
@@ -55,8 +53,3 @@ numbered sender k g =
 -- every order's number is below the last: that of the command that just took off
 abbrev pub Unplaced : List ℕ → Type 0
 Unplaced xs = (j : ℕ) → j < word (cell xs) C.order_rows → cell xs C.orders j C.order_number < word (cell xs) C.last
-
--- what an answer says
-abbrev pub maybe_id : Id.MaybeId → Option ℕ
-maybe_id Id.TheVariants.None = none
-maybe_id (Id.TheVariants.Some a) = some a

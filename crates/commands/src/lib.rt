@@ -15,11 +15,12 @@ ghost use Rattle.sound.specs.Sound.{State, Becomes};
 ghost use Rattle.mailbox.specs.Mailbox.{places};
 ghost use Rattle.outcome.specs.Between.{Between};
 ghost use Rattle.outcome.specs.Parts.{with_rest, rest_of};
+ghost use Rattle.outcome.specs.Refusals.{code_of};
 ghost use Rattle.outcome.specs.Answers.{Says, Lists};
 ghost use Rattle.commands.specs.Commands as P;
 
 use orderbook::Command;
-use outcome::Reply;
+use outcome::Refusal;
 use store::{cells, limits};
 
 // ---- numbering
@@ -40,12 +41,7 @@ pub fn can_number(m: &[u8]) -> bool
     let flying = pending::header::word_at(m, cells::FLYING);
     let waiting = pending::header::word_at(m, cells::WAITING);
     let last = pending::header::word_at(m, cells::LAST);
-    if flying < limits::MOST_IN_FLIGHT {
-        if waiting < limits::MOST_IN_BATCH {
-            return last < limits::GREATEST;
-        }
-    }
-    false
+    flying < limits::MOST_IN_FLIGHT && waiting < limits::MOST_IN_BATCH && last < limits::GREATEST
 }
 
 // The next number is in flight, for an owner; the sender is a session plus one, 0 for SYSTEM, and `places` 1 where an order is placed.
@@ -89,10 +85,8 @@ fn put_batch(m: &[u8], out: &mut [u8], n: usize)
     requires { State m.now × (n ≡ word (cell m.now) C.waiting) × (n ≤ places (length out.old)) }
     ensures { out.new ≡ put_rows 96 0 (map command_row (rest_of m.now).batch) out.old }
 {
-    let mut j: usize = 0;
-    while j < n {
+    for j in 0..n {
         put_command(m, out, j);
-        j += 1;
     }
 }
 
@@ -104,41 +98,20 @@ fn clear(m: &mut [u8])
 }
 
 // The commands not yet handed over, in order: 12 cells each.
-pub fn take_batch(m: &mut [u8], out: &mut [u8]) -> Reply
+pub fn take_batch(m: &mut [u8], out: &mut [u8]) -> Result<usize, Refusal>
     requires { Between m.old }
     ensures { Lists 96 (call (gateway (cell m.old)) (take_batch (places (length out.old)))) result m.old m.new out.old out.new }
 {
     let n = pending::header::word_at(m, cells::WAITING) as usize;
     if mailbox::room(out) < n {
-        return Reply {
-            code: outcome::TOO_SHORT,
-            count: 0,
-        };
+        return Err(Refusal::TooShort);
     }
     put_batch(m, out, n);
     clear(m);
-    Reply { code: 0, count: n }
+    Ok(n)
 }
 
 // ---- connections that are gone
-
-// An account, where there was one.
-#[derive(Clone, Copy)]
-pub enum MaybeId {
-    None,
-    Some(u32),
-}
-
-// From a number plus one, 0 for none.
-fn id_of(a: u64) -> MaybeId
-    requires { a ≤ owner_slots }
-    ensures { P.maybe_id result ≡ optional a }
-{
-    if a == 0 {
-        return MaybeId::None;
-    }
-    MaybeId::Some((a - 1) as u32)
-}
 
 // The session of any number is gone, and with it the login.
 fn forget(m: &mut [u8], s: usize)
@@ -151,30 +124,35 @@ fn forget(m: &mut [u8], s: usize)
 }
 
 // The account that the session was logged in for.
-pub fn detach(m: &mut [u8], s: usize) -> MaybeId
+pub fn detach(m: &mut [u8], s: usize) -> Option<u32>
     requires { Between m.old }
-    ensures { Says (account_was (P.maybe_id result)) (call (gateway (cell m.old)) (detach s)) 0 m.old m.new }
+    ensures { Says (account_was result) (call (gateway (cell m.old)) (detach s)) 0 m.old m.new }
 {
     let a = clients::account_of(m, s);
     forget(m, s);
-    id_of(a)
+    match a {
+        None => None,
+        Some(a) => Some(a as u32),
+    }
 }
 
 // A logged-in account's orders are cancelled: a client that is gone cannot manage them.
-pub fn disconnect(m: &mut [u8], s: usize) -> u64
+pub fn disconnect(m: &mut [u8], s: usize) -> Result<(), Refusal>
     requires { Between m.old }
-    ensures { Says nothing (call (gateway (cell m.old)) (disconnect s)) result m.old m.new }
+    ensures { Says nothing (call (gateway (cell m.old)) (disconnect s)) (code_of result) m.old m.new }
 {
-    let a = clients::account_of(m, s);
-    if a == 0 {
-        forget(m, s);
-        return 0;
+    match clients::account_of(m, s) {
+        None => {
+            forget(m, s);
+            Ok(())
+        }
+        Some(a) => {
+            if can_number(m) {
+                forget(m, s);
+                push(m, 0, a as u64, Command::CancelAll { owner: a as u32 });
+                return Ok(());
+            }
+            Err(Refusal::Full)
+        }
     }
-    if can_number(m) {
-        forget(m, s);
-        let owner = (a - 1) as u32;
-        push(m, 0, a - 1, Command::CancelAll { owner });
-        return 0;
-    }
-    outcome::FULL
 }

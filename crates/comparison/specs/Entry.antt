@@ -1,18 +1,14 @@
 -- What each call answers: its code, and what the slices that it may write hold after it.
-use Rattle.std.specs.Prelude.{Bool, true, false, cond, List, [], ◌∷◌, ℕ, ◌+◌, ◌^◌, eqb, leb, ltb, ℤ, length}
-use Rattle.std.proofs.Math.Option.{Option, none, some}
+use Rattle.std.specs.Prelude.{Bool, true, false, cond, List, [], ◌∷◌, ℕ, ◌+◌, ◌^◌, eqb, leb, ltb, ℤ, length, Option, Some, None}
 use Rattle.std.specs.Int.{w64}
 use Rattle.std.proofs.Common.{of_z}
 use Rattle.gateway.specs.Limits.{too_short, outside, malformed}
 use Rattle.le.specs.Checked.{is_width, loaded}
 use Rattle.le.specs.Le.{le, put}
 use Rattle.le.specs.Row.{span, puts}
-use Rattle.le.specs.declared.Loaded.{Loaded}
-use Rattle.le.specs.declared.Loaded.TheVariants.{Value, Refused}
 use Rattle.orderbook.specs.declared.Side.{Side}
 use Rattle.protocol.specs.Codes.{side_of}
 use Rattle.protocol.specs.declared.Balance.{Balance}
-use Rattle.protocol.specs.declared.codes.MaybeSide as M
 use Rattle.risk.specs.Collar.{near}
 use Rattle.risk.specs.Throttle.{take_token}
 use Rattle.risk.specs.declared.Bucket.{Bucket}
@@ -70,9 +66,9 @@ abbrev pub put_bucket : Bucket → List ℕ → List ℕ
 put_bucket b xs = puts two xs 0 (b.tokens ∷ b.refilled ∷ [])
 
 -- a side's number has to be a case's code
-abbrev pub by_side : M.MaybeSide → List ℕ → (Side → Answer) → Answer
-by_side M.TheVariants.None xs f = answer malformed xs
-by_side (M.TheVariants.Some side) xs f = f side
+abbrev pub by_side : Option Side → List ℕ → (Side → Answer) → Answer
+by_side None xs f = answer malformed xs
+by_side (Some side) xs f = f side
 
 -- an input has n bytes, and should have k
 abbrev pub sized : ℕ → ℕ → List ℕ → Answer → Answer
@@ -80,8 +76,8 @@ sized n k xs a = cond (eqb n k) a (answer malformed xs)
 
 -- whether an amount fits, and the amount, or 0
 abbrev pub write_amount : Option ℤ → List ℕ → Answer
-write_amount none out = write two (0 ∷ 0 ∷ []) out
-write_amount (some z) out = write two (1 ∷ word z ∷ []) out
+write_amount None out = write two (0 ∷ 0 ∷ []) out
+write_amount (Some z) out = write two (1 ∷ word z ∷ []) out
 
 -- what an order holds where a buyer pays this fee for each lot
 abbrev pub hold_of : ℕ → ℕ → ℕ → ℕ → List ℕ → Answer
@@ -95,8 +91,8 @@ covers side amount xs out = by_side (side_of side) out (λ s. covers_on s amount
 
 -- a wallet after a change, if its total fits
 abbrev pub change : Option Balance → List ℕ → Answer
-change none xs = answer outside xs
-change (some b) xs = answer done (put_balance b xs)
+change None xs = answer outside xs
+change (Some b) xs = answer done (put_balance b xs)
 
 abbrev pub hold_on : Side → ℕ → ℕ → List ℕ → Answer
 hold_on side old new xs = sized (length xs) 32 xs (change (W.hold side (int old) (int new) (balance_in xs)) xs)
@@ -105,7 +101,7 @@ abbrev pub hold : ℕ → ℕ → ℕ → List ℕ → Answer
 hold side old new xs = by_side (side_of side) xs (λ s. hold_on s old new xs)
 
 abbrev pub settle_on : ℕ → Side → ℕ → ℕ → List ℕ → Answer
-settle_on fee side price qty xs = sized (length xs) 32 xs (change (some (W.settled side (W.charged (int fee) side (int price)) qty (balance_in xs))) xs)
+settle_on fee side price qty xs = sized (length xs) 32 xs (change (Some (W.settled side (W.charged (int fee) side (int price)) qty (balance_in xs))) xs)
 
 abbrev pub settle : ℕ → ℕ → ℕ → ℕ → List ℕ → Answer
 settle fee side price qty xs = by_side (side_of side) xs (λ s. settle_on fee s price qty xs)
@@ -124,9 +120,9 @@ take rate time xs out =
     (cond (ltb (length out) 8) (answers too_short xs out) (took (take_token rate time (bucket_in xs)) xs out))
     (answers malformed xs out)
 
-abbrev pub write_loaded : Loaded → List ℕ → Answer
-write_loaded (Value v) out = write one (v ∷ []) out
-write_loaded Refused out = answer malformed out
+abbrev pub write_loaded : Option ℕ → List ℕ → Answer
+write_loaded (Some v) out = write one (v ∷ []) out
+write_loaded None out = answer malformed out
 
 abbrev pub load : ℕ → ℕ → List ℕ → List ℕ → Answer
 load width at xs out = write_loaded (loaded xs at width) out

@@ -10,12 +10,9 @@ ghost use Rattle.words.specs.Words.{int, amount};
 ghost use Rattle.comparison.specs.Entry as E;
 ghost use Rattle.comparison.specs.Entry.{answer, answers};
 
-use le::Loaded;
 use orderbook::Side;
-use protocol::codes::MaybeSide;
 use risk::Bucket;
-use wallet::{Changed, Wallet};
-use words::Amount;
+use wallet::Wallet;
 
 const DONE: u32 = 0;
 
@@ -25,20 +22,20 @@ const OUTSIDE: u32 = 7;
 
 const MALFORMED: u32 = 11;
 
-fn side_of(code: u32) -> MaybeSide
+fn side_of(code: u32) -> Option<Side>
     ensures { result ≡ side_of code }
 {
     if code < 256 {
-        protocol::codes::side_of(code as u8)
+        Side::try_from(code as u8).ok()
     } else {
-        MaybeSide::None
+        None
     }
 }
 
 fn flag(yes: bool) -> u64
     ensures { result ≡ E.flag yes }
 {
-    if yes { 1 } else { 0 }
+    yes as u64
 }
 
 // Words at the start of an output.
@@ -63,12 +60,12 @@ fn write_two(out: &mut [u8], a: u64, b: u64) -> u32
     DONE
 }
 
-fn write_amount(out: &mut [u8], a: Amount) -> u32
+fn write_amount(out: &mut [u8], a: Option<u64>) -> u32
     ensures { answer result out.new ≡ E.write_amount (amount a) out.old }
 {
     match a {
-        Amount::Fits(w) => write_two(out, 1, w),
-        Amount::TooBig => write_two(out, 0, 0),
+        Some(w) => write_two(out, 1, w),
+        None => write_two(out, 0, 0),
     }
 }
 
@@ -95,13 +92,13 @@ fn write_wallet(m: &mut [u8], w: Wallet) -> u32
     DONE
 }
 
-fn write_changed(m: &mut [u8], c: Changed) -> u32
+fn write_changed(m: &mut [u8], c: Option<Wallet>) -> u32
     requires { 32 ≤ length m.old }
     ensures { answer result m.new ≡ E.change (W.changed c) m.old }
 {
     match c {
-        Changed::Fits(w) => write_wallet(m, w),
-        Changed::TooBig => OUTSIDE,
+        Some(w) => write_wallet(m, w),
+        None => OUTSIDE,
     }
 }
 
@@ -110,8 +107,8 @@ pub fn entry_hold_of(fee: u64, side: u32, price: u64, leaves: u64, out: &mut [u8
     ensures { answer result out.new ≡ E.hold_of fee side price leaves out.old }
 {
     match side_of(side) {
-        MaybeSide::Some(s) => write_amount(out, Wallet::hold_of(fee, s, price, leaves)),
-        MaybeSide::None => MALFORMED,
+        Some(s) => write_amount(out, Wallet::hold_of(fee, s, price, leaves)),
+        None => MALFORMED,
     }
 }
 
@@ -129,8 +126,8 @@ pub fn entry_covers(side: u32, amount: u64, wallet: &[u8], out: &mut [u8]) -> u3
     ensures { answer result out.new ≡ E.covers side amount wallet.now out.old }
 {
     match side_of(side) {
-        MaybeSide::Some(s) => covers_on(s, amount, wallet, out),
-        MaybeSide::None => MALFORMED,
+        Some(s) => covers_on(s, amount, wallet, out),
+        None => MALFORMED,
     }
 }
 
@@ -149,8 +146,8 @@ pub fn entry_hold(side: u32, old: u64, new: u64, wallet: &mut [u8]) -> u32
     ensures { answer result wallet.new ≡ E.hold side old new wallet.old }
 {
     match side_of(side) {
-        MaybeSide::Some(s) => hold_on(s, old, new, wallet),
-        MaybeSide::None => MALFORMED,
+        Some(s) => hold_on(s, old, new, wallet),
+        None => MALFORMED,
     }
 }
 
@@ -168,8 +165,8 @@ pub fn entry_settle(fee: u64, side: u32, price: u64, qty: u64, wallet: &mut [u8]
     ensures { answer result wallet.new ≡ E.settle fee side price qty wallet.old }
 {
     match side_of(side) {
-        MaybeSide::Some(s) => settle_on(fee, s, price, qty, wallet),
-        MaybeSide::None => MALFORMED,
+        Some(s) => settle_on(fee, s, price, qty, wallet),
+        None => MALFORMED,
     }
 }
 
@@ -223,8 +220,8 @@ pub fn entry_load(width: u32, at: u64, bytes: &[u8], out: &mut [u8]) -> u32
     ensures { answer result out.new ≡ E.load width at bytes.now out.old }
 {
     match le::load(bytes, at as usize, width as usize) {
-        Loaded::Value(v) => write_one(out, v),
-        Loaded::Refused => MALFORMED,
+        Some(v) => write_one(out, v),
+        None => MALFORMED,
     }
 }
 

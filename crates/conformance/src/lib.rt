@@ -28,11 +28,12 @@ fn play_run(m: &mut [u8], row: [u8; 128], rows: [u8; 24576], at: &mut Difference
 {
     let mut same = play(m, row, rows, at);
     let mut next = row;
-    let mut left = stored::times(&row);
-    while 0 < left && same {
+    for _left in (0..stored::times(&row)).rev() {
+        if !same {
+            return false;
+        }
         stored::grow_row(&mut next);
         same = play(m, next, rows, at);
-        left -= 1;
     }
     same
 }

@@ -1,4 +1,5 @@
 -- An event by the words of its row, and the event of a row by its kind. Assumes nothing.
+use Rattle.std.specs.Prelude.{Option, Result}
 use mathlib.Core.Path.{◌≡◌, subst, ◌∙◌}
 use mathlib.Core.List.{List}
 use Prim.Native.Nat.{ℕ, ◌<◌}
@@ -11,7 +12,6 @@ use mir.Val.{of_z, to_z}
 use Rattle.words.specs.Words.{half}
 use Rattle.words.proofs.Int.{read}
 use Rattle.orderbook.specs.declared.Side.{Side}
-use Rattle.orderbook.specs.declared.MaybePrice.{MaybePrice}
 use Rattle.orderbook.specs.declared.CancelReason.{CancelReason}
 use Rattle.orderbook.specs.declared.Event.{Event}
 use Rattle.orderbook.specs.declared.Event.TheVariants as Ev
@@ -19,12 +19,12 @@ use Rattle.gateway.specs.Calls.{call, deliver_event}
 use Rattle.store.specs.Layout.{cell}
 use Rattle.store.specs.View.{gateway, side, maybe_price}
 use Rattle.mailbox.specs.Mailbox.{places}
-use Rattle.outcome.specs.declared.Reply.{Reply}
+use Rattle.outcome.specs.declared.Refusal.{Refusal}
 use Rattle.outcome.specs.Answers.{Gives}
 use Rattle.script.specs.Script.{word_at, price_at, cancel_at, event_of, traded, rested, replenished, cancelled, modified, stop_placed}
 use Rattle.script.proofs.Laws.{is_accepted, is_rejected, is_traded, is_rested, is_replenished, is_cancelled, is_modified, is_stop_placed, is_triggered, is_mass}
 
-module _ (xs ys out end : List ℕ) (n : ℕ) (w : Reply) where
+module _ (xs ys out end : List ℕ) (n : ℕ) (w : Result ℕ Refusal) where
   abbrev Delivered : Event → Type 0
   Delivered e = Gives (call (gateway (cell xs)) (deliver_event n e (places (length out)))) w xs ys out end
 
@@ -53,7 +53,7 @@ module _ (xs ys out end : List ℕ) (n : ℕ) (w : Reply) where
         Delivered (Ev.Modified o (to_z w64 (of_z w64 p)) q v) → Delivered (modified row)
     as_modified o p q v e₁ e₂ l e₃ e₄ h = subst Delivered (λ i. Ev.Modified (e₁ i) ((read {x = p} l ∙ e₂) i) (e₃ i) (e₄ i)) h
 
-    pub as_stop_placed : (o : ℕ) (z : Side) (p : ℤ) (m : MaybePrice) (q : ℕ) → o ≡ word_at row 1 → z ≡ side (word_at row 2) → p ≡ price_at row 3 → mag p < half → m ≡ maybe_price (word_at row 4) (word_at row 5) → q ≡ word_at row 6 →
+    pub as_stop_placed : (o : ℕ) (z : Side) (p : ℤ) (m : Option ℤ) (q : ℕ) → o ≡ word_at row 1 → z ≡ side (word_at row 2) → p ≡ price_at row 3 → mag p < half → m ≡ maybe_price (word_at row 4) (word_at row 5) → q ≡ word_at row 6 →
         Delivered (Ev.StopPlaced o z (to_z w64 (of_z w64 p)) m q) → Delivered (stop_placed row)
     as_stop_placed o z p m q e₁ e₂ e₃ l e₄ e₅ h = subst Delivered (λ i. Ev.StopPlaced (e₁ i) (e₂ i) ((read {x = p} l ∙ e₃) i) (e₄ i) (e₅ i)) h
 

@@ -1,20 +1,18 @@
 -- Events that name no order: the tests, a mass cancel, and the call. Assumes nothing.
-use mathlib.Core.Path.{◌≡◌, refl, sym, ap, ap₂, subst, ◌∙◌}
+use Rattle.std.specs.Prelude.{Option, None, Ok, Err}
+use mathlib.Core.Path.{◌≡◌, refl, sym, ap, subst, ◌∙◌}
 use mathlib.Core.Bool.{Bool, true}
-use mathlib.Core.Option.{none}
-use mathlib.Core.List.{List, [], ◌∷◌, ◌++◌, append-nil}
-use Prim.Native.Nat.{ℕ, ◌+◌, ◌≤◌, ◌<◌}
+use mathlib.Core.List.{List, [], ◌∷◌, append-nil}
+use Prim.Native.Nat.{ℕ, ◌+◌, ◌≤◌}
 use native.Mathlib.Omega.{arith}
-use borrow.Author.Tests.{leb-true}
 use lib.Dec.{ltb, leb}
 use lib.ListN.{length}
 use Rattle.orderbook.specs.declared.Phase.{Phase}
 use Rattle.orderbook.specs.declared.Event.{Event}
 use Rattle.orderbook.specs.declared.Event.TheVariants.{MassCancelled, PhaseChanged}
-use Rattle.protocol.specs.declared.ReportKind.{ReportKind}
 use Rattle.protocol.specs.declared.ReportKind.TheVariants as Kind
 use Rattle.protocol.specs.declared.Outbound.TheVariants as Out
-use Rattle.gateway.specs.Limits.{owner_slots, session_slots}
+use Rattle.gateway.specs.Limits.{owner_slots}
 use Rattle.gateway.specs.Ledger.{changes, step}
 use Rattle.gateway.specs.Core.{Core, owner_limit, names_below, numbers_agree, in_flight}
 use Rattle.gateway.specs.Depth.{Depth, apply, depth_agrees}
@@ -22,13 +20,15 @@ use Rattle.gateway.specs.Basics.{option}
 use Rattle.gateway.specs.Rest.{Rest, send, session_of, report_to}
 use Rattle.gateway.specs.Deliver.{about, reports, tick_of}
 use Rattle.gateway.specs.Fits.{EventFits}
-use Rattle.gateway.specs.Invariant.{Ok}
+use Rattle.gateway.specs.Invariant.{GatewayOk}
 use Rattle.gateway.specs.Calls.{Gateway, call, deliver_event}
 use Rattle.store.specs.Layout.{cell}
 use Rattle.store.specs.View.{gateway}
 use Rattle.clients.proofs.Links.{session_of_past}
 use Rattle.sound.specs.Sound.{State, Becomes}
 use Rattle.mailbox.specs.Mailbox.{places}
+use Rattle.outcome.specs.declared.Refusal.{Refusal}
+use Rattle.outcome.specs.Refusals.{refusal_code}
 use Rattle.outcome.specs.Between.{Between}
 use Rattle.outcome.specs.Answers.{verdict, Gives}
 use Rattle.outcome.specs.Parts.{rest_of, Sends}
@@ -62,7 +62,7 @@ phase_bare p =
     record { names = λ m. refl; numbers = λ n c. refl; agrees = λ d. refl; none_changes = λ n. refl; stays = λ d. refl; no_tick = λ n. refl; fits = tt }
 
 module _ {b : ℕ → Bool} {e : Event} (s : Bare b e) (n : ℕ) (g : Gateway) where
-  bare_judges : Ok g → (below : Bool) → below ≡ b (owner_limit g.core) → (k : ℕ) → k ≡ length (reports n e g.core g.rest) → (room : ℕ) → Judges n e room g (bare_tests n below k room g)
+  bare_judges : GatewayOk g → (below : Bool) → below ≡ b (owner_limit g.core) → (k : ℕ) → k ≡ length (reports n e g.core g.rest) → (room : ℕ) → Judges n e room g (bare_tests n below k room g)
   unfolding step
   bare_judges ok below below_is k k_is room =
       let f = ok.rest_is.feed in
@@ -90,60 +90,60 @@ pub bare_judged : (xs : List ℕ) (n : ℕ) (below : Bool) (rows room v : ℕ) (
     v ≡ verdict (tests (bare_tests n below rows room (gateway (cell xs))))
 bare_judged xs n below rows room v f f_is e = rw f_is at e
 
-module _ (xs out : List ℕ) (n : ℕ) (below : Bool) (k p v : ℕ) (room : p ≡ places (length out)) (v_is : v ≡ verdict (tests (bare_tests n below k p (gateway (cell xs))))) where
-  pub bare_flying : v ≡ 0 → in_flight n (gateway (cell xs)).core ≡ true
-  bare_flying z = (all_pass (bare_tests n below k p (gateway (cell xs))) v v_is z).0
+module _ (xs out : List ℕ) (n : ℕ) (below : Bool) (k p : ℕ) (room : p ≡ places (length out)) (z : 0 ≡ verdict (tests (bare_tests n below k p (gateway (cell xs))))) where
+  pub bare_flying : in_flight n (gateway (cell xs)).core ≡ true
+  bare_flying = (all_pass (bare_tests n below k p (gateway (cell xs))) z).0
 
-  pub bare_room : v ≡ 0 → 0 + k ≤ places (length out)
-  bare_room z = told_room (bare_tests n below k p (gateway (cell xs))) v k p (places (length out)) v_is z refl room
+  pub bare_room : 0 + k ≤ places (length out)
+  bare_room = told_room (bare_tests n below k p (gateway (cell xs))) k p (places (length out)) z refl room
 
 module _ {b : ℕ → Bool} {e : Event} (s : Bare b e) (xs out : List ℕ) (n : ℕ) (bt : Between xs) (below : Bool) (below_is : below ≡ b (owner_limit (gateway (cell xs)).core)) (k : ℕ)
-    (k_is : k ≡ length (reports n e (gateway (cell xs)).core (rest_of xs))) (p v : ℕ) (room : p ≡ places (length out)) (v_is : v ≡ verdict (tests (bare_tests n below k p (gateway (cell xs))))) where
-  whole : v ≡ verdict (call_tests n e (places (length out)) (gateway (cell xs)))
-  whole =
+    (k_is : k ≡ length (reports n e (gateway (cell xs)).core (rest_of xs))) (p : ℕ) (room : p ≡ places (length out)) where
+  whole : (v : ℕ) → v ≡ verdict (tests (bare_tests n below k p (gateway (cell xs)))) → v ≡ verdict (call_tests n e (places (length out)) (gateway (cell xs)))
+  whole v v_is =
       v_is ∙ ap (λ r. verdict (tests (bare_tests n below k r (gateway (cell xs))))) room
       ∙ judged_is n e (places (length out)) (gateway (cell xs)) (bare_tests n below k (places (length out)) (gateway (cell xs))) (bare_judges s n (gateway (cell xs)) bt.ok below below_is k k_is (places (length out)))
 
-  pub bare_refused : (v ≡ 0 → ⊥) → Gives (call (gateway (cell xs)) (deliver_event n e (places (length out)))) (record { code = v; count = 0 }) xs xs out out
-  bare_refused = deliver_refused xs out n e s.fits bt v whole
+  pub bare_refused : (x : Refusal) → refusal_code x ≡ verdict (tests (bare_tests n below k p (gateway (cell xs)))) → Gives (call (gateway (cell xs)) (deliver_event n e (places (length out)))) (Err x) xs xs out out
+  bare_refused x h = deliver_refused xs out n e s.fits bt x (whole (refusal_code x) h)
 
-  pub bare_done : {ys zs end : List ℕ} → v ≡ 0 → Becomes ys (landed n (gateway (cell xs))) → Sends 0 (reports n e (gateway (cell xs)).core (rest_of xs)) (λ x. x) ys zs out end →
-      Gives (call (gateway (cell xs)) (deliver_event n e (places (length out)))) (record { code = 0; count = k }) xs zs out end
+  pub bare_done : {ys zs end : List ℕ} → 0 ≡ verdict (tests (bare_tests n below k p (gateway (cell xs)))) → Becomes ys (landed n (gateway (cell xs))) → Sends 0 (reports n e (gateway (cell xs)).core (rest_of xs)) (λ x. x) ys zs out end →
+      Gives (call (gateway (cell xs)) (deliver_event n e (places (length out)))) (Ok k) xs zs out end
   bare_done {ys} z d h =
-      deliver_done xs out n e s.fits bt v whole z (reports n e (gateway (cell xs)).core (rest_of xs)) refl k k_is (subst (Becomes ys) (bare_after s n (gateway (cell xs))) d) h
+      deliver_done xs out n e s.fits bt (whole 0 z) (reports n e (gateway (cell xs)).core (rest_of xs)) refl k k_is (subst (Becomes ys) (bare_after s n (gateway (cell xs))) d) h
 
 -- ---- a mass cancel
 
-pub account_told : (xs : List ℕ) (o to : ℕ) → Hears o to (rest_of xs) → TellsAccount o (record { to = to; client_ref = 0 }) (gateway (cell xs))
+pub account_told : (xs : List ℕ) (o : ℕ) (to : Option ℕ) → Hears o to (rest_of xs) → TellsAccount o (record { to = to; client_ref = 0 }) (gateway (cell xs))
 account_told xs o to h =
     record {
       slot = h.slot;
       mail = λ n k. ap (option [] (λ (s : ℕ). send s (Out.Report (about n 0 0 k)) ∷ [])) h.is ∙ sym (to_open o (about n 0 0 k) (rest_of xs));
     }
 
-pub nobody_told : (xs : List ℕ) → State xs → (o : ℕ) → owner_slots ≤ o → TellsAccount o (record { to = 0; client_ref = 0 }) (gateway (cell xs))
+pub nobody_told : (xs : List ℕ) → State xs → (o : ℕ) → owner_slots ≤ o → TellsAccount o (record { to = None; client_ref = 0 }) (gateway (cell xs))
 nobody_told xs st o l =
-    record { slot = omega arith; mail = λ n k. sym (ap (λ s. report_to s (about n 0 0 k) (rest_of xs)) (session_of_past (cell xs) o st.sound.clients.linked l)) }
+    record { slot = tt; mail = λ n k. sym (ap (λ s. report_to s (about n 0 0 k) (rest_of xs)) (session_of_past (cell xs) o st.sound.clients.linked l)) }
 
 mass_reports : (n o k : ℕ) (c : Core) (r : Rest) → reports n (MassCancelled o k) c r ≡ report_to (session_of o r) (about n 0 0 (Kind.MassCancelled k)) r
 unfolding reports
 mass_reports n o k c r = refl
 
 module _ (xs out : List ℕ) (n o c : ℕ) (b : Between xs) (below : Bool) (below_is : below ≡ ltb o (owner_limit (gateway (cell xs)).core)) (t : Told) (tells : TellsAccount o t (gateway (cell xs))) (k : ℕ)
-    (k_is : k ≡ told_rows t) (p v : ℕ) (room : p ≡ places (length out)) (v_is : v ≡ verdict (tests (bare_tests n below k p (gateway (cell xs))))) where
+    (k_is : k ≡ told_rows t) (p : ℕ) (room : p ≡ places (length out)) where
   mail_is : told_mail n 0 (Kind.MassCancelled c) t ≡ reports n (MassCancelled o c) (gateway (cell xs)).core (rest_of xs)
   mail_is = tells.mail n (Kind.MassCancelled c) ∙ sym (mass_reports n o c (gateway (cell xs)).core (rest_of xs))
 
   rows_are : k ≡ length (reports n (MassCancelled o c) (gateway (cell xs)).core (rest_of xs))
   rows_are = k_is ∙ told_length n 0 (Kind.MassCancelled c) t ∙ ap length mail_is
 
-  pub mass_refused : (v ≡ 0 → ⊥) → Gives (call (gateway (cell xs)) (deliver_event n (MassCancelled o c) (places (length out)))) (record { code = v; count = 0 }) xs xs out out
-  mass_refused = bare_refused (mass_bare o c) xs out n b below below_is k rows_are p v room v_is
+  pub mass_refused : (x : Refusal) → refusal_code x ≡ verdict (tests (bare_tests n below k p (gateway (cell xs)))) → Gives (call (gateway (cell xs)) (deliver_event n (MassCancelled o c) (places (length out)))) (Err x) xs xs out out
+  mass_refused = bare_refused (mass_bare o c) xs out n b below below_is k rows_are p room
 
-  pub mass_done : {ys zs end : List ℕ} → v ≡ 0 → Becomes ys (landed n (gateway (cell xs))) → Sends 0 (told_mail n 0 (Kind.MassCancelled c) t) (λ x. x) ys zs out end →
-      Gives (call (gateway (cell xs)) (deliver_event n (MassCancelled o c) (places (length out)))) (record { code = 0; count = k }) xs zs out end
+  pub mass_done : {ys zs end : List ℕ} → 0 ≡ verdict (tests (bare_tests n below k p (gateway (cell xs)))) → Becomes ys (landed n (gateway (cell xs))) → Sends 0 (told_mail n 0 (Kind.MassCancelled c) t) (λ x. x) ys zs out end →
+      Gives (call (gateway (cell xs)) (deliver_event n (MassCancelled o c) (places (length out)))) (Ok k) xs zs out end
   mass_done {ys} {zs} {end} z d h =
-      bare_done (mass_bare o c) xs out n b below below_is k rows_are p v room v_is z d (subst (λ ms. Sends 0 ms (λ x. x) ys zs out end) mail_is h)
+      bare_done (mass_bare o c) xs out n b below below_is k rows_are p room z d (subst (λ ms. Sends 0 ms (λ x. x) ys zs out end) mail_is h)
 
 -- the rows of a report by their count
 pub told_fits : {k rows room : ℕ} → k ≡ rows → 0 + k ≤ room → 0 + rows ≤ room

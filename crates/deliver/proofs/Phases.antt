@@ -1,4 +1,5 @@
 -- A phase change, to each open session. Assumes nothing.
+use Rattle.std.specs.Prelude.{Ok, Err}
 use mathlib.Core.Path.{◌≡◌, refl, sym, ap, subst, ◌∙◌}
 use mathlib.Core.Bool.{Bool, true, false, cond}
 use mathlib.Core.List.{List, [], ◌∷◌}
@@ -10,19 +11,20 @@ use Rattle.orderbook.specs.declared.Event.TheVariants.{PhaseChanged}
 use Rattle.protocol.specs.declared.ReportKind.TheVariants as Kind
 use Rattle.protocol.specs.declared.Outbound.TheVariants as Out
 use Rattle.gateway.specs.Limits.{session_slots}
-use Rattle.gateway.specs.Core.{Core}
-use Rattle.gateway.specs.Rest.{Mail, Rest, send, session_at, is_open, report, stamped}
+use Rattle.gateway.specs.Rest.{Mail, send, session_at, is_open, report, stamped}
 use Rattle.gateway.specs.Deliver.{about, reports}
 use Rattle.gateway.specs.Calls.{Gateway, call, deliver_event}
 use Rattle.store.specs.Layout.{cell}
 use Rattle.store.specs.View.{gateway}
 use Rattle.sound.specs.Sound.{State, Becomes}
 use Rattle.mailbox.specs.Mailbox.{places}
+use Rattle.outcome.specs.declared.Refusal.{Refusal}
+use Rattle.outcome.specs.Refusals.{refusal_code}
 use Rattle.outcome.specs.Between.{Between}
 use Rattle.outcome.specs.Answers.{verdict, Gives}
 use Rattle.outcome.specs.Parts.{with_rest, rest_of, Sends, Stepped, steps}
 use Rattle.outcome.proofs.Changed.{sent_open}
-use Rattle.outcome.proofs.Walk.{slots, sends_none, stamped_rest, stamped_keeps}
+use Rattle.outcome.proofs.Walk.{slots, sends_none, stamped_keeps}
 use Rattle.outcome.proofs.Steps.{steps_sessions}
 use Rattle.delivery.specs.Delivery.{tests, landed}
 use Rattle.deliver.specs.Delivering.{phase_step, phase_mail, bare_tests}
@@ -67,16 +69,15 @@ phase_each n p xs m e =
 
 -- ---- the call
 
-module _ (xs out : List ℕ) (n : ℕ) (p : Phase) (b : Between xs) (k : ℕ) (k_is : k ≡ length (phase_mail n p (gateway (cell xs)))) (w v : ℕ) (room : w ≡ places (length out))
-    (v_is : v ≡ verdict (tests (bare_tests n true k w (gateway (cell xs))))) where
+module _ (xs out : List ℕ) (n : ℕ) (p : Phase) (b : Between xs) (k : ℕ) (k_is : k ≡ length (phase_mail n p (gateway (cell xs)))) (w : ℕ) (room : w ≡ places (length out)) where
   mail_is : phase_mail n p (gateway (cell xs)) ≡ reports n (PhaseChanged p) (gateway (cell xs)).core (rest_of xs)
   unfolding reports
   mail_is = refl
 
-  pub phase_refused : (v ≡ 0 → ⊥) → Gives (call (gateway (cell xs)) (deliver_event n (PhaseChanged p) (places (length out)))) (record { code = v; count = 0 }) xs xs out out
-  phase_refused = bare_refused (phase_bare p) xs out n b true refl k (k_is ∙ ap length mail_is) w v room v_is
+  pub phase_refused : (x : Refusal) → refusal_code x ≡ verdict (tests (bare_tests n true k w (gateway (cell xs)))) → Gives (call (gateway (cell xs)) (deliver_event n (PhaseChanged p) (places (length out)))) (Err x) xs xs out out
+  phase_refused = bare_refused (phase_bare p) xs out n b true refl k (k_is ∙ ap length mail_is) w room
 
-  module _ (z : v ≡ 0) {ys : List ℕ} (d : Becomes ys (landed n (gateway (cell xs)))) where
+  module _ (z : 0 ≡ verdict (tests (bare_tests n true k w (gateway (cell xs))))) {ys : List ℕ} (d : Becomes ys (landed n (gateway (cell xs)))) where
     -- the run is not looked at
     landed_mail : phase_mail n p (gateway (cell ys)) ≡ phase_mail n p (gateway (cell xs))
     landed_mail = ap (phase_mail n p) d.gateway_is
@@ -85,9 +86,9 @@ module _ (xs out : List ℕ) (n : ℕ) (p : Phase) (b : Between xs) (k : ℕ) (k
     phase_room l = omega (arith, l, k_is, ap length landed_mail)
 
     pub phase_done : {zs end : List ℕ} (i : ℕ) → Stepped (λ g j. phase_mail n p g) 0 0 i ys zs out end →
-        Gives (call (gateway (cell xs)) (deliver_event n (PhaseChanged p) (places (length out)))) (record { code = 0; count = k }) xs zs out end
+        Gives (call (gateway (cell xs)) (deliver_event n (PhaseChanged p) (places (length out)))) (Ok k) xs zs out end
     phase_done {zs} {end} i h =
-        bare_done (phase_bare p) xs out n b true refl k (k_is ∙ ap length mail_is) w v room v_is z d
+        bare_done (phase_bare p) xs out n b true refl k (k_is ∙ ap length mail_is) w room z d
         (subst (λ ms. Sends 0 ms (λ x. x) ys zs out end) (landed_mail ∙ mail_is) h.sends)
 
 pub ruleset phases = (row_one, row_none, visit_room, visit_told, visit_quiet, phase_refused, arith)

@@ -1,21 +1,20 @@
 -- Events that name no order: whom they are reported to, and their tests in the code's words.
-use Rattle.std.specs.Prelude.{ℕ, ◌≤◌, ◌≡◌, Bool, true, List, ltb, leb}
+use Rattle.std.specs.Prelude.{ℕ, ◌≡◌, Bool, true, List, leb}
 use Rattle.orderbook.specs.declared.Phase.{Phase}
 use Rattle.protocol.specs.declared.ReportKind.{ReportKind}
 use Rattle.protocol.specs.declared.ReportKind.TheVariants as Kind
-use Rattle.gateway.specs.Limits.{session_slots}
-use Rattle.gateway.specs.Core.{owner_limit, in_flight}
+use Rattle.gateway.specs.Core.{in_flight}
 use Rattle.gateway.specs.Rest.{Mail, session_of, report, report_to, each_session}
 use Rattle.gateway.specs.Deliver.{about}
 use Rattle.gateway.specs.Calls.{Gateway}
 use Rattle.outcome.specs.Parts.{Steps}
 use Rattle.reporting.specs.declared.Told.{Told}
-use Rattle.reporting.specs.Reporting.{told_mail}
+use Rattle.reporting.specs.Reporting.{InSlots, told_mail}
 use Rattle.delivery.specs.declared.Tests as T
 
 -- to the session of account a
 pub record TellsAccount (a : ℕ) (t : Told) (g : Gateway) : Type 0 where
-  pub slot : t.to ≤ session_slots
+  pub slot : InSlots t.to
   pub mail : (n : ℕ) (k : ReportKind) → told_mail n 0 k t ≡ report_to (session_of a g.rest) (about n 0 0 k) g.rest
 
 -- to each open session

@@ -10,6 +10,7 @@ ghost use Rattle.store.specs.View.{gateway};
 ghost use Rattle.sound.specs.Sound.{State};
 ghost use Rattle.mailbox.specs.Mailbox.{places};
 ghost use Rattle.outcome.specs.Between.{Between};
+ghost use Rattle.outcome.specs.Refusals.{code_of};
 ghost use Rattle.outcome.specs.Answers.{verdict, Gives};
 ghost use Rattle.outcome.specs.Parts.{Sends, Stepped};
 ghost use Rattle.delivery.specs.Delivery as Delivery;
@@ -19,17 +20,17 @@ ghost use Rattle.deliver.specs.Delivering as P;
 
 use delivery::Tests;
 use orderbook::Phase;
-use outcome::Reply;
+use outcome::Refusal;
 use protocol::{Outbound, Report, ReportKind};
 use reporting::Told;
 use store::limits;
 
-fn judge(m: &[u8], n: u64, below: bool, rows: usize, room: usize) -> u64
+fn judge(m: &[u8], n: u64, below: bool, rows: usize, room: usize) -> Result<(), Refusal>
     requires { State m.now }
-    ensures { result ≡ verdict (Delivery.tests (P.bare_tests n below rows room (gateway (cell m.now)))) }
+    ensures { code_of result ≡ verdict (Delivery.tests (P.bare_tests n below rows room (gateway (cell m.now)))) }
 {
     let flying = delivery::is_flying(m, n);
-    delivery::code_of(Tests {
+    delivery::judge(Tests {
         flying,
         below,
         numbers: true,
@@ -55,25 +56,28 @@ fn listener(m: &[u8], owner: usize) -> Told
         return Told { to, client_ref: 0 };
     }
     Told {
-        to: 0,
+        to: None,
         client_ref: 0,
     }
 }
 
-fn mass_cancelled(m: &mut [u8], n: u64, owner: u32, count: u32, out: &mut [u8]) -> Reply
+fn mass_cancelled(
+    m: &mut [u8],
+    n: u64,
+    owner: u32,
+    count: u32,
+    out: &mut [u8],
+) -> Result<usize, Refusal>
     requires { Between m.old }
     ensures { Gives (call (gateway (cell m.old)) (deliver_event n (MassCancelled owner count) (places (length out.old)))) result m.old m.new out.old out.new }
 {
     let below = delivery::is_owner(m, owner as u64);
     let t = listener(m, owner as usize);
     let k = reporting::rows(t);
-    let code = judge(m, n, below, k, mailbox::room(out));
-    if code != 0 {
-        return Reply { code, count: 0 };
-    }
+    judge(m, n, below, k, mailbox::room(out))?;
     delivery::land(m, n);
     reporting::report(m, out, 0, n, 0, t, ReportKind::MassCancelled { count });
-    Reply { code: 0, count: k }
+    Ok(k)
 }
 
 // ---- a phase change, to each open session
@@ -93,10 +97,8 @@ fn count(m: &[u8], n: u64, phase: Phase) -> usize
     ensures { result ≡ length (P.phase_mail n phase (gateway (cell m.now))) }
 {
     let mut k: usize = 0;
-    let mut s: usize = 0;
-    while s < limits::SESSION_SLOTS {
+    for s in 0..limits::SESSION_SLOTS {
         k += rows(m, s, n, phase);
-        s += 1;
     }
     k
 }
@@ -124,31 +126,26 @@ fn tell_all(m: &mut [u8], out: &mut [u8], n: u64, phase: Phase) -> usize
     ensures { Stepped (λ g j. P.phase_mail n phase g) 0 0 result m.old m.new out.old out.new }
 {
     let mut i: usize = 0;
-    let mut s: usize = 0;
-    while s < limits::SESSION_SLOTS {
+    for s in 0..limits::SESSION_SLOTS {
         i = visit(m, out, i, s, n, phase);
-        s += 1;
     }
     i
 }
 
-fn phase_changed(m: &mut [u8], n: u64, phase: Phase, out: &mut [u8]) -> Reply
+fn phase_changed(m: &mut [u8], n: u64, phase: Phase, out: &mut [u8]) -> Result<usize, Refusal>
     requires { Between m.old }
     ensures { Gives (call (gateway (cell m.old)) (deliver_event n (PhaseChanged phase) (places (length out.old)))) result m.old m.new out.old out.new }
 {
     let k = count(m, n, phase);
-    let code = judge(m, n, true, k, mailbox::room(out));
-    if code != 0 {
-        return Reply { code, count: 0 };
-    }
+    judge(m, n, true, k, mailbox::room(out))?;
     delivery::land(m, n);
     tell_all(m, out, n, phase);
-    Reply { code: 0, count: k }
+    Ok(k)
 }
 
 // ---- the call: an event's row is read by its kind, and no `Event` is made of it
 
-fn trade(m: &mut [u8], n: u64, row: &[u8], out: &mut [u8]) -> Reply
+fn trade(m: &mut [u8], n: u64, row: &[u8], out: &mut [u8]) -> Result<usize, Refusal>
     requires { Between m.old × (length row.now ≡ 128) }
     ensures { Gives (call (gateway (cell m.old)) (deliver_event n (Script.traded row.now) (places (length out.old)))) result m.old m.new out.old out.new }
 {
@@ -169,7 +166,7 @@ fn trade(m: &mut [u8], n: u64, row: &[u8], out: &mut [u8]) -> Reply
     )
 }
 
-fn rested(m: &mut [u8], n: u64, row: &[u8], out: &mut [u8]) -> Reply
+fn rested(m: &mut [u8], n: u64, row: &[u8], out: &mut [u8]) -> Result<usize, Refusal>
     requires { Between m.old × (length row.now ≡ 128) }
     ensures { Gives (call (gateway (cell m.old)) (deliver_event n (Script.rested row.now) (places (length out.old)))) result m.old m.new out.old out.new }
 {
@@ -188,7 +185,7 @@ fn rested(m: &mut [u8], n: u64, row: &[u8], out: &mut [u8]) -> Reply
     )
 }
 
-fn replenished(m: &mut [u8], n: u64, row: &[u8], out: &mut [u8]) -> Reply
+fn replenished(m: &mut [u8], n: u64, row: &[u8], out: &mut [u8]) -> Result<usize, Refusal>
     requires { Between m.old × (length row.now ≡ 128) }
     ensures { Gives (call (gateway (cell m.old)) (deliver_event n (Script.replenished row.now) (places (length out.old)))) result m.old m.new out.old out.new }
 {
@@ -198,7 +195,7 @@ fn replenished(m: &mut [u8], n: u64, row: &[u8], out: &mut [u8]) -> Reply
     bookevents::replenished(m, n, id, side, price, script::word(row, 4), out)
 }
 
-fn cancelled(m: &mut [u8], n: u64, row: &[u8], out: &mut [u8]) -> Reply
+fn cancelled(m: &mut [u8], n: u64, row: &[u8], out: &mut [u8]) -> Result<usize, Refusal>
     requires { Between m.old × (length row.now ≡ 128) }
     ensures { Gives (call (gateway (cell m.old)) (deliver_event n (Script.cancelled row.now) (places (length out.old)))) result m.old m.new out.old out.new }
 {
@@ -208,7 +205,7 @@ fn cancelled(m: &mut [u8], n: u64, row: &[u8], out: &mut [u8]) -> Reply
     bookevents::cancelled(m, n, id, qty, reason, out)
 }
 
-fn modified(m: &mut [u8], n: u64, row: &[u8], out: &mut [u8]) -> Reply
+fn modified(m: &mut [u8], n: u64, row: &[u8], out: &mut [u8]) -> Result<usize, Refusal>
     requires { Between m.old × (length row.now ≡ 128) }
     ensures { Gives (call (gateway (cell m.old)) (deliver_event n (Script.modified row.now) (places (length out.old)))) result m.old m.new out.old out.new }
 {
@@ -218,7 +215,7 @@ fn modified(m: &mut [u8], n: u64, row: &[u8], out: &mut [u8]) -> Reply
     bookevents::modified(m, n, id, price, qty, script::word(row, 4), out)
 }
 
-fn stop_placed(m: &mut [u8], n: u64, row: &[u8], out: &mut [u8]) -> Reply
+fn stop_placed(m: &mut [u8], n: u64, row: &[u8], out: &mut [u8]) -> Result<usize, Refusal>
     requires { Between m.old × (length row.now ≡ 128) }
     ensures { Gives (call (gateway (cell m.old)) (deliver_event n (Script.stop_placed row.now) (places (length out.old)))) result m.old m.new out.old out.new }
 {
@@ -229,7 +226,7 @@ fn stop_placed(m: &mut [u8], n: u64, row: &[u8], out: &mut [u8]) -> Reply
     acknowledgements::stop_placed(m, n, id, side, trigger, limit, script::word(row, 6), out)
 }
 
-pub fn deliver(m: &mut [u8], n: u64, row: &[u8], out: &mut [u8]) -> Reply
+pub fn deliver(m: &mut [u8], n: u64, row: &[u8], out: &mut [u8]) -> Result<usize, Refusal>
     requires { Between m.old × (length row.now ≡ 128) }
     ensures { Gives (call (gateway (cell m.old)) (deliver_event n (event_of row.now) (places (length out.old)))) result m.old m.new out.old out.new }
 {

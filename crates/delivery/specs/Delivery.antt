@@ -1,5 +1,5 @@
 -- Delivering an event: its tests as the code makes them, and the gateway after it.
-use Rattle.std.specs.Prelude.{ℕ, ◌≡◌, Bool, true, cond, [], ◌∷◌, ◌++◌, leb, length}
+use Rattle.std.specs.Prelude.{ℕ, ◌≡◌, Bool, true, cond, [], ◌∷◌, ◌++◌, leb, length, Result, Ok, Err}
 use Rattle.orderbook.specs.declared.Event.{Event}
 use Rattle.gateway.specs.Limits.{most_trades, most_notices, out_of_range, sequence, full, too_short, outside, inconsistent}
 use Rattle.gateway.specs.Ledger.{event}
@@ -8,11 +8,12 @@ use Rattle.gateway.specs.Depth.{apply, depth_agrees, levels_fit, depth_few}
 use Rattle.gateway.specs.Rest.{with_delivered}
 use Rattle.gateway.specs.Deliver.{reports, rest_after, deliver_tests}
 use Rattle.gateway.specs.Calls.{Gateway}
+use Rattle.outcome.specs.declared.Refusal.{Refusal}
 use Rattle.delivery.specs.declared.Tests as T
 
--- one test before others
-abbrev pub check : Bool → ℕ → ℕ → ℕ
-check ok k rest = cond ok rest k
+-- one test: the refusal where it fails
+abbrev pub check : Bool → Refusal → Result (Unit {0}) Refusal
+check ok why = cond ok (Ok tt) (Err why)
 
 -- the tests by their answers, in 01's order
 abbrev pub tests : T.Tests → Tests ℕ

@@ -6,9 +6,11 @@ ghost use Rattle.gateway.specs.Core.{owner_limit, in_flight};
 ghost use Rattle.store.specs.Layout.{cell};
 ghost use Rattle.store.specs.View.{gateway};
 ghost use Rattle.sound.specs.Sound.{State, Becomes};
+ghost use Rattle.outcome.specs.Refusals.{code_of};
 ghost use Rattle.outcome.specs.Answers.{verdict};
 ghost use Rattle.delivery.specs.Delivery as P;
 
+use outcome::Refusal;
 use store::cells;
 
 // Whether each test passes, in the order of the definitions: a test that an event does not have is true.
@@ -26,27 +28,27 @@ pub struct Tests {
     pub room: bool,
 }
 
-// One test before others: its code where it fails, else theirs.
-pub fn check(ok: bool, code: u64, rest: u64) -> u64
-    ensures { result ≡ P.check ok code rest }
+// One test: the refusal where it fails.
+pub fn check(ok: bool, why: Refusal) -> Result<(), Refusal>
+    ensures { result ≡ P.check ok why }
 {
-    if ok { rest } else { code }
+    if ok { Ok(()) } else { Err(why) }
 }
 
-// The code of the first test that fails, or 0.
-pub fn code_of(t: Tests) -> u64
-    ensures { result ≡ verdict (P.tests t) }
+// The refusal of the first test that fails.
+pub fn judge(t: Tests) -> Result<(), Refusal>
+    ensures { code_of result ≡ verdict (P.tests t) }
 {
-    let room = check(t.room, outcome::TOO_SHORT, 0);
-    let notices = check(t.notices, outcome::FULL, room);
-    let trades = check(t.trades, outcome::FULL, notices);
-    let depth = check(t.depth, outcome::FULL, trades);
-    let levels = check(t.levels, outcome::OUTSIDE, depth);
-    let holds = check(t.holds, outcome::OUTSIDE, levels);
-    let agrees = check(t.agrees, outcome::INCONSISTENT, holds);
-    let numbers = check(t.numbers, outcome::INCONSISTENT, agrees);
-    let below = check(t.below, outcome::OUT_OF_RANGE, numbers);
-    check(t.flying, outcome::SEQUENCE, below)
+    check(t.flying, Refusal::Sequence)?;
+    check(t.below, Refusal::OutOfRange)?;
+    check(t.numbers, Refusal::Inconsistent)?;
+    check(t.agrees, Refusal::Inconsistent)?;
+    check(t.holds, Refusal::Outside)?;
+    check(t.levels, Refusal::Outside)?;
+    check(t.depth, Refusal::Full)?;
+    check(t.trades, Refusal::Full)?;
+    check(t.notices, Refusal::Full)?;
+    check(t.room, Refusal::TooShort)
 }
 
 // A number below the owner limit.

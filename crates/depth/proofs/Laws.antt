@@ -1,4 +1,6 @@
 -- The levels by value in a lent list; and the call. Assumes nothing.
+use Rattle.outcome.specs.declared.Refusal.TheVariants.{TooShort}
+use Rattle.std.specs.Prelude.{Ok, Err}
 use mathlib.Core.Path.{◌≡◌, refl, sym, ap, ◌∙◌}
 use mathlib.Core.List.{List, [], ◌∷◌, ◌++◌, map, map-append}
 use Prim.Native.Nat.{ℕ, ◌+◌, ◌*◌, ◌/◌, ◌≤◌, ◌<◌}
@@ -78,13 +80,13 @@ module _ (xs out : List ℕ) (z : Side) (n : ℕ) (b : Between xs) (n_is : n ≡
   count : n ≡ length ls
   count = n_is ∙ size_levels b.state.sound z
 
-  pub levels_short : length out / 24 < n → Lists 24 (call (gateway (cell xs)) (depth_levels z (length out / 24))) (record { code = 6; count = 0 }) xs xs out out
+  pub levels_short : length out / 24 < n → Lists 24 (call (gateway (cell xs)) (depth_levels z (length out / 24))) (Err TooShort) xs xs out out
   unfolding plan unless
   levels_short l = lists_short xs out (depth_levels z (length out / 24)) tt b 24 (rw (lt-leb (length ls) (length out / 24) (omega (arith, count))) refl)
 
   pub levels_done : (end : List ℕ) (rows : List (List Level)) (row : List Level) → n ≤ length out / 24 → ((y : Side) → B.Lists y (cell xs) (side_of rows y)) → row ≡ side_of rows z →
       end ≡ put_rows 24 0 (map level_row (map seen (take n row))) out →
-      Lists 24 (call (gateway (cell xs)) (depth_levels z (length out / 24))) (record { code = 0; count = n }) xs xs out end
+      Lists 24 (call (gateway (cell xs)) (depth_levels z (length out / 24))) (Ok n) xs xs out end
   unfolding plan unless
   levels_done end rows row l all r_is h =
       let e : map seen (take n row) ≡ ls = ap (λ y. map seen (take y row)) n_is ∙ ap (λ t. map seen (take (L.size z (cell xs)) t)) r_is ∙ lists_levels b.state.sound z (side_of rows z) (all z) in

@@ -14,7 +14,7 @@ ghost use Rattle.outcome.specs.Answers.{Lists, level_row};
 use levels::listed;
 use levels::listed::Level;
 use orderbook::Side;
-use outcome::Reply;
+use outcome::Refusal;
 
 // The bytes of a level's row: price, quantity, number of orders.
 pub const ROW: usize = 24;
@@ -33,26 +33,21 @@ fn put_levels(row: [Level; 512], n: usize, out: &mut [u8])
     requires { (n ≤ most_levels) × (n ≤ length out.old / 24) }
     ensures { out.new ≡ put_rows 24 0 (map level_row (map seen (take n row))) out.old }
 {
-    let mut i: usize = 0;
-    while i < n {
+    for i in 0..n {
         put_level(row[i], i, out);
-        i += 1;
     }
 }
 
 // The levels of a side, best price first.
-pub fn levels(m: &[u8], side: Side, out: &mut [u8]) -> Reply
+pub fn levels(m: &[u8], side: Side, out: &mut [u8]) -> Result<usize, Refusal>
     requires { Between m.now }
     ensures { Lists 24 (call (gateway (cell m.now)) (depth_levels side (length out.old / 24))) result m.now m.now out.old out.new }
 {
     let n = levels::size(m, side);
     if out.len() / ROW < n {
-        return Reply {
-            code: outcome::TOO_SHORT,
-            count: 0,
-        };
+        return Err(Refusal::TooShort);
     }
     let rows = listed::listed(m);
     put_levels(listed::side_of(rows, side), n, out);
-    Reply { code: 0, count: n }
+    Ok(n)
 }

@@ -1,8 +1,8 @@
 -- An entry point answers as its call does, or 11 and nothing changed. Assumes nothing.
+use Rattle.std.specs.Prelude.{Option, Some, None}
 use Prim.Native.Nat.{ℕ, ◌*◌}
 use mathlib.Core.Path.{◌≡◌, refl, sym, ap, subst, ◌∙◌}
 use mathlib.Core.Bool.{Bool, true, false, cond, ◌&&◌, and-true, and-false, and-eq-true_iff}
-use mathlib.Core.Option.{Option, none, some}
 use mathlib.Core.List.{List, []}
 use borrow.Author.Rules.{rules}
 use borrow.Author.Tests.{eq-eqb, ne_eqb, eqb-true}
@@ -16,8 +16,6 @@ use Rattle.protocol.specs.declared.Inbound.{Inbound}
 use Rattle.protocol.specs.declared.LogoutReason.{LogoutReason}
 use Rattle.protocol.specs.Codes.{logout_of}
 use Rattle.accounts.specs.declared.Account.{Account}
-use Rattle.risk.specs.declared.MaybePercent as Percent
-use Rattle.risk.specs.Collar.{percent_of}
 use Rattle.gateway.specs.Limits.{malformed}
 use Rattle.gateway.specs.Rest.{Mail}
 use Rattle.gateway.specs.Entry.{Answer, account_was, wallet_is, number_is}
@@ -29,10 +27,6 @@ use Rattle.store.specs.View.{gateway, maybe}
 use Rattle.outcome.specs.Between.{Between}
 use Rattle.outcome.specs.Answers.{Ends, Answers, Said}
 use Rattle.outcome.proofs.Calls.{ends_as}
-use Rattle.balances.specs.declared.MaybeBalance as Ba
-use Rattle.balances.specs.Balances.{maybe_balance}
-use Rattle.commands.specs.declared.MaybeId as Id
-use Rattle.commands.specs.Commands.{maybe_id}
 use Rattle.script.specs.Script.{word_at, message_of, event_of}
 use Rattle.script.specs.Strict.{is_message, is_event, is_command, is_account, message_fits, event_fits, owned_fits, account_fits}
 use Rattle.script.specs.Records.{command_of}
@@ -150,7 +144,7 @@ module _ (xs ys : List ℕ) (b d ok : Bool) (kept : Type 0) (tells : Answer → 
   pub levelled : (n room : ℕ) (v : Side) → v ≡ View.side n → Answers (call (gateway (cell xs)) (C.depth_levels v room)) kept tells code xs ys → Enters (asked ok xs (C.depth_levels (View.side n) room)) kept tells code xs ys
   levelled n room v q h = entered_as _ _ (ap (λ (z : Side). C.depth_levels z room) q) h
 
-  pub collared : (n p : ℕ) (v : Percent.MaybePercent) → percent_of v ≡ maybe n p → Answers (call (gateway (cell xs)) (C.set_paper_collar (percent_of v))) kept tells code xs ys → Enters (asked ok xs (C.set_paper_collar (maybe n p))) kept tells code xs ys
+  pub collared : (n p : ℕ) (v : Option ℕ) → v ≡ maybe n p → Answers (call (gateway (cell xs)) (C.set_paper_collar v)) kept tells code xs ys → Enters (asked ok xs (C.set_paper_collar (maybe n p))) kept tells code xs ys
   collared n p v q h = entered_as _ _ (ap C.set_paper_collar q) h
 
 -- ---- an answer in numbers
@@ -181,28 +175,28 @@ module _ (xs ys : List ℕ) (h : length xs ≡ 467592) where
   number_told n r =
       (lands xs C.last_seq ys (number_is n) 0 h r, ap (λ a. record { code = 0; number = number_in a }) (sym r.ends.tells.answer_is) ∙ ap number_of (sym (asked_yes xs C.last_seq h)))
 
-  pub wallet_told : (a : ℕ) (v : Ba.MaybeBalance) (w : Wallet) → w ≡ wallet_row (maybe_balance v) → Answers (call (gateway (cell xs)) (C.wallet a)) (Unit {0}) (Said (wallet_is (maybe_balance v))) 0 xs ys →
+  pub wallet_told : (a : ℕ) (v : Option Balance) (w : Wallet) → w ≡ wallet_row v → Answers (call (gateway (cell xs)) (C.wallet a)) (Unit {0}) (Said (wallet_is v)) 0 xs ys →
       Tells wallet_of w (asked true xs (C.wallet a)) w.code xs ys
   unfolding Ends C.plan
   wallet_told a v w e r = (
-    subst (λ k. Lands (asked true xs (C.wallet a)) k xs ys) (sym (ap (λ (z : Wallet). z.code) e ∙ coded (maybe_balance v))) (lands xs (C.wallet a) ys (wallet_is (maybe_balance v)) 0 h r),
+    subst (λ k. Lands (asked true xs (C.wallet a)) k xs ys) (sym (ap (λ (z : Wallet). z.code) e ∙ coded v)) (lands xs (C.wallet a) ys (wallet_is v) 0 h r),
     e ∙ ap (λ b. wallet_row (wallet_in b)) (sym r.ends.tells.answer_is) ∙ ap wallet_of (sym (asked_yes xs (C.wallet a) h)),
   )
     where
       coded : (o : Option Balance) → (wallet_row o).code ≡ 0
-      coded none = refl
-      coded (some b) = refl
+      coded None = refl
+      coded (Some b) = refl
 
-  pub account_told : (s : ℕ) (v : Id.MaybeId) (w : A.Account) → w ≡ account_row (maybe_id v) → Answers (call (gateway (cell xs)) (C.detach s)) (Unit {0}) (Said (account_was (maybe_id v))) 0 xs ys →
+  pub account_told : (s : ℕ) (v : Option ℕ) (w : A.Account) → w ≡ account_row v → Answers (call (gateway (cell xs)) (C.detach s)) (Unit {0}) (Said (account_was v)) 0 xs ys →
       Tells account_of w (asked true xs (C.detach s)) w.code xs ys
   unfolding Ends C.plan
   account_told s v w e r = (
-    subst (λ k. Lands (asked true xs (C.detach s)) k xs ys) (sym (ap (λ (z : A.Account). z.code) e ∙ coded (maybe_id v))) (lands xs (C.detach s) ys (account_was (maybe_id v)) 0 h r),
+    subst (λ k. Lands (asked true xs (C.detach s)) k xs ys) (sym (ap (λ (z : A.Account). z.code) e ∙ coded v)) (lands xs (C.detach s) ys (account_was v) 0 h r),
     e ∙ ap (λ b. account_row (account_in b)) (sym r.ends.tells.answer_is) ∙ ap account_of (sym (asked_yes xs (C.detach s) h)),
   )
     where
       coded : (o : Option ℕ) → (account_row o).code ≡ 0
-      coded none = refl
-      coded (some b) = refl
+      coded None = refl
+      coded (Some b) = refl
 
 pub ruleset laws = (rules, is_whole_yes, is_whole_no, lent_between, between, held, held_no, message_sized, event_sized, command_sized, account_sized, entered, malformed_no, received, redelivered, replayed, joined, ended, levelled, collared, not_told, no_wallet_told, number_told, wallet_told, account_told)

@@ -1,4 +1,5 @@
 -- The order section goes to the end of a checkpoint's bytes. Assumes nothing.
+use Rattle.std.specs.Prelude.{is_some}
 use Prim.Native.Nat.{ℕ, ◌+◌, ◌-◌, ◌*◌, ◌≤◌, ◌<◌}
 use mathlib.Core.Path.{◌≡◌, refl, sym, ap, ◌∙◌}
 use mathlib.Core.Bool.{Bool, true, false}
@@ -6,7 +7,6 @@ use mathlib.Core.List.{List}
 use native.Mathlib.Omega.{arith}
 use lib.ListN.{length, drop, get_or, length-drop}
 use lib.Seq.{drop-length}
-use Rattle.gateway.specs.Basics.{is_some}
 use Rattle.gateway.specs.Bytes.{decode}
 use Rattle.saved.specs.Parts.{orders_start}
 use Rattle.saved.specs.Contents.{order_section, Start}

@@ -3,7 +3,7 @@
 // its enum or its integer type get 11 and change nothing. What the caller has to see to is document 01's premise alone (`Lent`).
 #![tactic(auto)]
 
-ghost use Rattle.std.specs.Prelude.{◌≡◌, true, ◌/◌, ◌-◌, leb, length, drop};
+ghost use Rattle.std.specs.Prelude.{◌≡◌, true, ◌/◌, ◌-◌, leb, length, drop, is_some};
 ghost use Rattle.words.specs.Words.{int};
 ghost use Rattle.protocol.specs.Codes.{logout_of};
 ghost use Rattle.gateway.specs.Entry.{nothing};
@@ -23,6 +23,7 @@ ghost use Rattle.edge.specs.Entering.{Lent, whole, begins, asked, Gives, Lists, 
 
 use accounts::Timing;
 use numbers::{Account, Number, Reply, Wallet};
+use outcome::Refusal;
 use script::{records, strict};
 
 // Whether the bytes have a state's length, and what is lent beside them is well formed.
@@ -56,9 +57,9 @@ pub fn rowanchess_set_up(
             idle_timeout,
         };
         let r = lists::gather(limit, accounts);
-        return setup::set_up(m, fee, limit, last, timing, r, list);
+        return numbers::code_of(setup::set_up(m, fee, limit, last, timing, r, list));
     }
-    outcome::MALFORMED
+    Refusal::Malformed as u64
 }
 
 // `accounts` has rows of 7 words, and `bytes` is a checkpoint.
@@ -79,9 +80,9 @@ pub fn rowanchess_restore(
             idle_timeout,
         };
         let r = lists::gather(limit, accounts);
-        return restore::restore(m, fee, limit, timing, r, bytes);
+        return numbers::code_of(restore::restore(m, fee, limit, timing, r, bytes));
     }
-    outcome::MALFORMED
+    Refusal::Malformed as u64
 }
 
 // ---- the state, read and set
@@ -97,7 +98,7 @@ pub fn rowanchess_last_seq(m: &[u8]) -> Number
         };
     }
     Number {
-        code: outcome::MALFORMED,
+        code: Refusal::Malformed as u64,
         number: 0,
     }
 }
@@ -110,7 +111,7 @@ pub fn rowanchess_wallet(m: &[u8], account: u32) -> Wallet
         let b = balances::wallet(m, account);
         return numbers::wallet_of(b);
     }
-    numbers::no_wallet(outcome::MALFORMED)
+    numbers::no_wallet(Refusal::Malformed as u64)
 }
 
 // The levels of a side, best price first: rows of 3 words. A side is 0 for buy, 1 for sell.
@@ -120,16 +121,9 @@ pub fn rowanchess_levels(m: &[u8], side: u64, out: &mut [u8]) -> Reply
 {
     if is_whole(m, side <= 1) {
         let s = store::side_of(side);
-        let r = depth::levels(m, s, out);
-        return Reply {
-            code: r.code,
-            count: r.count,
-        };
+        return Reply::from(depth::levels(m, s, out));
     }
-    Reply {
-        code: outcome::MALFORMED,
-        count: 0,
-    }
+    Reply::from(Err(Refusal::Malformed))
 }
 
 // `there` is 0 for no collar, else 1.
@@ -142,7 +136,7 @@ pub fn rowanchess_set_paper_collar(m: &mut [u8], there: u64, percent: u32) -> u6
         pretrade::collar::set_paper_collar(m, p);
         return 0;
     }
-    outcome::MALFORMED
+    Refusal::Malformed as u64
 }
 
 // ---- sessions
@@ -152,9 +146,9 @@ pub fn rowanchess_connect(m: &mut [u8], session: usize, time: u64) -> u64
     ensures { Says nothing (asked true m.old (C.connect session time)) result m.old m.new }
 {
     if m.len() == store::SIZE {
-        return sessions::connect(m, session, time);
+        return numbers::code_of(sessions::connect(m, session, time));
     }
-    outcome::MALFORMED
+    Refusal::Malformed as u64
 }
 
 // `row` is a message.
@@ -170,16 +164,9 @@ pub fn rowanchess_receive(
 {
     if is_whole(m, strict::is_message(row)) {
         let message = script::message(row);
-        let r = exchange::receive(m, session, message, time, out);
-        return Reply {
-            code: r.code,
-            count: r.count,
-        };
+        return Reply::from(exchange::receive(m, session, message, time, out));
     }
-    Reply {
-        code: outcome::MALFORMED,
-        count: 0,
-    }
+    Reply::from(Err(Refusal::Malformed))
 }
 
 pub fn rowanchess_tick(m: &mut [u8], time: u64, out: &mut [u8]) -> Reply
@@ -187,16 +174,9 @@ pub fn rowanchess_tick(m: &mut [u8], time: u64, out: &mut [u8]) -> Reply
     ensures { Gives (asked true m.old (C.tick time (places (length out.old)))) result m.old m.new out.old out.new }
 {
     if m.len() == store::SIZE {
-        let r = ticks::tick(m, time, out);
-        return Reply {
-            code: r.code,
-            count: r.count,
-        };
+        return Reply::from(ticks::tick(m, time, out));
     }
-    Reply {
-        code: outcome::MALFORMED,
-        count: 0,
-    }
+    Reply::from(Err(Refusal::Malformed))
 }
 
 pub fn rowanchess_publish(m: &mut [u8], out: &mut [u8]) -> Reply
@@ -204,35 +184,21 @@ pub fn rowanchess_publish(m: &mut [u8], out: &mut [u8]) -> Reply
     ensures { Gives (asked true m.old (C.publish (places (length out.old)))) result m.old m.new out.old out.new }
 {
     if m.len() == store::SIZE {
-        let r = feed::publish(m, out);
-        return Reply {
-            code: r.code,
-            count: r.count,
-        };
+        return Reply::from(feed::publish(m, out));
     }
-    Reply {
-        code: outcome::MALFORMED,
-        count: 0,
-    }
+    Reply::from(Err(Refusal::Malformed))
 }
 
 // `why` is the code of a reason to log out.
 pub fn rowanchess_end(m: &mut [u8], session: usize, why: u8, out: &mut [u8]) -> Reply
     requires { Lent m.old }
-    ensures { Gives (asked (P.is_reason (logout_of why)) m.old (C.end_session session (P.reason_or (logout_of why)) (places (length out.old)))) result m.old m.new out.old out.new }
+    ensures { Gives (asked (is_some (logout_of why)) m.old (C.end_session session (P.reason_or (logout_of why)) (places (length out.old)))) result m.old m.new out.old out.new }
 {
     if is_whole(m, numbers::is_reason(why)) {
         let x = numbers::reason(why);
-        let r = sessions::end(m, session, x, out);
-        return Reply {
-            code: r.code,
-            count: r.count,
-        };
+        return Reply::from(sessions::end(m, session, x, out));
     }
-    Reply {
-        code: outcome::MALFORMED,
-        count: 0,
-    }
+    Reply::from(Err(Refusal::Malformed))
 }
 
 pub fn rowanchess_shut_down(m: &mut [u8], out: &mut [u8]) -> Reply
@@ -240,16 +206,9 @@ pub fn rowanchess_shut_down(m: &mut [u8], out: &mut [u8]) -> Reply
     ensures { Gives (asked true m.old (C.shut_down (places (length out.old)))) result m.old m.new out.old out.new }
 {
     if m.len() == store::SIZE {
-        let r = sessions::shut_down(m, out);
-        return Reply {
-            code: r.code,
-            count: r.count,
-        };
+        return Reply::from(sessions::shut_down(m, out));
     }
-    Reply {
-        code: outcome::MALFORMED,
-        count: 0,
-    }
+    Reply::from(Err(Refusal::Malformed))
 }
 
 pub fn rowanchess_disconnect(m: &mut [u8], session: usize) -> u64
@@ -257,9 +216,9 @@ pub fn rowanchess_disconnect(m: &mut [u8], session: usize) -> u64
     ensures { Says nothing (asked true m.old (C.disconnect session)) result m.old m.new }
 {
     if m.len() == store::SIZE {
-        return commands::disconnect(m, session);
+        return numbers::code_of(commands::disconnect(m, session));
     }
-    outcome::MALFORMED
+    Refusal::Malformed as u64
 }
 
 pub fn rowanchess_detach(m: &mut [u8], session: usize) -> Account
@@ -271,7 +230,7 @@ pub fn rowanchess_detach(m: &mut [u8], session: usize) -> Account
         return numbers::account_of(a);
     }
     Account {
-        code: outcome::MALFORMED,
+        code: Refusal::Malformed as u64,
         there: 0,
         account: 0,
     }
@@ -284,16 +243,9 @@ pub fn rowanchess_take_batch(m: &mut [u8], out: &mut [u8]) -> Reply
     ensures { Lists 96 (asked true m.old (C.take_batch (places (length out.old)))) result m.old m.new out.old out.new }
 {
     if m.len() == store::SIZE {
-        let r = commands::take_batch(m, out);
-        return Reply {
-            code: r.code,
-            count: r.count,
-        };
+        return Reply::from(commands::take_batch(m, out));
     }
-    Reply {
-        code: outcome::MALFORMED,
-        count: 0,
-    }
+    Reply::from(Err(Refusal::Malformed))
 }
 
 // `row` is an event of the command `n`.
@@ -302,16 +254,9 @@ pub fn rowanchess_deliver(m: &mut [u8], n: u64, row: &[u8], out: &mut [u8]) -> R
     ensures { Gives (asked (is_event row.now) m.old (C.deliver_event n (event_of row.now) (places (length out.old)))) result m.old m.new out.old out.new }
 {
     if is_whole(m, strict::is_event(row)) {
-        let r = deliver::deliver(m, n, row, out);
-        return Reply {
-            code: r.code,
-            count: r.count,
-        };
+        return Reply::from(deliver::deliver(m, n, row, out));
     }
-    Reply {
-        code: outcome::MALFORMED,
-        count: 0,
-    }
+    Reply::from(Err(Refusal::Malformed))
 }
 
 // ---- restarting
@@ -323,9 +268,9 @@ pub fn rowanchess_add_account(m: &mut [u8], row: &[u8]) -> u64
 {
     if is_whole(m, strict::is_account(row)) {
         let a = records::account(row);
-        return joining::add_account(m, a);
+        return numbers::code_of(joining::add_account(m, a));
     }
-    outcome::MALFORMED
+    Refusal::Malformed as u64
 }
 
 // `row` is the command `n`.
@@ -335,9 +280,9 @@ pub fn rowanchess_replay_command(m: &mut [u8], n: u64, row: &[u8]) -> u64
 {
     if is_whole(m, strict::is_command(row)) {
         let k = records::command(row);
-        return replay::replay_command(m, n, k);
+        return numbers::code_of(replay::replay_command(m, n, k));
     }
-    outcome::MALFORMED
+    Refusal::Malformed as u64
 }
 
 // `row` is an event of the command `n`.
@@ -347,9 +292,9 @@ pub fn rowanchess_replay_event(m: &mut [u8], n: u64, row: &[u8]) -> u64
 {
     if is_whole(m, strict::is_event(row)) {
         let e = script::event(row);
-        return redelivery::replay_event(m, n, e);
+        return numbers::code_of(redelivery::replay_event(m, n, e));
     }
-    outcome::MALFORMED
+    Refusal::Malformed as u64
 }
 
 // `list` is a book listing: rows of 8 words.
@@ -358,9 +303,9 @@ pub fn rowanchess_finish(m: &mut [u8], list: &[u8]) -> u64
     ensures { Says nothing (asked (is_listing list.now) m.old (C.finish (listing list.now))) result m.old m.new }
 {
     if is_whole(m, lists::is_listing(list)) {
-        return finish::finish(m, list);
+        return numbers::code_of(finish::finish(m, list));
     }
-    outcome::MALFORMED
+    Refusal::Malformed as u64
 }
 
 // The bytes of a checkpoint, at the front of `out`.
@@ -369,16 +314,9 @@ pub fn rowanchess_checkpoint(m: &[u8], out: &mut [u8]) -> Reply
     ensures { Writes (asked true m.now (C.checkpoint (length out.old))) result m.now m.now out.old out.new }
 {
     if m.len() == store::SIZE {
-        let r = checkpoint::checkpoint(m, out);
-        return Reply {
-            code: r.code,
-            count: r.count,
-        };
+        return Reply::from(checkpoint::checkpoint(m, out));
     }
-    Reply {
-        code: outcome::MALFORMED,
-        count: 0,
-    }
+    Reply::from(Err(Refusal::Malformed))
 }
 
 // Where the order section of a checkpoint's bytes starts; it goes to their end. The end itself where they are no checkpoint.

@@ -2,7 +2,7 @@
 // A slice arrives as its address and its length.
 #![tactic(auto)]
 
-ghost use Rattle.std.specs.Prelude.{◌≡◌, true, ◌/◌, ◌-◌, leb, length, drop};
+ghost use Rattle.std.specs.Prelude.{◌≡◌, true, ◌/◌, ◌-◌, leb, length, drop, is_some};
 ghost use Rattle.words.specs.Words.{int};
 ghost use Rattle.protocol.specs.Codes.{logout_of};
 ghost use Rattle.gateway.specs.Entry.{nothing};
@@ -138,7 +138,7 @@ pub extern "C" fn rowanchess_publish(m: &mut [u8], out: &mut [u8]) -> Reply
 #[unsafe(no_mangle)]
 pub extern "C" fn rowanchess_end(m: &mut [u8], session: usize, why: u8, out: &mut [u8]) -> Reply
     requires { Lent m.old }
-    ensures { Gives (asked (P.is_reason (logout_of why)) m.old (C.end_session session (P.reason_or (logout_of why)) (places (length out.old)))) result m.old m.new out.old out.new }
+    ensures { Gives (asked (is_some (logout_of why)) m.old (C.end_session session (P.reason_or (logout_of why)) (places (length out.old)))) result m.old m.new out.old out.new }
 {
     edge::rowanchess_end(m, session, why, out)
 }

@@ -1,8 +1,5 @@
 -- All examples of document 01 marked P, with no fee, and one with a fee (02, order 7): beside what the definitions give, what the paper says.
-use Rattle.std.specs.Prelude.{ℕ, Bool, true, false, cond, ◌≡◌, List, [], ◌∷◌, map, replicate, ℤ, pos, negsuc, ◌-ℤ◌}
-use Rattle.std.proofs.Math.Option.{Option, none, some}
-use Rattle.orderbook.specs.declared.MaybePrice.TheVariants.{None, Some}
-use Rattle.orderbook.specs.declared.MaybeQty as MaybeQty
+use Rattle.std.specs.Prelude.{ℕ, Bool, true, false, cond, ◌≡◌, List, [], ◌∷◌, map, replicate, ℤ, pos, negsuc, ◌-ℤ◌, Option, Some, None}
 use Rattle.orderbook.specs.declared.TimeInForce.TheVariants.{Gtc}
 use Rattle.orderbook.specs.declared.Side.TheVariants.{Buy, Sell}
 use Rattle.protocol.specs.Codes.{reject_code}
@@ -34,8 +31,8 @@ buy fee leaves = hold fee Buy (Some (pos 250)) leaves
 
 -- by how much the cash fell, and the cash held
 abbrev fell : ℤ → Option Balance → List ℤ
-fell cash none = []
-fell cash (some b) = (cash -ℤ b.cash) ∷ b.cash_held ∷ []
+fell cash None = []
+fell cash (Some b) = (cash -ℤ b.cash) ∷ b.cash_held ∷ []
 
 -- an account with just the cash for its buy of 4 at 250, which fills 2 at 240 and has 2 left
 abbrev placed : ℤ → Balance
@@ -68,7 +65,7 @@ table =
     ∷ (buy (pos 0) 4 ∷ [], pos 1000 ∷ [])
     ∷ (hold (pos 0) Sell (Some (pos 250)) 4 ∷ [], pos 4 ∷ [])
     ∷ (hold (pos 0) Buy (Some most) 2 ∷ [], pos 0 ∷ [])
-    ∷ (first (paper_tests 0 Buy 2 core rest (Limit most Gtc MaybeQty.TheVariants.None) (record { cash = most; position = most })), pos 4 ∷ [])
+    ∷ (first (paper_tests 0 Buy 2 core rest (Limit most Gtc None) (record { cash = most; position = most })), pos 4 ∷ [])
     ∷ (bought (pos 0), pos 480 ∷ pos 500 ∷ [])
     ∷ (buy (pos 10) 4 ∷ bought (pos 10), pos 1040 ∷ pos 500 ∷ pos 520 ∷ [])
     ∷ ((W.settle Buy (negsuc 4611686018427387903) 4 (record { cash = pos 0; position = pos 0 })).cash ∷ [], negsuc 9223372036854775806 ∷ [])

@@ -7,7 +7,7 @@ use accounts::Funds;
 use orderbook::Side;
 use risk::Bucket;
 use std::io;
-use wallet::{Changed, Wallet};
+use wallet::Wallet;
 
 fn flag(yes: bool) -> &'static str {
     if yes { " yes" } else { " no" }
@@ -59,8 +59,8 @@ fn show(rt: &impl Print, w: Wallet) -> io::Result<()> {
 // A buy's hold changes from old to new.
 fn change(w: Wallet, old: u64, new: u64) -> Wallet {
     match w.hold(Side::Buy, old, new) {
-        Changed::Fits(changed) => changed,
-        Changed::TooBig => w,
+        Some(changed) => changed,
+        None => w,
     }
 }
 

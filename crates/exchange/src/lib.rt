@@ -2,7 +2,6 @@
 #![tactic(auto)]
 
 ghost use Rattle.std.specs.Prelude.{◌≡◌, true, ◌<◌, length};
-ghost use Rattle.std.proofs.Math.Option.{none, some};
 ghost use Rattle.protocol.specs.declared.Inbound.TheVariants as In;
 ghost use Rattle.gateway.specs.Rest.{session_at, is_present};
 ghost use Rattle.gateway.specs.Calls.{call, receive_from};
@@ -14,14 +13,20 @@ ghost use Rattle.outcome.specs.Parts.{rest_of, Speaks};
 ghost use Rattle.outcome.specs.Answers.{Gives};
 ghost use Rattle.exchange.specs.Receive as P;
 
-use outcome::Reply;
+use outcome::Refusal;
 use protocol::{Inbound, LoginError, LogoutReason, Outbound};
 
 // ---- before a login
 
 // Anything but a login ends the session.
-fn protocol_error(m: &mut [u8], s: usize, message: Inbound, time: u64, out: &mut [u8]) -> Reply
-    requires { Speaks s none m.old × P.NoLogin message }
+fn protocol_error(
+    m: &mut [u8],
+    s: usize,
+    message: Inbound,
+    time: u64,
+    out: &mut [u8],
+) -> Result<usize, Refusal>
+    requires { Speaks s None m.old × P.NoLogin message }
     ensures { Gives (call (gateway (cell m.old)) (receive_from s message time (places (length out.old)))) result m.old m.new out.old out.new }
 {
     outcome::answer_last(
@@ -35,8 +40,14 @@ fn protocol_error(m: &mut [u8], s: usize, message: Inbound, time: u64, out: &mut
     )
 }
 
-fn greet(m: &mut [u8], s: usize, message: Inbound, time: u64, out: &mut [u8]) -> Reply
-    requires { Speaks s none m.old }
+fn greet(
+    m: &mut [u8],
+    s: usize,
+    message: Inbound,
+    time: u64,
+    out: &mut [u8],
+) -> Result<usize, Refusal>
+    requires { Speaks s None m.old }
     ensures { Gives (call (gateway (cell m.old)) (receive_from s message time (places (length out.old)))) result m.old m.new out.old out.new }
 {
     match message {
@@ -45,17 +56,7 @@ fn greet(m: &mut [u8], s: usize, message: Inbound, time: u64, out: &mut [u8]) ->
             account,
             token,
         } => login::login(m, s, version, account, token, time, out),
-        Inbound::Logout => protocol_error(m, s, message, time, out),
-        Inbound::Heartbeat => protocol_error(m, s, message, time, out),
-        Inbound::NewOrder(_) => protocol_error(m, s, message, time, out),
-        Inbound::Cancel { order_id: _ } => protocol_error(m, s, message, time, out),
-        Inbound::Modify {
-            order_id: _,
-            price: _,
-            qty: _,
-        } => protocol_error(m, s, message, time, out),
-        Inbound::MassCancel => protocol_error(m, s, message, time, out),
-        Inbound::Subscribe => protocol_error(m, s, message, time, out),
+        _ => protocol_error(m, s, message, time, out),
     }
 }
 
@@ -68,8 +69,8 @@ fn log_in_again(
     message: Inbound,
     time: u64,
     out: &mut [u8],
-) -> Reply
-    requires { Speaks s (some a) m.old × P.IsLogin message }
+) -> Result<usize, Refusal>
+    requires { Speaks s (Some a) m.old × P.IsLogin message }
     ensures { Gives (call (gateway (cell m.old)) (receive_from s message time (places (length out.old)))) result m.old m.new out.old out.new }
 {
     outcome::answer(
@@ -83,8 +84,8 @@ fn log_in_again(
     )
 }
 
-fn log_out(m: &mut [u8], s: usize, a: usize, time: u64, out: &mut [u8]) -> Reply
-    requires { Speaks s (some a) m.old }
+fn log_out(m: &mut [u8], s: usize, a: usize, time: u64, out: &mut [u8]) -> Result<usize, Refusal>
+    requires { Speaks s (Some a) m.old }
     ensures { Gives (call (gateway (cell m.old)) (receive_from s In.Logout time (places (length out.old)))) result m.old m.new out.old out.new }
 {
     outcome::answer_last(
@@ -98,24 +99,27 @@ fn log_out(m: &mut [u8], s: usize, a: usize, time: u64, out: &mut [u8]) -> Reply
     )
 }
 
-fn beat(m: &mut [u8], s: usize, a: usize, time: u64, out: &mut [u8]) -> Reply
-    requires { Speaks s (some a) m.old }
+fn beat(m: &mut [u8], s: usize, a: usize, time: u64, out: &mut [u8]) -> Result<usize, Refusal>
+    requires { Speaks s (Some a) m.old }
     ensures { Gives (call (gateway (cell m.old)) (receive_from s In.Heartbeat time (places (length out.old)))) result m.old m.new out.old out.new }
 {
     outcome::hear(m, s, time);
-    Reply { code: 0, count: 0 }
+    Ok(0)
 }
 
-fn hear(m: &mut [u8], s: usize, a: usize, message: Inbound, time: u64, out: &mut [u8]) -> Reply
-    requires { Speaks s (some a) m.old }
+fn hear(
+    m: &mut [u8],
+    s: usize,
+    a: usize,
+    message: Inbound,
+    time: u64,
+    out: &mut [u8],
+) -> Result<usize, Refusal>
+    requires { Speaks s (Some a) m.old }
     ensures { Gives (call (gateway (cell m.old)) (receive_from s message time (places (length out.old)))) result m.old m.new out.old out.new }
 {
     match message {
-        Inbound::Login {
-            version: _,
-            account: _,
-            token: _,
-        } => log_in_again(m, s, a, message, time, out),
+        Inbound::Login { .. } => log_in_again(m, s, a, message, time, out),
         Inbound::Logout => log_out(m, s, a, time, out),
         Inbound::Heartbeat => beat(m, s, a, time, out),
         Inbound::NewOrder(order) => orderentry::new_order(m, s, a, order, time, out),
@@ -133,18 +137,29 @@ fn hear(m: &mut [u8], s: usize, a: usize, message: Inbound, time: u64, out: &mut
 // ---- the call
 
 // A session that is there and not closing.
-fn heed(m: &mut [u8], s: usize, message: Inbound, time: u64, out: &mut [u8]) -> Reply
+fn heed(
+    m: &mut [u8],
+    s: usize,
+    message: Inbound,
+    time: u64,
+    out: &mut [u8],
+) -> Result<usize, Refusal>
     requires { Between m.old × (is_present (session_at s (rest_of m.old)) ≡ true) }
     ensures { Gives (call (gateway (cell m.old)) (receive_from s message time (places (length out.old)))) result m.old m.new out.old out.new }
 {
-    let account = clients::account_of(m, s);
-    if account == 0 {
-        return greet(m, s, message, time, out);
+    match clients::account_of(m, s) {
+        None => greet(m, s, message, time, out),
+        Some(a) => hear(m, s, a, message, time, out),
     }
-    hear(m, s, (account - 1) as usize, message, time, out)
 }
 
-pub fn receive(m: &mut [u8], s: usize, message: Inbound, time: u64, out: &mut [u8]) -> Reply
+pub fn receive(
+    m: &mut [u8],
+    s: usize,
+    message: Inbound,
+    time: u64,
+    out: &mut [u8],
+) -> Result<usize, Refusal>
     requires { Between m.old }
     ensures { Gives (call (gateway (cell m.old)) (receive_from s message time (places (length out.old)))) result m.old m.new out.old out.new }
 {
@@ -152,5 +167,5 @@ pub fn receive(m: &mut [u8], s: usize, message: Inbound, time: u64, out: &mut [u
         return heed(m, s, message, time, out);
     }
     outcome::set_clock(m, time);
-    Reply { code: 0, count: 0 }
+    Ok(0)
 }

@@ -1,4 +1,6 @@
 -- The whole call. Assumes nothing.
+use Rattle.outcome.specs.declared.Refusal.TheVariants.{TooShort}
+use Rattle.std.specs.Prelude.{Ok, Err}
 use mathlib.Core.Path.{◌≡◌, refl, sym, ap, ◌∙◌}
 use mathlib.Core.List.{List}
 use Prim.Native.Nat.{ℕ, ◌+◌, ◌≤◌, ◌<◌}
@@ -76,11 +78,11 @@ module _ (xs : List ℕ) {ys : List ℕ} (out : List ℕ) {mid : List ℕ} (n : 
 -- ---- the call
 
 module _ (xs out : List ℕ) (n p : ℕ) (b : Between xs) (count : n ≡ length (mail xs)) (room : p ≡ places (length out)) where
-  pub publish_short : p < n → Gives (call (gateway (cell xs)) (publish (places (length out)))) (record { code = 6; count = 0 }) xs xs out out
+  pub publish_short : p < n → Gives (call (gateway (cell xs)) (publish (places (length out)))) (Err TooShort) xs xs out out
   unfolding plan
   publish_short l = sends_short xs out (publish (places (length out))) tt b (mail xs) (published (rest_of xs)) refl n p count room l
 
-  pub publish_done : {ys end : List ℕ} → n ≤ p → Sends 0 (mail xs) published xs ys out end → Gives (call (gateway (cell xs)) (publish (places (length out)))) (record { code = 0; count = n }) xs ys out end
+  pub publish_done : {ys end : List ℕ} → n ≤ p → Sends 0 (mail xs) published xs ys out end → Gives (call (gateway (cell xs)) (publish (places (length out)))) (Ok n) xs ys out end
   unfolding plan
   publish_done l h = sends_done xs out (publish (places (length out))) tt b (mail xs) (published (rest_of xs)) refl n p count room l h.becomes h.posted
 

@@ -1,5 +1,5 @@
 -- The market's changes: trades and changed levels, to one session and to all. Assumes nothing.
-use mathlib.Core.Path.{◌≡◌, refl, sym, ap, ap₂, subst, ◌∙◌}
+use mathlib.Core.Path.{◌≡◌, refl, sym, ap, subst, ◌∙◌}
 use mathlib.Core.Bool.{Bool, true, false, cond, ◌&&◌}
 use mathlib.Core.List.{List, [], ◌∷◌, map}
 use Prim.Native.Nat.{ℕ, ◌+◌, ◌≤◌, ◌<◌}
@@ -11,17 +11,12 @@ use Rattle.orderbook.specs.declared.Side.TheVariants.{Buy}
 use Rattle.protocol.specs.declared.Outbound.TheVariants as Out
 use Rattle.protocol.specs.declared.TradeTick.{TradeTick}
 use Rattle.protocol.specs.declared.LevelUpdate.{LevelUpdate}
-use Rattle.words.specs.Words.{int, half, ◌⊖◌}
-use Rattle.table.specs.Live.{look}
-use Rattle.table.specs.declared.Found.{Found}
-use Rattle.table.specs.declared.Found.TheVariants.{At, Nothing}
-use Rattle.gateway.specs.Limits.{session_slots, most_orders, most_levels, most_trades, most_changed}
+use Rattle.words.specs.Words.{int}
+use Rattle.gateway.specs.Limits.{session_slots, most_trades, most_changed}
 use Rattle.gateway.specs.Depth as D
 use Rattle.gateway.specs.Rest.{Mail, send, Rest, session_at, is_open, is_subscribed}
 use Rattle.gateway.specs.Entry.{update_of, level_to, changes_to}
 use Rattle.gateway.specs.Calls.{Gateway}
-use Rattle.gateway.proofs.Counted.{same_is}
-use Rattle.gateway.proofs.Base.{split}
 use Rattle.store.specs.Cells as C
 use Rattle.store.specs.Layout.{cell}
 use Rattle.store.specs.View.{word, side, trade, changed_key, depth, gateway}
@@ -30,11 +25,8 @@ use Rattle.pending.specs.declared.Trade.{Trade}
 use Rattle.pending.specs.declared.changed.Changed.{Changed}
 use Rattle.pending.specs.Pending.{key, trade_words, changed_words}
 use Rattle.levels.specs.declared.Row.{Row}
-use Rattle.levels.specs.Levels as L
-use Rattle.levels.proofs.Best.{level_of}
 use Rattle.sound.specs.Sound.{State}
 use Rattle.marketdata.specs.Marketdata.{IsLevel}
-use Rattle.gateway.proofs.AtPrice.{levels_orders}
 use Rattle.mailbox.specs.Mailbox.{places}
 use Rattle.outcome.specs.Parts.{rest_of, Sends, steps, Stepped}
 use Rattle.outcome.proofs.Walk.{slots, sends_none, sends_more}

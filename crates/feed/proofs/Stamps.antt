@@ -1,7 +1,7 @@
 -- Who is told what does not look at the stamps, and publishing leaves them. Assumes nothing.
+use Rattle.std.specs.Prelude.{Option, Some, None, option_map}
 use mathlib.Core.Path.{◌≡◌, refl, ap, ◌∙◌}
 use mathlib.Core.Bool.{cond, ◌&&◌}
-use mathlib.Core.Option.{Option, none, some, map}
 use mathlib.Core.List.{List, []}
 use Prim.Native.Nat.{ℕ, ◌<◌}
 use lib.ListN.{length, get_or}
@@ -20,9 +20,9 @@ use Rattle.feed.specs.Feed.{notice_step, changes_step, trade_step, level_step}
 
 -- ---- stamps
 
-sent_told : (t : ℕ) (x : Option Session) → is_open (map (Rest.set_sent t) x) && is_subscribed (map (Rest.set_sent t) x) ≡ is_open x && is_subscribed x
-sent_told t none = refl
-sent_told t (some x) = refl
+sent_told : (t : ℕ) (x : Option Session) → is_open (option_map (Rest.set_sent t) x) && is_subscribed (option_map (Rest.set_sent t) x) ≡ is_open x && is_subscribed x
+sent_told t None = refl
+sent_told t (Some x) = refl
 
 pub stamped_published : (ms : List Mail) (r : Rest) → stamped ms (published r) ≡ published (stamped ms r)
 stamped_published = stamped_beside published (λ r. refl) (λ r. refl) (λ xs r. refl)
@@ -46,8 +46,8 @@ module _ (g : Gateway) (ms : List Mail) where
       tell s = cond (is_open (session_at s after)) (balance_to s (balance a g.core)) []
 
       go : (o : Option ℕ) → option [] tell o ≡ option [] (λ s. cond (is_open (session_at s r)) (balance_to s (balance a g.core)) []) o
-      go none = refl
-      go (some s) = ap (λ b. cond b (balance_to s (balance a g.core)) []) (stamped_keeps is_open sent_open s ms r)
+      go None = refl
+      go (Some s) = ap (λ b. cond b (balance_to s (balance a g.core)) []) (stamped_keeps is_open sent_open s ms r)
 
   pub trade_keeps : (s j : ℕ) → trade_step s (with_rest (stamped ms) g) j ≡ trade_step s g j
   trade_keeps s j = ap (λ (q : Rest). trade_step s (with_rest (λ _. q) g) j) (stamped_rest ms r)

@@ -1,16 +1,14 @@
 -- Publishing in steps: what each notice, each session, each trade and each changed level sends.
-use Rattle.std.specs.Prelude.{ℕ, ◌+◌, ◌-◌, ◌*◌, ◌≤◌, ◌<◌, ◌≡◌, true, cond, ◌&&◌, List, [], ◌∷◌, map, get_or, ℤ, pos}
-use Rattle.orderbook.specs.declared.Side.{Side}
+use Rattle.std.specs.Prelude.{ℕ, ◌+◌, ◌-◌, ◌*◌, ◌≤◌, ◌<◌, ◌≡◌, true, cond, ◌&&◌, List, [], ◌∷◌, map, get_or, pos, is_some, Option, Some, None}
 use Rattle.orderbook.specs.declared.Side.TheVariants.{Buy}
 use Rattle.protocol.specs.declared.Outbound.TheVariants as Out
 use Rattle.protocol.specs.declared.TradeTick.{TradeTick}
-use Rattle.gateway.specs.Basics.{each, is_some}
-use Rattle.gateway.specs.Limits.{owner_slots, session_slots, most_orders, most_trades, most_notices, most_changed}
+use Rattle.gateway.specs.Basics.{each}
+use Rattle.gateway.specs.Limits.{owner_slots, session_slots, most_trades, most_notices, most_changed}
 use Rattle.gateway.specs.Depth as D
 use Rattle.gateway.specs.Rest.{Mail, send, session_at, is_open, is_subscribed, each_session}
 use Rattle.gateway.specs.Entry.{balance, balance_to, level_to, changes_to, notice_mail}
 use Rattle.gateway.specs.Calls.{Gateway}
-use Rattle.levels.specs.declared.Row.{Row}
 use Rattle.outcome.specs.Parts.{Steps, Stepped}
 
 -- mail that went out from place i on, and the place behind it
@@ -25,13 +23,17 @@ notice_step g j = notice_mail (get_or g.rest.notices j 0) g.core g.rest
 abbrev pub balances : Gateway → List Mail
 balances g = each (λ a. notice_mail a g.core g.rest) g.rest.notices
 
--- the session, plus one, that is told the balance of account a; 0 where nobody is
-pub record Receives (a to : ℕ) (g : Gateway) : Type 0 where
-  pub slot : to ≤ session_slots
-  pub nobody : to ≡ 0 → notice_mail a g.core g.rest ≡ []
-  pub told : (to ≡ 0 → ⊥) → notice_mail a g.core g.rest ≡ balance_to (to - 1) (balance a g.core)
-  pub owner : (to ≡ 0 → ⊥) → a < owner_slots
-  pub funded : (to ≡ 0 → ⊥) → is_some (balance a g.core) ≡ true
+-- session s is told of account a's wallet
+pub record Receiver (a s : ℕ) (g : Gateway) : Type 0 where
+  pub told : notice_mail a g.core g.rest ≡ balance_to s (balance a g.core)
+  pub slot : s < session_slots
+  pub owner : a < owner_slots
+  pub funded : is_some (balance a g.core) ≡ true
+
+-- or nobody is
+abbrev pub Receives : ℕ → Option ℕ → Gateway → Type 0
+Receives a None g = notice_mail a g.core g.rest ≡ []
+Receives a (Some s) g = Receiver a s g
 
 -- ---- the market's changes
 

@@ -1,16 +1,14 @@
 -- Code 8: the listing has the live orders. Assumes nothing.
+use Rattle.std.specs.Prelude.{Option, Some, None}
 use mathlib.Core.Path.{◌≡◌, refl, sym, ap, ap₂, subst, ◌∙◌}
 use mathlib.Core.Bool.{Bool, true, false, cond, ◌&&◌, and-eq-true_iff, true≢false, and-true, and-false, and_assoc}
 use mathlib.Core.List.{List, [], ◌∷◌}
-use mathlib.Core.Option.{Option, none, some}
-use Prim.Native.Nat.{ℕ, ◌+◌, ◌-◌, ◌≤◌, ◌<◌}
+use Prim.Native.Nat.{ℕ, ◌+◌, ◌≤◌, ◌<◌}
 use native.Mathlib.Omega.{arith}
 use borrow.Author.Tests.{eq-eqb, ne_eqb, eqb-true}
 use lib.Dec.{eqb}
 use lib.ListN.{length}
 use Rattle.orderbook.specs.declared.Listed.{Listed}
-use Rattle.table.specs.declared.Found.{Found}
-use Rattle.table.specs.declared.Found.TheVariants.{At, Nothing}
 use Rattle.table.specs.Live.{Each, look}
 use Rattle.gateway.specs.Ledger.{Order, number_of, find}
 use Rattle.gateway.specs.Listing.{listed_number, listed_times, entry_agrees, entries_agree, listing_agrees}
@@ -18,9 +16,9 @@ use Rattle.gateway.proofs.Base.{split}
 use Rattle.gateway.proofs.Sorted.{look_key}
 use Rattle.store.specs.Cells as C
 use Rattle.store.specs.Layout.{cell}
-use Rattle.store.specs.View.{word, order, order_room, ledger}
+use Rattle.store.specs.View.{word, order, ledger}
 use Rattle.orders.specs.declared.Live.{Live}
-use Rattle.orders.specs.Orders.{Sees, live_row}
+use Rattle.orders.specs.Orders.{live_row}
 use Rattle.sound.specs.Sound.{State}
 use Rattle.listing.specs.declared.Entry.{Entry}
 use Rattle.listing.specs.Rows.{entry, listed_as, rows, row, listing, from}
@@ -33,35 +31,19 @@ module _ (xs : List ℕ) (i : ℕ) (e : Entry) where
   abbrev o : Order
   o = order (cell xs C.orders i)
 
-  pub same_stop : (e.kind ≡ 0 → ⊥) → true ≡ entry_agrees (listed_as e) (some o)
-  same_stop h = sym (ap (λ (x : Listed). entry_agrees x (some o)) (stop_is e h))
+  pub same_stop : (e.kind ≡ 0 → ⊥) → true ≡ entry_agrees (listed_as e) (Some o)
+  same_stop h = sym (ap (λ (x : Listed). entry_agrees x (Some o)) (stop_is e h))
 
   module _ (h : e.kind ≡ 0) (v : Live) (v_is : v ≡ live_row (cell xs C.orders i)) where
-    same_is : entry_agrees (listed_as e) (some o) ≡ eqb v.leaves e.leaves && eqb v.account e.owner
+    same_is : entry_agrees (listed_as e) (Some o) ≡ eqb v.leaves e.leaves && eqb v.account e.owner
     same_is =
-        ap (λ (x : Listed). entry_agrees x (some o)) (order_is e h) ∙ ap (λ (w : Live). eqb w.leaves e.leaves && eqb w.account e.owner) (sym v_is)
+        ap (λ (x : Listed). entry_agrees x (Some o)) (order_is e h) ∙ ap (λ (w : Live). eqb w.leaves e.leaves && eqb w.account e.owner) (sym v_is)
 
-    pub same_leaves : v.leaves ≡ e.leaves → eqb v.account e.owner ≡ entry_agrees (listed_as e) (some o)
+    pub same_leaves : v.leaves ≡ e.leaves → eqb v.account e.owner ≡ entry_agrees (listed_as e) (Some o)
     same_leaves q = sym (same_is ∙ ap (λ b. b && eqb v.account e.owner) (eq-eqb v.leaves e.leaves q))
 
-    pub other_leaves : (v.leaves ≡ e.leaves → ⊥) → false ≡ entry_agrees (listed_as e) (some o)
+    pub other_leaves : (v.leaves ≡ e.leaves → ⊥) → false ≡ entry_agrees (listed_as e) (Some o)
     other_leaves q = sym (same_is ∙ ap (λ b. b && eqb v.account e.owner) (ne_eqb v.leaves e.leaves q))
-
-module _ (xs : List ℕ) (e : Entry) (f : Found) (seen : Sees C.order_live order number_of (cell xs) e.number f) where
-  pub live_inside : (i : ℕ) → State xs → f ≡ At i → i < order_room
-  live_inside i s q =
-      let t : Sees C.order_live order number_of (cell xs) e.number (At i) = rw q at seen in
-      omega (arith, t.row.0, s.sound.tables.ordered.bounds.orders_fit)
-
-  pub live_agrees : (i : ℕ) (b : Bool) → f ≡ At i → b ≡ entry_agrees (listed_as e) (some (order (cell xs C.orders i))) → b ≡ entry_agrees (listed_as e) (find e.number (ledger (cell xs)).orders)
-  live_agrees i b q h =
-      let t : Sees C.order_live order number_of (cell xs) e.number (At i) = rw q at seen in
-      h ∙ ap (entry_agrees (listed_as e)) (sym t.order)
-
-  pub none_agrees : f ≡ Nothing → false ≡ entry_agrees (listed_as e) (find e.number (ledger (cell xs)).orders)
-  none_agrees q =
-      let t : Sees C.order_live order number_of (cell xs) e.number Nothing = rw q at seen in
-      sym (ap (entry_agrees (listed_as e)) t.order)
 
 -- ---- a row
 
@@ -128,19 +110,19 @@ pub record Entered (last : ℕ) (all : List Listed) (x : Listed) : Type 0 where
   pub once : listed_times (listed_number x) all ≡ 1
   pub numbered : listed_number x ≤ last
 
-look_each : (P : Order → Type 0) (n : ℕ) (o : Order) (os : List Order) → look number_of n os ≡ some o → Each P os → P o
+look_each : (P : Order → Type 0) (n : ℕ) (o : Order) (os : List Order) → look number_of n os ≡ Some o → Each P os → P o
 unfolding look
 look_each P n o [] e t = let z : ◌≡◌ {A = ℕ} 0 1 = cc in absurd (omega (arith, z))
 look_each P n o (x ∷ os) e t =
-    split (λ b. cond b (some x) (look number_of n os) ≡ some o → P o) (eqb x.number n)
+    split (λ b. cond b (Some x) (look number_of n os) ≡ Some o → P o) (eqb x.number n)
     (λ _ k. let q : x ≡ o = cc in subst P q t.0) (λ _ k. look_each P n o os k t.1) e
 
 found : (last : ℕ) (x : Listed) (os : List Order) → Each (λ o. o.number ≤ last) os → entry_agrees x (find (listed_number x) os) ≡ true → listed_number x ≤ last
 found last x os t h = go (find (listed_number x) os) refl h
   where
     go : (y : Option Order) → find (listed_number x) os ≡ y → entry_agrees x y ≡ true → listed_number x ≤ last
-    go none e a = absurd (true≢false (sym a))
-    go (some o) e a = let l = look_each (λ o. o.number ≤ last) (listed_number x) o os e t in omega (arith, l, look_key number_of (listed_number x) o os e)
+    go None e a = absurd (true≢false (sym a))
+    go (Some o) e a = let l = look_each (λ o. o.number ≤ last) (listed_number x) o os e t in omega (arith, l, look_key number_of (listed_number x) o os e)
 
 pub agree_each : (last : ℕ) (all l : List Listed) (os : List Order) → Each (λ o. o.number ≤ last) os → entries_agree all l os ≡ true → Each (Entered last all) l
 agree_each last all [] os t h = tt

@@ -1,8 +1,7 @@
 // A restart ends: the book's listing is compared with the live orders, and the depth is taken from it (`finish` of exchange.rs).
 #![tactic(auto)]
 
-ghost use Rattle.std.specs.Prelude.{◌≡◌, [], ◌≤◌, ◌<◌};
-ghost use Rattle.std.proofs.Math.Option.{some};
+ghost use Rattle.std.specs.Prelude.{◌≡◌, [], ◌≤◌, ◌<◌, Some};
 ghost use Rattle.gateway.specs.Entry.{nothing};
 ghost use Rattle.gateway.specs.Ledger.{find};
 ghost use Rattle.gateway.specs.Listing.{entry_agrees, entries_agree, listing_agrees};
@@ -13,20 +12,21 @@ ghost use Rattle.store.specs.View.{order, order_room, ledger, gateway, Is, Ready
 ghost use Rattle.sound.specs.Sound.{State, Becomes};
 ghost use Rattle.outcome.specs.Between.{Between};
 ghost use Rattle.outcome.specs.Parts.{with_rest};
+ghost use Rattle.outcome.specs.Refusals.{code_of};
 ghost use Rattle.outcome.specs.Answers.{Says, verdict};
 ghost use Rattle.listing.specs.Rows.{listed_as, rows, row, listing};
 ghost use Rattle.finish.specs.Clearing as P;
 
 use listing::Entry;
+use outcome::Refusal;
 use store::{cells, limits};
-use table::Found;
 
 // ---- code 8
 
 // The live order in the row i agrees with the entry of its number: of a resting order leaves and account, of a stop nothing more.
 fn is_same(m: &[u8], i: usize, e: Entry) -> bool
     requires { Holds m.now × (i < order_room) }
-    ensures { result ≡ entry_agrees (listed_as e) (some (order (cell m.now C.orders i))) }
+    ensures { result ≡ entry_agrees (listed_as e) (Some (order (cell m.now C.orders i))) }
 {
     if e.kind != 0 {
         return true;
@@ -43,7 +43,7 @@ fn is_live(m: &[u8], e: Entry) -> bool
     requires { State m.now }
     ensures { result ≡ entry_agrees (listed_as e) (find e.number (ledger (cell m.now)).orders) }
 {
-    if let Found::At(i) = orders::find_live(m, e.number) {
+    if let Some(i) = orders::find_live(m, e.number) {
         return is_same(m, i, e);
     }
     false
@@ -64,9 +64,7 @@ fn rows_agree(m: &[u8], list: &[u8]) -> bool
     requires { State m.now }
     ensures { result ≡ entries_agree (listing list.now) (listing list.now) (ledger (cell m.now)).orders }
 {
-    let mut j = listing::rows(list);
-    while 0 < j {
-        j -= 1;
+    for j in (0..listing::rows(list)).rev() {
         if !row_agrees(m, list, j) {
             return false;
         }
@@ -85,21 +83,21 @@ fn agrees(m: &[u8], list: &[u8]) -> bool
     false
 }
 
-// The code of the first test that fails, or 0.
-fn judge(m: &[u8], list: &[u8]) -> u64
+// The refusal of the first test that fails.
+fn judge(m: &[u8], list: &[u8]) -> Result<(), Refusal>
     requires { State m.now }
-    ensures { result ≡ verdict (finish_tests (listing list.now) (gateway (cell m.now)).core) }
+    ensures { code_of result ≡ verdict (finish_tests (listing list.now) (gateway (cell m.now)).core) }
 {
     if !agrees(m, list) {
-        return outcome::INCONSISTENT;
+        return Err(Refusal::Inconsistent);
     }
     if !listing::levels_few(list) {
-        return outcome::FULL;
+        return Err(Refusal::Full);
     }
     if !listing::levels_fit(list) {
-        return outcome::OUTSIDE;
+        return Err(Refusal::Outside);
     }
-    0
+    Ok(())
 }
 
 // ---- the old depth goes
@@ -117,10 +115,8 @@ fn unrest_rows(m: &mut [u8], n: usize)
     requires { Holds m.old × (n ≤ order_room) }
     ensures { Is m.new (P.unrested n (cell m.old)) }
 {
-    let mut i: usize = 0;
-    while i < n {
+    for i in 0..n {
         unrest(m, i);
-        i += 1;
     }
 }
 
@@ -173,14 +169,11 @@ fn apply(m: &mut [u8], list: &[u8])
 }
 
 // The rows of the listing are those of crate `listing`.
-pub fn finish(m: &mut [u8], list: &[u8]) -> u64
+pub fn finish(m: &mut [u8], list: &[u8]) -> Result<(), Refusal>
     requires { Between m.old }
-    ensures { Says nothing (call (gateway (cell m.old)) (finish (listing list.now))) result m.old m.new }
+    ensures { Says nothing (call (gateway (cell m.old)) (finish (listing list.now))) (code_of result) m.old m.new }
 {
-    let code = judge(m, list);
-    if code == 0 {
-        apply(m, list);
-        return 0;
-    }
-    code
+    judge(m, list)?;
+    apply(m, list);
+    Ok(())
 }

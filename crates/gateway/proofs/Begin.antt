@@ -1,8 +1,8 @@
 -- What set-up and restore accept keeps the invariant, so that a list of calls may start with either. Assumes nothing.
+use Rattle.std.specs.Prelude.{Option, Some, None, is_some}
 use Prim.Native.Nat.{ℕ, zero, suc, ◌+◌, ◌<◌, ◌≤◌}
 use mathlib.Core.Bool.{true, cond, not, ◌&&◌, and-eq-true_iff}
 use mathlib.Core.Path.{◌≡◌, refl, ap, sym, ◌∙◌, subst}
-use mathlib.Core.Option.{Option, none, some}
 use mathlib.Core.List.{List, [], ◌∷◌}
 use native.Mathlib.Omega.{arith}
 use borrow.Author.Tests.{ltb-true, leb-true, eqb-true, eq-eqb}
@@ -10,17 +10,15 @@ use lib.IntN.{ℤ, pos}
 use lib.Signed.{le_z}
 use lib.ListN.{length, get_or, set, replicate, length-set, length-append, length-replicate}
 use lib.Dec.{eqb, ltb}
-use Rattle.orderbook.specs.declared.MaybePrice.TheVariants.{None}
 use Rattle.orderbook.specs.declared.Listed.{Listed}
 use Rattle.orderbook.specs.declared.Listed.TheVariants as L
 use Rattle.accounts.specs.declared.Account.{Account}
 use Rattle.accounts.specs.declared.Funds.{Funds}
-use Rattle.accounts.specs.declared.MaybeFunds as F
 use Rattle.accounts.specs.declared.Timing.{Timing}
 use Rattle.table.specs.Live.{Each}
-use Rattle.gateway.specs.Basics.{option, each, is_some}
+use Rattle.gateway.specs.Basics.{option, each}
 use Rattle.gateway.specs.Limits.{owner_slots, session_slots, most_orders, outside, malformed, bad_fee}
-use Rattle.gateway.specs.Ledger.{Order, Ledger, number_of, funds_of, wallet_of, order_hold, holds_fit}
+use Rattle.gateway.specs.Ledger.{Order, Ledger, number_of, wallet_of, order_hold, holds_fit}
 use Rattle.gateway.specs.Entry.{is_zero}
 use Rattle.gateway.specs.Saved.{Saved, saved_from, slots, contents}
 use Rattle.gateway.specs.Bytes.{decode}
@@ -40,7 +38,7 @@ use Rattle.gateway.proofs.Listing.{distinct, live_number, live_rises, resting_ri
 use Rattle.gateway.proofs.Calls.{listed_few, pass_append}
 use Rattle.gateway.proofs.Restore.{Accounts, nothing_saved, by_slot_length, by_slot_owned}
 use Rattle.gateway.specs.Table.{Rises}
-use Rattle.gateway.specs.Invariant.{CoreOk, FeedOk, Known, Ok, OrderFits, Owned, RestOk, SessionsOk, WalletFits, WalletsFit, at}
+use Rattle.gateway.specs.Invariant.{CoreOk, FeedOk, Known, GatewayOk, OrderFits, Owned, RestOk, SessionsOk, WalletFits, WalletsFit, at}
 
 -- what holds of the gateway that begins, where one does
 abbrev pub Begins : (Gateway → Type 0) → Started → Type 0
@@ -65,10 +63,10 @@ Given fee limit l g = Accounts fee limit l g.core
 
 entered_length : (t : List (Option Account)) (l : List Account) → length (entered t l) ≡ length t
 entered_length t [] = refl
-entered_length t (a ∷ l) = entered_length (set t a.id (some a)) l ∙ length-set t a.id (some a)
+entered_length t (a ∷ l) = entered_length (set t a.id (Some a)) l ∙ length-set t a.id (Some a)
 
 pub accounts_length : (limit : ℕ) (l : List Account) → length (accounts_of limit l) ≡ limit
-accounts_length limit l = entered_length (replicate limit none) l ∙ length-replicate limit none
+accounts_length limit l = entered_length (replicate limit None) l ∙ length-replicate limit None
 
 abbrev SlotFits : Option Account → Type 0
 SlotFits a = WalletFits (funds_in a)
@@ -76,9 +74,9 @@ SlotFits a = WalletFits (funds_in a)
 abbrev SlotsFit : List (Option Account) → Type 0
 SlotsFit t = Each SlotFits t
 
-funds_fit : (f : F.MaybeFunds) → MaybeFundsFit f → WalletFits (funds_of f)
-funds_fit F.TheVariants.None h = tt
-funds_fit (F.TheVariants.Some f) h = h
+funds_fit : (f : Option Funds) → MaybeFundsFit f → WalletFits f
+funds_fit None h = tt
+funds_fit (Some f) h = h
 
 slot_set : (t : List (Option Account)) (i : ℕ) (a : Option Account) → SlotFits a → SlotsFit t → SlotsFit (set t i a)
 slot_set [] i a h k = tt
@@ -87,9 +85,9 @@ slot_set (x ∷ t) (suc i) a h k = (k.0, slot_set t i a h k.1)
 
 entered_fits : (t : List (Option Account)) (l : List Account) → AccountsFit l → SlotsFit t → SlotsFit (entered t l)
 entered_fits t [] h k = k
-entered_fits t (a ∷ l) h k = entered_fits (set t a.id (some a)) l h.1 (slot_set t a.id (some a) (funds_fit a.funds h.0) k)
+entered_fits t (a ∷ l) h k = entered_fits (set t a.id (Some a)) l h.1 (slot_set t a.id (Some a) (funds_fit a.funds h.0) k)
 
-none_fit : (n : ℕ) → SlotsFit (replicate n none)
+none_fit : (n : ℕ) → SlotsFit (replicate n None)
 none_fit zero = tt
 none_fit (suc n) = (tt, none_fit n)
 
@@ -99,22 +97,22 @@ by_slot_fits (suc n) [] h = (tt, by_slot_fits n [] tt)
 by_slot_fits (suc n) (a ∷ t) h = (h.0, by_slot_fits n t h.1)
 
 funds_by_slot : (limit : ℕ) (l : List Account) → AccountsFit l → WalletsFit (by_slot funds_in owner_slots (accounts_of limit l))
-funds_by_slot limit l h = by_slot_fits owner_slots (accounts_of limit l) (entered_fits (replicate limit none) l h (none_fit limit))
+funds_by_slot limit l h = by_slot_fits owner_slots (accounts_of limit l) (entered_fits (replicate limit None) l h (none_fit limit))
 
 -- ---- the rest that begins
 
-no_sessions : (t : List (Option Account)) → SessionsOk t (replicate session_slots none)
+no_sessions : (t : List (Option Account)) → SessionsOk t (replicate session_slots None)
 no_sessions t =
     record {
-      slots = length-replicate {A = Option Session} session_slots none;
+      slots = length-replicate {A = Option Session} session_slots None;
       known = λ i. subst (Known t) (sym (nobody session_slots i)) tt;
       single = λ a i j p q. absurd (no_one (sym (nobody session_slots i) ∙ p));
     }
   where
-    no_one : {a : ℕ} → none ≡ some a → ⊥
+    no_one : {a : ℕ} → None ≡ Some a → ⊥
     no_one e = let z : ◌≡◌ {A = ℕ} 0 1 = cc in omega arith
 
-    nobody : (n i : ℕ) → at (replicate n none) i ≡ none
+    nobody : (n i : ℕ) → at (replicate n None) i ≡ None
     nobody zero i = refl
     nobody (suc n) zero = refl
     nobody (suc n) (suc i) = nobody n i
@@ -171,10 +169,10 @@ listed_fit [] h = tt
 listed_fit (x ∷ xs) h = each_insert number_of OrderFits (live x) (listed_orders xs) (live_fits x h.0) (listed_fit xs h.1)
 
 pub set_up_begins : (fee : ℤ) (limit last : ℕ) (l : List Account) (xs : List Listed) (timing : Timing) → Unsigned last → AccountsFit l → ListingFits xs →
-    Begins Ok (set_up fee limit last l xs timing)
+    Begins GatewayOk (set_up fee limit last l xs timing)
 unfolding set_up
 set_up_begins fee limit last l xs timing f a x =
-    charging_begins Ok fee _ λ charge. start_begins Ok _ (set_up_tests fee limit last l xs) λ p.
+    charging_begins GatewayOk fee _ λ charge. start_begins GatewayOk _ (set_up_tests fee limit last l xs) λ p.
     let u = pass_append (entry_tests limit last l xs) (total_tests fee limit last l xs) p in
     let t = u.0 in
     let v = u.1 in
@@ -221,9 +219,9 @@ restored_fits (f ∷ fs) [] h k = (h.0, restored_fits fs [] h.1 tt)
 restored_fits (f ∷ fs) (w ∷ ws) h k = (one f w h.0 k.0, restored_fits fs ws h.1 k.1)
   where
     one : (f w : Option Funds) → WalletFits f → WalletFits w → WalletFits (restored_wallet f w)
-    one none w h k = tt
-    one (some f) none h k = h
-    one (some f) (some w) h k = k
+    one None w h k = tt
+    one (Some f) None h k = h
+    one (Some f) (Some w) h k = k
 
 slots_fit : (n a : ℕ) (ws : List (ℕ × Funds)) → Each SavedWallet ws → WalletsFit (slots n a ws)
 slots_fit zero a ws h = tt
@@ -231,14 +229,14 @@ slots_fit (suc n) a [] h = (tt, slots_fit n (suc a) [] tt)
 slots_fit (suc n) a (w ∷ ws) h =
     let t = slots_fit n (suc a) ws h.1 in
     let u = slots_fit n (suc a) (w ∷ ws) h in
-    split (λ b. WalletsFit (cond b (some w.1 ∷ slots n (suc a) ws) (none ∷ slots n (suc a) (w ∷ ws)))) (eqb w.0 a) (λ e. (h.0.money_fits, t)) (λ e. (tt, u))
+    split (λ b. WalletsFit (cond b (Some w.1 ∷ slots n (suc a) ws) (None ∷ slots n (suc a) (w ∷ ws)))) (eqb w.0 a) (λ e. (h.0.money_fits, t)) (λ e. (tt, u))
 
-some_restored : (fs ws : List (Option Funds)) (i : ℕ) → is_some (get_or (restored_wallets fs ws) i none) ≡ is_some (get_or fs i none)
+some_restored : (fs ws : List (Option Funds)) (i : ℕ) → is_some (get_or (restored_wallets fs ws) i None) ≡ is_some (get_or fs i None)
 some_restored [] ws i = refl
 some_restored (f ∷ fs) [] zero = refl
 some_restored (f ∷ fs) [] (suc i) = some_restored fs [] i
-some_restored (none ∷ fs) (w ∷ ws) zero = refl
-some_restored (some f ∷ fs) (w ∷ ws) zero = refl
+some_restored (None ∷ fs) (w ∷ ws) zero = refl
+some_restored (Some f ∷ fs) (w ∷ ws) zero = refl
 some_restored (f ∷ fs) (w ∷ ws) (suc i) = some_restored fs ws i
 
 restored_length : (fs ws : List (Option Funds)) → length (restored_wallets fs ws) ≡ length fs
@@ -266,10 +264,10 @@ empty_feed : (fee : ℤ) (ws : List (Option Funds)) (os : List Order) → length
 unfolding levels_fit depth_few levels_few
 empty_feed fee ws os h = record { ascending = tt; fit = refl; few = refl; few_trades = omega arith; few_notices = omega (arith, notices_few fee ws os) }
 
-restore_saved_begins : (fee : ℤ) (limit : ℕ) (l : List Account) (timing : Timing) (s : Saved) → AccountsFit l → SavedFits s → Begins Ok (restore_saved fee limit l timing s)
+restore_saved_begins : (fee : ℤ) (limit : ℕ) (l : List Account) (timing : Timing) (s : Saved) → AccountsFit l → SavedFits s → Begins GatewayOk (restore_saved fee limit l timing s)
 unfolding restore_saved
 restore_saved_begins fee limit l timing s a f =
-    start_begins Ok _ (restore_tests fee limit l s) λ p.
+    start_begins GatewayOk _ (restore_tests fee limit l s) λ p.
     let t = pass_append (saved_tests limit l s) ((outside, holds_fit (restored_ledger fee (accounts_of limit l) s)) ∷ []) p in
     let size = accounts_length limit l in
     let k = restored_ledger fee (accounts_of limit l) s in
@@ -298,21 +296,21 @@ restore_saved_begins fee limit l timing s a f =
       rest_is = begin_ok timing k (accounts_of limit l) empty_depth (each (hold_notice_of fee k.wallets) k.orders) (empty_feed fee k.wallets k.orders f.orders_fit.few);
     }
 
-pub restore_begins : (fee : ℤ) (limit : ℕ) (l : List Account) (timing : Timing) (xs : List ℕ) → AccountsFit l → Bytes xs → Begins Ok (restore fee limit l timing xs)
+pub restore_begins : (fee : ℤ) (limit : ℕ) (l : List Account) (timing : Timing) (xs : List ℕ) → AccountsFit l → Bytes xs → Begins GatewayOk (restore fee limit l timing xs)
 unfolding restore
-restore_begins fee limit l timing xs a b = charging_begins Ok fee _ (λ charge. go (decode xs) (λ s e. decode_fits xs s b e))
+restore_begins fee limit l timing xs a b = charging_begins GatewayOk fee _ (λ charge. go (decode xs) (λ s e. decode_fits xs s b e))
   where
-    go : (o : Option Saved) → ((s : Saved) → o ≡ some s → SavedFits s) → Begins Ok (option (not_started malformed) (restore_saved fee limit l timing) o)
-    go none h = tt
-    go (some s) h = restore_saved_begins fee limit l timing s a (h s refl)
+    go : (o : Option Saved) → ((s : Saved) → o ≡ Some s → SavedFits s) → Begins GatewayOk (option (not_started malformed) (restore_saved fee limit l timing) o)
+    go None h = tt
+    go (Some s) h = restore_saved_begins fee limit l timing s a (h s refl)
 
 pub restore_given : (fee : ℤ) (limit : ℕ) (l : List Account) (timing : Timing) (xs : List ℕ) → Begins (Given fee limit l) (restore fee limit l timing xs)
 unfolding restore restore_saved
 restore_given fee limit l timing xs = charging_begins (Given fee limit l) fee _ (go (decode xs))
   where
     go : (o : Option Saved) → le_z (pos 0) fee ≡ true → Begins (Given fee limit l) (option (not_started malformed) (restore_saved fee limit l timing) o)
-    go none charge = tt
-    go (some s) charge =
+    go None charge = tt
+    go (Some s) charge =
         start_begins (Given fee limit l) _ (restore_tests fee limit l s) λ p.
         let t = pass_append (saved_tests limit l s) ((outside, holds_fit (restored_ledger fee (accounts_of limit l) s)) ∷ []) p in
         record { table = refl; below = t.0.1.0; size = accounts_length limit l; fee_is = refl; fee_good = charge }
@@ -322,15 +320,15 @@ restore_given fee limit l timing xs = charging_begins (Given fee limit l) fee _ 
 saved_wallets : (k : ℕ) (t : List (Option Account)) (ws : List (Option Funds)) → Owned t ws → k + length t ≤ owner_slots → WalletsFit ws →
     Each SavedWallet (saved_from k ws) × (Rises (λ w. w.0) k (saved_from k ws) × (length (saved_from k ws) ≤ length ws))
 saved_wallets k t [] o l h = (tt, (tt, omega arith))
-saved_wallets k [] (none ∷ ws) o l h = absurd_or (nothing_saved (suc k) ws (λ i. o (suc i)))
+saved_wallets k [] (None ∷ ws) o l h = absurd_or (nothing_saved (suc k) ws (λ i. o (suc i)))
   where
     absurd_or : saved_from (suc k) ws ≡ [] → Each SavedWallet (saved_from (suc k) ws) × (Rises (λ w. w.0) k (saved_from (suc k) ws) × (length (saved_from (suc k) ws) ≤ suc (length ws)))
     absurd_or e = rw e (tt, (tt, omega arith))
-saved_wallets k [] (some w ∷ ws) o l h = absurd (let e = o 0 in let z : ◌≡◌ {A = ℕ} 0 1 = cc in omega (arith, z))
-saved_wallets k (a ∷ t) (none ∷ ws) o l h =
+saved_wallets k [] (Some w ∷ ws) o l h = absurd (let e = o 0 in let z : ◌≡◌ {A = ℕ} 0 1 = cc in omega (arith, z))
+saved_wallets k (a ∷ t) (None ∷ ws) o l h =
     let u = saved_wallets (suc k) t ws (λ i. o (suc i)) (omega arith) h.1 in
     (u.0, (rises_from (λ w. w.0) k (suc k) (omega arith) (saved_from (suc k) ws) u.1.0, omega (arith, u.1.1)))
-saved_wallets k (a ∷ t) (some w ∷ ws) o l h =
+saved_wallets k (a ∷ t) (Some w ∷ ws) o l h =
     let u = saved_wallets (suc k) t ws (λ i. o (suc i)) (omega arith) h.1 in
     ((record { account_fits = omega (arith, l); money_fits = h.0 }, u.0), ((omega arith, u.1.0), omega (arith, u.1.1)))
 

@@ -1,9 +1,9 @@
 -- The checkpoint's bytes. Contents that fit are read back from their bytes; bytes that are read are the only ones for their contents, which fit; the
 -- bytes are below 256, and their number is that of document 01, at most 43,033. Assumes nothing.
+use Rattle.std.specs.Prelude.{Option, Some, None, is_some}
 use Prim.Native.Nat.{ℕ, suc, ◌+◌, ◌*◌, ◌^◌, ◌/◌, ◌%◌, ◌<◌, ◌≤◌}
 use mathlib.Core.Bool.{Bool, true, cond, ◌&&◌, ◌||◌, and-eq-true_iff}
 use mathlib.Core.Path.{◌≡◌, refl, ap, ap₂, sym, ◌∙◌, subst}
-use mathlib.Core.Option.{Option, none, some}
 use mathlib.Core.List.{List, [], ◌∷◌, ◌++◌, map, append-nil}
 use native.Mathlib.Omega.{arith}
 use borrow.Author.Tests.{leb-true, le-leb, eqb-true, eqb-false}
@@ -16,13 +16,10 @@ use mir.Val.{of_z, to_z, SFits}
 use mir.ValLaws.{to_z-Fits, of_z-to_z}
 use Rattle.orderbook.specs.declared.Side.{Side}
 use Rattle.orderbook.specs.declared.Side.TheVariants.{Buy, Sell}
-use Rattle.orderbook.specs.declared.MaybePrice.{MaybePrice}
-use Rattle.orderbook.specs.declared.MaybePrice.TheVariants.{None, Some}
 use Rattle.accounts.specs.declared.Funds.{Funds}
 use Rattle.words.specs.Words.{place_of, fit_in, inside, above, modulus}
 use Rattle.table.specs.Live.{Each}
 use Rattle.gateway.specs.Limits.{owner_slots, most_orders}
-use Rattle.gateway.specs.Basics.{is_some}
 use Rattle.gateway.specs.Ledger.{Order, fits, number_of}
 use Rattle.gateway.specs.Fits.{Unsigned, Signed, PriceFits, FundsFit, Bytes}
 use Rattle.gateway.specs.Saved.{Saved}
@@ -41,11 +38,11 @@ record RawFits (r : Raw) : Type 0 where
   wallets_fit : FitRows wallet_widths r.wallets
   orders_fit : FitRows order_widths r.orders
 
-raw_back : (r : Raw) → RawFits r → read_raw (write_raw r) ≡ some r
+raw_back : (r : Raw) → RawFits r → read_raw (write_raw r) ≡ Some r
 raw_back r f =
     let os = section order_widths r.orders in
     let ws = section wallet_widths r.wallets in
-    let e : read_section order_widths os ≡ some (r.orders, []) = ap (read_section order_widths) (sym (append-nil os)) ∙ section_back order_widths r.orders f.orders_fit [] in
+    let e : read_section order_widths os ≡ Some (r.orders, []) = ap (read_section order_widths) (sym (append-nil os)) ∙ section_back order_widths r.orders f.orders_fit [] in
     rw (row_back f.head_fits (ws ++ os), section_back wallet_widths r.wallets f.wallets_fit os, e)
 
 parts_only : (xs : List ℕ) → Bytes xs → Of (Wrote RawFits write_raw xs) (read_parts xs)
@@ -61,8 +58,8 @@ parts_only xs b =
 
 -- P of what there is
 abbrev Holds : {A : Type 0} → (A → Type 0) → Option A → Type 0
-Holds P none = Unit {0}
-Holds P (some a) = P a
+Holds P None = Unit {0}
+Holds P (Some a) = P a
 
 whole_only : {A : Type 0} {Good : A → Type 0} {write : A → List ℕ} {xs : List ℕ} {r : Read A} → Of (Wrote Good write xs) r → Holds (λ a. Good a × (write a ≡ xs)) (whole r)
 whole_only missing = tt
@@ -89,7 +86,7 @@ word_fits w h = go (to_z w64 w) (to_z-Fits w64 w (record { fits = h }))
     go (negsuc n) h = rw (le-leb n 9223372036854775807 (omega (arith, h.sfits)))
 
 -- a price that fits: its fields fit and are well formed, and give it back
-price_back : (p : MaybePrice) → PriceFits p → (price_flag p < 2) × Unsigned (price_word p) × (price_ok (price_flag p) (price_word p) ≡ true) × (price_from (price_flag p) (price_word p) ≡ p)
+price_back : (p : Option ℤ) → PriceFits p → (price_flag p < 2) × Unsigned (price_word p) × (price_ok (price_flag p) (price_word p) ≡ true) × (price_from (price_flag p) (price_word p) ≡ p)
 price_back None h = (omega arith, omega arith, refl, refl)
 price_back (Some p) h = (omega arith, word_of p h, refl, ap Some (word_back p h))
 
@@ -243,26 +240,26 @@ saved_only r f e =
     (record { last_fits = h.0; mark_fits = h.1; wallets_fit = w.0; orders_fit = o.0 }, rw (h.2, w.1, o.1))
 
 -- contents that fit are read back from their bytes
-pub decode_encode : (s : Saved) → SavedFits s → decode (encode s) ≡ some s
+pub decode_encode : (s : Saved) → SavedFits s → decode (encode s) ≡ Some s
 unfolding decode encode
 decode_encode s f = let t = saved_back s f in rw (raw_back (raw s) t.0, t.1, t.2)
 
 checked_only : (xs : List ℕ) (o : Option Raw) → Holds (λ r. RawFits r × (write_raw r ≡ xs)) o → Holds (λ s. SavedFits s × (encode s ≡ xs)) (checked o)
 unfolding encode
-checked_only xs none h = tt
-checked_only xs (some r) h =
-    split (λ b. (well_formed r ≡ b) → Holds (λ s. SavedFits s × (encode s ≡ xs)) (cond b (some (saved r)) none)) (well_formed r)
+checked_only xs None h = tt
+checked_only xs (Some r) h =
+    split (λ b. (well_formed r ≡ b) → Holds (λ s. SavedFits s × (encode s ≡ xs)) (cond b (Some (saved r)) None)) (well_formed r)
     (λ _ e. let u = saved_only r h.0 e in (u.0, ap write_raw u.1 ∙ h.1)) (λ _ e. tt) refl
 
 -- bytes that are read hold contents that fit, and are those written for them
-decode_only : (xs : List ℕ) (s : Saved) → Bytes xs → decode xs ≡ some s → SavedFits s × (encode s ≡ xs)
+decode_only : (xs : List ℕ) (s : Saved) → Bytes xs → decode xs ≡ Some s → SavedFits s × (encode s ≡ xs)
 unfolding decode
 decode_only xs s b e = subst (Holds (λ s. SavedFits s × (encode s ≡ xs))) e (checked_only xs (read_raw xs) (whole_only (parts_only xs b)))
 
-pub encode_decode : (xs : List ℕ) (s : Saved) → Bytes xs → decode xs ≡ some s → encode s ≡ xs
+pub encode_decode : (xs : List ℕ) (s : Saved) → Bytes xs → decode xs ≡ Some s → encode s ≡ xs
 encode_decode xs s b e = (decode_only xs s b e).1
 
-pub decode_fits : (xs : List ℕ) (s : Saved) → Bytes xs → decode xs ≡ some s → SavedFits s
+pub decode_fits : (xs : List ℕ) (s : Saved) → Bytes xs → decode xs ≡ Some s → SavedFits s
 decode_fits xs s b e = (decode_only xs s b e).0
 
 -- ---- bytes and lengths

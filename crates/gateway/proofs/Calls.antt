@@ -1,8 +1,8 @@
 -- Every call's plan is good: an item that it records passes replay's checks, and the rest keeps its invariant. Assumes nothing.
-use Prim.Native.Nat.{ℕ, zero, suc, ◌+◌, ◌-◌, ◌<◌, ◌≤◌}
+use Rattle.std.specs.Prelude.{Option, Some, None, option_map, is_some}
+use Prim.Native.Nat.{ℕ, zero, suc, ◌<◌, ◌≤◌}
 use mathlib.Core.Bool.{Bool, true, false, cond, not, ◌||◌, and-eq-true_iff}
 use mathlib.Core.Path.{◌≡◌, refl, ap, sym, ◌∙◌, subst}
-use mathlib.Core.Option.{Option, none, some, map}
 use mathlib.Core.List.{List, [], ◌∷◌, ◌++◌, append-nil}
 use native.Mathlib.Omega.{arith}
 use borrow.Author.Tests.{ltb-true, lt-ltb, leb-true, le-leb, eq-eqb, eqb-true}
@@ -11,7 +11,7 @@ use lib.Seq.{get_or-set_same}
 use lib.Dec.{ltb, leb}
 use Rattle.orderbook.specs.declared.Side.{Side}
 use Rattle.orderbook.specs.declared.Command.{Command}
-use Rattle.orderbook.specs.declared.Command.TheVariants.{Limit, Market, Cancel, Modify, Stop, CancelAll}
+use Rattle.orderbook.specs.declared.Command.TheVariants.{Cancel, Modify, CancelAll}
 use Rattle.orderbook.specs.declared.Event.{Event}
 use Rattle.orderbook.specs.declared.Listed.{Listed}
 use Rattle.protocol.specs.declared.Inbound.{Inbound}
@@ -23,8 +23,8 @@ use Rattle.protocol.specs.declared.Outbound.TheVariants as Out
 use Rattle.protocol.specs.declared.RejectCode.{RejectCode}
 use Rattle.protocol.specs.declared.RejectCode.TheVariants.{Unavailable, NotAllowed}
 use Rattle.accounts.specs.declared.Account.{Account}
-use Rattle.gateway.specs.Basics.{option, is_some}
-use Rattle.gateway.specs.Limits.{owner_slots, most_orders, most_in_flight, most_in_batch, most_trades, most_notices, full}
+use Rattle.gateway.specs.Basics.{option}
+use Rattle.gateway.specs.Limits.{most_orders, most_in_flight, most_in_batch, most_trades, most_notices, full}
 use Rattle.gateway.specs.Ledger.{account, command, event, order_of, owner_of, placed, step, wallets_fit, holds_fit}
 use Rattle.gateway.specs.Core.{Tests, Pass, system, Flight, Core, account_at, drop_below, is_first, places, own_number, owner_below, fits_after, event_tests, tests}
 use Rattle.gateway.specs.Depth.{depth_few, levels_few}
@@ -40,7 +40,7 @@ use Rattle.gateway.proofs.Invariant.{runs_below, ItemFits}
 use Rattle.gateway.proofs.Sessions.{Alike, alike_ok, set_alike, update_alike, closed_alike, stamped_alike, emptied_ok, nobody, taken_ok}
 use Rattle.gateway.proofs.Feed.{apply_rises, published_ok}
 use Rattle.gateway.proofs.Listing.{agrees_distinct, resting_rises, resting_length}
-use Rattle.gateway.specs.Invariant.{CoreOk, FeedOk, Known, RestOk, Runs, SessionsOk}
+use Rattle.gateway.specs.Invariant.{CoreOk, Known, RestOk, Runs}
 use Rattle.words.specs.Words.{modulus}
 
 -- that the numbers of what is recorded fit may hang on a fact F about the call
@@ -77,21 +77,21 @@ pass_append (x ∷ xs) ys h = let t = pass_append xs ys h.1 in ((h.0, t.0), t.1)
 
 -- ---- accounts that exist
 
-not_none : {A : Type 0} {x : A} → some x ≡ none → ⊥
+not_none : {A : Type 0} {x : A} → Some x ≡ None → ⊥
 not_none e = let z : ◌≡◌ {A = ℕ} 0 1 = cc in omega arith
 
 -- a slot that holds something is within the list
-pub held_slot : {A : Type 0} (xs : List (Option A)) (s : ℕ) (y : A) → get_or xs s none ≡ some y → s < length xs
+pub held_slot : {A : Type 0} (xs : List (Option A)) (s : ℕ) (y : A) → get_or xs s None ≡ Some y → s < length xs
 held_slot [] s y h = absurd (not_none (sym h))
 held_slot (x ∷ xs) zero y h = omega arith
 held_slot (x ∷ xs) (suc s) y h = let t = held_slot xs s y h in omega arith
 
-pub known_below : (t : List (Option Account)) (a : ℕ) → Known t (some a) → a < length t
-known_below t a h = go (get_or t a none) refl h
+pub known_below : (t : List (Option Account)) (a : ℕ) → Known t (Some a) → a < length t
+known_below t a h = go (get_or t a None) refl h
   where
-    go : (o : Option Account) → get_or t a none ≡ o → is_some o ≡ true → a < length t
-    go none e q = absurd (let z : ◌≡◌ {A = ℕ} 0 1 = cc in omega (arith, z))
-    go (some x) e q = held_slot t a x e
+    go : (o : Option Account) → get_or t a None ≡ o → is_some o ≡ true → a < length t
+    go None e q = absurd (let z : ◌≡◌ {A = ℕ} 0 1 = cc in omega (arith, z))
+    go (Some x) e q = held_slot t a x e
 
 -- ---- what keeps the rest
 
@@ -125,7 +125,7 @@ stamped_rest t last ms r ok = subst (RestOk t last) (sym (stamped_is ms r)) (ali
 -- ---- numbering
 
 -- a command that places nothing leaves the holds
-no_more : (c : Core) (n : ℕ) (k : Command) → order_of k ≡ none → CoreOk c → fits_after (command n k) c ≡ true
+no_more : (c : Core) (n : ℕ) (k : Command) → order_of k ≡ None → CoreOk c → fits_after (command n k) c ≡ true
 unfolding step holds_fit
 no_more c n k e ok =
     ap (λ x. wallets_fit c.ledger.fee 0 c.ledger.wallets (c.ledger.orders ++ placed 0 n (owner_of k) x)) e
@@ -148,7 +148,7 @@ queued_ok t last k r h ok =
     }
 
 -- a command that places nothing, numbered where there is room
-numbered_good : (F : Type 0) {A : Type 0} (x : A) (s : Option ℕ) (k : Command) (c : Core) (r : Rest) → order_of k ≡ none → own_number (next c) k ≡ true →
+numbered_good : (F : Type 0) {A : Type 0} (x : A) (s : Option ℕ) (k : Command) (c : Core) (r : Rest) → order_of k ≡ None → own_number (next c) k ≡ true →
     owner_below (length c.accounts) k ≡ true → CommandFits k → CoreOk c → RestOk c.accounts c.ledger.last r →
     Pass (can_number x c r) → Good F c (numbered s k c r)
 numbered_good F x s k c r e o w f ok rok t = (
@@ -223,11 +223,11 @@ ended_ok t last s r ok = update_rest t last s set_closing (λ x. refl) r ok
 abbrev may_modify : ℕ → Core → Tests RejectCode
 may_modify a c = (NotAllowed, not (is_some (wallet_at a c))) ∷ []
 
-enter_other_good : (F : Type 0) (s : ℕ) (own : Tests RejectCode) (k : Command) (c : Core) (r : Rest) → order_of k ≡ none → own_number (next c) k ≡ true →
+enter_other_good : (F : Type 0) (s : ℕ) (own : Tests RejectCode) (k : Command) (c : Core) (r : Rest) → order_of k ≡ None → own_number (next c) k ≡ true →
     owner_below (length c.accounts) k ≡ true → CommandFits k → CoreOk c → RestOk c.accounts c.ledger.last r → Good F c (enter_other s own k c r)
 enter_other_good F s own k c r e o w f ok rok =
-    unless_good F c (reject s 0 r) (numbered (some s) k c r) (own ++ can_number Unavailable c r) (λ x. rok)
-    (λ t. numbered_good F Unavailable (some s) k c r e o w f ok rok (pass_append own (can_number Unavailable c r) t).1)
+    unless_good F c (reject s 0 r) (numbered (Some s) k c r) (own ++ can_number Unavailable c r) (λ x. rok)
+    (λ t. numbered_good F Unavailable (Some s) k c r e o w f ok rok (pass_append own (can_number Unavailable c r) t).1)
 
 hear_good : (F : Type 0) (s a : ℕ) (m : Inbound) (c : Core) (r : Rest) → (F → InboundFits m) → a < length c.accounts → CoreOk c → RestOk c.accounts c.ledger.last r →
     Good F c (hear s a m c r)
@@ -247,27 +247,27 @@ hear_good F s a In.MassCancel c r f l ok rok =
 
 -- ---- logging in
 
-token_held : (t : ℕ) (o : Option Account) → token_is t o ≡ true → (a : Account) × (o ≡ some a)
-token_held t none h = absurd (let z : ◌≡◌ {A = ℕ} 0 1 = cc in omega (arith, z))
-token_held t (some a) h = (a, refl)
+token_held : (t : ℕ) (o : Option Account) → token_is t o ≡ true → (a : Account) × (o ≡ Some a)
+token_held t None h = absurd (let z : ◌≡◌ {A = ℕ} 0 1 = cc in omega (arith, z))
+token_held t (Some a) h = (a, refl)
 
 not_some : (b : Bool) → not b ≡ true → b ≡ false
 not_some true h = sym h
 not_some false h = refl
 
-logged_in_good : (F : Type 0) (s a : ℕ) (y : Session) (c : Core) (r : Rest) → session_at s r ≡ some y → Known c.accounts (some a) → is_some (session_of a r) ≡ false →
+logged_in_good : (F : Type 0) (s a : ℕ) (y : Session) (c : Core) (r : Rest) → session_at s r ≡ Some y → Known c.accounts (Some a) → is_some (session_of a r) ≡ false →
     RestOk c.accounts c.ledger.last r → Good F c (logged_in s a c r)
 logged_in_good F s a y c r e l n ok =
     record {
       sessions =
-          taken_ok _ a s r.sessions _ (ap (λ o. account_of (map (set_account a) o)) e) l (held_slot r.sessions s y e) (nobody a 0 r.sessions n) ok.sessions;
+          taken_ok _ a s r.sessions _ (ap (λ o. account_of (option_map (set_account a) o)) e) l (held_slot r.sessions s y e) (nobody a 0 r.sessions n) ok.sessions;
       buckets = ok.buckets;
       batch = ok.batch;
       delivered = ok.delivered;
       feed = ok.feed;
     }
 
-greet_good : (F : Type 0) (s : ℕ) (y : Session) (m : Inbound) (c : Core) (r : Rest) → session_at s r ≡ some y → RestOk c.accounts c.ledger.last r → Good F c (greet s m c r)
+greet_good : (F : Type 0) (s : ℕ) (y : Session) (m : Inbound) (c : Core) (r : Rest) → session_at s r ≡ Some y → RestOk c.accounts c.ledger.last r → Good F c (greet s m c r)
 unfolding greet
 greet_good F s y (In.Login version a token) c r e ok =
     unless_good F c _ (logged_in s a c r) (login_tests version a token c r) (λ why. ended_ok _ _ s r ok)
@@ -282,18 +282,18 @@ greet_good F s y (In.Modify i p q) c r e ok = ended_ok _ _ s r ok
 greet_good F s y In.MassCancel c r e ok = ended_ok _ _ s r ok
 greet_good F s y In.Subscribe c r e ok = ended_ok _ _ s r ok
 
-present_some : (x : Option Session) → is_present x ≡ true → (y : Session) × (x ≡ some y)
-present_some none h = absurd (let z : ◌≡◌ {A = ℕ} 0 1 = cc in omega (arith, z))
-present_some (some y) h = (y, refl)
+present_some : (x : Option Session) → is_present x ≡ true → (y : Session) × (x ≡ Some y)
+present_some None h = absurd (let z : ◌≡◌ {A = ℕ} 0 1 = cc in omega (arith, z))
+present_some (Some y) h = (y, refl)
 
 -- updating a session that is there leaves one there
-updated_there : (s : ℕ) (y : Session) (f : Session → Session) (r : Rest) → session_at s r ≡ some y → session_at s (update_session s f r) ≡ some (f y)
-updated_there s y f r e = get_or-set_same r.sessions s _ none (held_slot r.sessions s y e) ∙ ap (map f) e
+updated_there : (s : ℕ) (y : Session) (f : Session → Session) (r : Rest) → session_at s r ≡ Some y → session_at s (update_session s f r) ≡ Some (f y)
+updated_there s y f r e = get_or-set_same r.sessions s _ None (held_slot r.sessions s y e) ∙ ap (option_map f) e
 
-heard_good : (F : Type 0) (s : ℕ) (y : Session) (m : Inbound) (c : Core) (r : Rest) (a : Option ℕ) → (F → InboundFits m) → session_at s r ≡ some y → Known c.accounts a →
+heard_good : (F : Type 0) (s : ℕ) (y : Session) (m : Inbound) (c : Core) (r : Rest) (a : Option ℕ) → (F → InboundFits m) → session_at s r ≡ Some y → Known c.accounts a →
     CoreOk c → RestOk c.accounts c.ledger.last r → Good F c (option (greet s m c r) (λ b. hear s b m c r) a)
-heard_good F s y m c r none f e l ok rok = greet_good F s y m c r e rok
-heard_good F s y m c r (some a) f e l ok rok = hear_good F s a m c r f (known_below c.accounts a l) ok rok
+heard_good F s y m c r None f e l ok rok = greet_good F s y m c r e rok
+heard_good F s y m c r (Some a) f e l ok rok = hear_good F s a m c r f (known_below c.accounts a l) ok rok
 
 receive_good : (F : Type 0) (s : ℕ) (m : Inbound) (c : Core) (r : Rest) → (F → InboundFits m) → CoreOk c → RestOk c.accounts c.ledger.last r → Good F c (receive s m c r)
 unfolding receive
@@ -346,9 +346,9 @@ deliver_good F n e c r f ok rok t =
 
 gone_good : (F : Type 0) (a : Option ℕ) (c : Core) (r : Rest) → Known c.accounts a → CoreOk c → RestOk c.accounts c.ledger.last r → Good F c (gone a c r)
 unfolding order_of own_number owner_below
-gone_good F none c r l ok rok = rok
-gone_good F (some a) c r l ok rok =
-    guard_good F c (numbered none (CancelAll a) c r) (can_number full c r) (λ t. numbered_good F full none (CancelAll a) c r refl refl (lt-ltb a _ (known_below c.accounts a l)) tt ok rok t)
+gone_good F None c r l ok rok = rok
+gone_good F (Some a) c r l ok rok =
+    guard_good F c (numbered None (CancelAll a) c r) (can_number full c r) (λ t. numbered_good F full None (CancelAll a) c r refl refl (lt-ltb a _ (known_below c.accounts a l)) tt ok rok t)
 
 pub listed_few : (xs : List Listed) (m : ℕ) → length xs ≡ m → m ≤ most_orders → levels_few (listed_depth xs).resting ≡ true → depth_few (listed_depth xs) ≡ true
 unfolding depth_few
@@ -382,12 +382,12 @@ plan_good F c r (add_account a) f ok rok =
     guard_good F c (records system (account a) [] (joined a r)) (tests (account a) c)
     (λ t. (t, ((λ u. (omega arith, f u)), record { sessions = rok.sessions; buckets = rw length-set rok.buckets; batch = rok.batch; delivered = rok.delivered; feed = rok.feed })))
 plan_good F c r (connect s t) f ok rok =
-    guard_good F c (sends [] (at_time t (with_sessions (set r.sessions s (some (fresh_session t))) r))) _
-    (λ u. timed_rest _ _ t _ (alike_rest _ _ _ r (set_alike r.sessions s (some (fresh_session t)) (empty_slot (session_at s r) u.1.0)) rok))
+    guard_good F c (sends [] (at_time t (with_sessions (set r.sessions s (Some (fresh_session t))) r))) _
+    (λ u. timed_rest _ _ t _ (alike_rest _ _ _ r (set_alike r.sessions s (Some (fresh_session t)) (empty_slot (session_at s r) u.1.0)) rok))
   where
-    empty_slot : (x : Option Session) → not (is_some x) ≡ true → none ≡ account_of x
-    empty_slot none h = refl
-    empty_slot (some x) h = absurd (let z : ◌≡◌ {A = ℕ} 0 1 = cc in omega (arith, z))
+    empty_slot : (x : Option Session) → not (is_some x) ≡ true → None ≡ account_of x
+    empty_slot None h = refl
+    empty_slot (Some x) h = absurd (let z : ◌≡◌ {A = ℕ} 0 1 = cc in omega (arith, z))
 plan_good F c r (set_paper_collar p) f ok rok =
     record { sessions = rok.sessions; buckets = rok.buckets; batch = rok.batch; delivered = rok.delivered; feed = rok.feed }
 plan_good F c r (wallet a) f ok rok = rok

@@ -1,6 +1,6 @@
 -- The claims of specs/Claims.antt, each from its own file. Assumes nothing.
 use mathlib.Core.Path.{subst}
-use Rattle.gateway.specs.Invariant.{Ok}
+use Rattle.gateway.specs.Invariant.{GatewayOk}
 use Rattle.gateway.specs.Saved.{contents}
 use Rattle.gateway.specs.Claims.{Lasting, ReadsBack, Claims}
 use Rattle.gateway.proofs.Bytes.{decode_encode, encode_decode, encode_bytes, encode_short}
@@ -17,8 +17,8 @@ use Rattle.gateway.proofs.Fee.{charges, no_fee}
 lasting : Lasting
 lasting =
     record {
-      set_up_ok = λ fee limit last l listing timing g f a x e. subst (Begins Ok) e (set_up_begins fee limit last l listing timing f a x);
-      restore_ok = λ fee limit l timing bs g a b e. subst (Begins Ok) e (restore_begins fee limit l timing bs a b);
+      set_up_ok = λ fee limit last l listing timing g f a x e. subst (Begins GatewayOk) e (set_up_begins fee limit last l listing timing f a x);
+      restore_ok = λ fee limit l timing bs g a b e. subst (Begins GatewayOk) e (restore_begins fee limit l timing bs a b);
       call_ok = call_ok;
     }
 

@@ -1,8 +1,8 @@
 -- Counts are counted: what `Counts` of specs/Claims.antt claims. Assumes nothing.
+use Rattle.std.specs.Prelude.{Option, Some, None}
 use Prim.Native.Nat.{ℕ, suc, ◌+◌, ◌<◌, ◌≤◌}
 use mathlib.Core.Bool.{Bool, true, false, cond, ◌&&◌, and-eq-true_iff, true≢false}
 use mathlib.Core.Path.{◌≡◌, refl, ap, ap₂, sym, ◌∙◌}
-use mathlib.Core.Option.{Option, none, some}
 use mathlib.Core.List.{List, [], ◌∷◌, ◌++◌}
 use native.Mathlib.Omega.{arith}
 use borrow.Author.Tests.{ltb-true, ltb-false, lt-ltb, le-ltb, leb-true, le-leb}
@@ -171,10 +171,10 @@ module _ (s a : ℕ) (o : NewOrder) (c : Core) (r : Rest) where
       (λ q e. let n : ◌≡◌ {A = ℕ} 0 1 = cc in omega (arith, n))
     where
       paper : (k : OrderKind) (w : Option Funds) → Needs (is_code TooManyOrders) (option [] (paper_tests a o.side o.qty c r k) w)
-      paper k none = tt
-      paper (Kind.Limit z t d) (some w) = tt
-      paper Kind.Market (some w) = tt
-      paper (Kind.Stop t l) (some w) = tt
+      paper k None = tt
+      paper (Kind.Limit z t d) (Some w) = tt
+      paper Kind.Market (Some w) = tt
+      paper (Kind.Stop t l) (Some w) = tt
 
 pub counts : Counts
 counts =

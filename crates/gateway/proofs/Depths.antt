@@ -1,13 +1,14 @@
 -- Codes 7 and 5 for the depth. In plain words: where every level is in range and the tables have room, an order that goes or shows something else
 -- can put only its own level out of range, and only by showing more; and of the tables only that of the changed levels can grow.
 -- Assumes nothing.
+use Rattle.std.proofs.Math.Nat.{min-le_left}
+use Rattle.std.specs.Prelude.{Option, Some, None}
 use mathlib.Core.Path.{◌≡◌, refl, sym, ap, ap₂, ◌∙◌}
 use mathlib.Core.Bool.{Bool, true, false, cond, ◌&&◌, and-true, and-eq-true_iff}
-use mathlib.Core.Option.{Option, none, some}
 use mathlib.Core.List.{List, [], ◌∷◌}
-use Prim.Native.Nat.{ℕ, suc, ◌+◌, ◌-◌, ◌≤◌, ◌<◌}
+use Prim.Native.Nat.{ℕ, suc, ◌+◌, ◌-◌, ◌≤◌, ◌<◌, min}
 use native.Mathlib.Omega.{arith}
-use borrow.Author.Tests.{ltb-true, lt-ltb, le-leb, leb-false}
+use borrow.Author.Tests.{ltb-true, lt-ltb, le-leb}
 use lib.ListN.{length}
 use lib.Dec.{eqb, ltb, leb}
 use lib.IntN.{ℤ}
@@ -17,7 +18,7 @@ use Rattle.words.specs.Words.{modulus}
 use Rattle.gateway.specs.Basics.{option}
 use Rattle.gateway.specs.Limits.{most_orders, most_levels, most_changed}
 use Rattle.gateway.specs.Ledger.{same_side}
-use Rattle.gateway.specs.Depth.{Resting, Level, Depth, same_price, levels, level_in, key_of, remember, resting_number, find_resting, showing, show, take_off, where_resting, filled, modified, lesser, quantities_fit, levels_fit, levels_few, depth_few}
+use Rattle.gateway.specs.Depth.{Resting, Level, Depth, same_price, levels, level_in, key_of, remember, resting_number, find_resting, showing, show, take_off, where_resting, filled, modified, quantities_fit, levels_fit, levels_few, depth_few}
 use Rattle.gateway.proofs.Base.{split}
 use Rattle.gateway.proofs.Sorted.{look_key, look_without, look_replace, length_without, length_replace}
 use Rattle.gateway.proofs.Feed.{Ascending, Alters, goes, shows, Acts, where_rises}
@@ -114,7 +115,7 @@ changed_decides d f = rw (le-leb _ _ f.orders, le-leb _ _ (f.sides Buy), le-leb 
 
 -- ---- an order that rests goes, or shows something else
 
-module _ (o : Resting) (d : Depth) (asc : Ascending d) (there : find_resting o.number d.resting ≡ some o) where
+module _ (o : Resting) (d : Depth) (asc : Ascending d) (there : find_resting o.number d.resting ≡ Some o) where
   -- code 7
   module _ (fit : levels_fit d.resting ≡ true) where
     pub off_fits : levels_fit (take_off o d).resting ≡ true
@@ -171,15 +172,15 @@ pub record After (n : ℕ) (d e : Depth) : Type 0 where
   pub others : (k : ℕ) → (k ≡ n → ⊥) → find_resting k e.resting ≡ find_resting k d.resting
 
 module _ (n : ℕ) (f : Resting → Depth → Depth) (d : Depth) (asc : Ascending d) where
-  there : (o : Resting) → find_resting n d.resting ≡ some o → find_resting o.number d.resting ≡ some o
+  there : (o : Resting) → find_resting n d.resting ≡ Some o → find_resting o.number d.resting ≡ Some o
   there o e = ap (λ k. find_resting k d.resting) (look_key resting_number n o d.resting e) ∙ e
 
   pub after : Acts f → After n d (where_resting n f d)
   after acts = go (find_resting n d.resting) refl (where_rises n f acts d asc)
     where
       go : (x : Option Resting) → find_resting n d.resting ≡ x → Ascending (option d (λ o. f o d) x) → After n d (option d (λ o. f o d) x)
-      go none e r = record { ascending = r; counts = λ h. h; changed_is = sym (ap (option d.changed (λ o. remember (key_of o) d.changed)) e); others = λ k h. refl }
-      go (some o) e r =
+      go None e r = record { ascending = r; counts = λ h. h; changed_is = sym (ap (option d.changed (λ o. remember (key_of o) d.changed)) e); others = λ k h. refl }
+      go (Some o) e r =
           record {
             ascending = r;
             counts = alters_counts o d asc (there o e) (acts o d);
@@ -188,15 +189,12 @@ module _ (n : ℕ) (f : Resting → Depth → Depth) (d : Depth) (asc : Ascendin
           }
 
   -- code 7, from what it is for an order that rests
-  pub where_fits : levels_fit d.resting ≡ true → ((o : Resting) → find_resting o.number d.resting ≡ some o → levels_fit (f o d).resting ≡ true) → levels_fit (where_resting n f d).resting ≡ true
+  pub where_fits : levels_fit d.resting ≡ true → ((o : Resting) → find_resting o.number d.resting ≡ Some o → levels_fit (f o d).resting ≡ true) → levels_fit (where_resting n f d).resting ≡ true
   where_fits fit h = go (find_resting n d.resting) refl
     where
       go : (x : Option Resting) → find_resting n d.resting ≡ x → levels_fit (option d (λ o. f o d) x).resting ≡ true
-      go none e = fit
-      go (some o) e = h o (there o e)
-
-pub lesser_le : (a b : ℕ) → lesser a b ≤ a
-lesser_le a b = split (λ c. (leb a b ≡ c) → cond c a b ≤ a) (leb a b) (λ _ e. omega arith) (λ _ e. let h = leb-false a b e in omega arith) refl
+      go None e = fit
+      go (Some o) e = h o (there o e)
 
 module _ (n : ℕ) (d : Depth) (asc : Ascending d) (fit : levels_fit d.resting ≡ true) where
   pub cancelled_fits : levels_fit (where_resting n take_off d).resting ≡ true
@@ -214,8 +212,8 @@ module _ (n : ℕ) (d : Depth) (asc : Ascending d) (fit : levels_fit d.resting �
   modified_fits p v =
       where_fits n (modified p v) d asc fit
       (λ o t.
-      split (λ b. levels_fit (cond b (show (showing (lesser o.visible v) v o) d) (take_off o d)).resting ≡ true) (ltb 0 v && (same_price p o.price && leb v o.leaves))
-      (λ _. lowered_fits o d asc t fit (lesser o.visible v) v (lesser_le o.visible v)) (λ _. off_fits o d asc t fit))
+      split (λ b. levels_fit (cond b (show (showing (min o.visible v) v o) d) (take_off o d)).resting ≡ true) (ltb 0 v && (same_price p o.price && leb v o.leaves))
+      (λ _. lowered_fits o d asc t fit (min o.visible v) v (min-le_left o.visible v)) (λ _. off_fits o d asc t fit))
 
 -- code 5 is then the room for its level
 pub after_few : (n : ℕ) (d e : Depth) → After n d e → depth_few d ≡ true →

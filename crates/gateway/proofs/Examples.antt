@@ -1,6 +1,5 @@
 -- The lists of specs/Examples.antt, computed by the checker. Assumes nothing.
 use mathlib.Core.Path.{refl}
-use mathlib.Core.List.{[]}
 use Rattle.gateway.specs.Ledger.{order_of, owner_of, changes, pay, paper, change, step, hold, fits, holds_fit}
 use Rattle.gateway.specs.Bytes.{well_formed, encode, decode}
 use Rattle.gateway.specs.Core.{own_number, owner_below, numbers_agree, names_below, tests}

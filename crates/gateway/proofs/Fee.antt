@@ -1,9 +1,9 @@
 -- What a booking fee changes, and that the fee 0 changes nothing: what `Charges` and `NoFee` of specs/Claims.antt claim. It enters the definitions in `hold`,
 -- `pay`, `covered` and `charging`, and every other one hands it on. Assumes nothing.
+use Rattle.std.specs.Prelude.{Option, Some, None, option_map, unwrap_or}
 use Prim.Native.Nat.{ℕ}
 use mathlib.Core.Bool.{false, cond, ◌&&◌}
 use mathlib.Core.Path.{◌≡◌, refl, ap, ap₂}
-use mathlib.Core.Option.{Option, none, some, get_or, map}
 use mathlib.Core.List.{List, [], ◌∷◌}
 use lib.IntN.{ℤ, pos, ◌+ℤ◌, ◌*ℤ◌, +ℤ_idr}
 use lib.Dec.{eqb}
@@ -11,13 +11,11 @@ use lib.Signed.{le_z}
 use lib.ListN.{set}
 use Rattle.orderbook.specs.declared.Side.{Side}
 use Rattle.orderbook.specs.declared.Side.TheVariants.{Buy, Sell}
-use Rattle.orderbook.specs.declared.MaybePrice.{MaybePrice}
-use Rattle.orderbook.specs.declared.MaybePrice.TheVariants.{None, Some}
 use Rattle.accounts.specs.declared.Funds.{Funds}
 use Rattle.words.specs.Words.{fit, most}
 use Rattle.wallet.specs.Wallet as W
 use Rattle.gateway.specs.Basics.{option}
-use Rattle.gateway.specs.Ledger.{Order, price_option, same_side, hold, held, wallet_of, pay}
+use Rattle.gateway.specs.Ledger.{Order, same_side, hold, held, wallet_of, pay}
 use Rattle.gateway.specs.Entry.{balance_with, covered}
 use Rattle.gateway.specs.Start.{Started, charging}
 use Rattle.gateway.specs.Claims.{sum_was, Charges, NoFee}
@@ -26,17 +24,17 @@ use Rattle.gateway.proofs.Invariant.{fees_stay}
 -- ---- every fee
 
 -- a buy holds (price + fee) × leaves, 0 where it does not fit; a sell holds what it held
-buy_holds : (fee p : ℤ) (v : ℕ) → hold fee Buy (Some p) v ≡ get_or (fit ((p +ℤ fee) *ℤ pos v)) (pos 0)
+buy_holds : (fee p : ℤ) (v : ℕ) → hold fee Buy (Some p) v ≡ unwrap_or (fit ((p +ℤ fee) *ℤ pos v)) (pos 0)
 unfolding hold
 buy_holds fee p v = refl
 
-sell_holds : (fee : ℤ) (p : MaybePrice) (v : ℕ) → hold fee Sell p v ≡ W.held Sell (price_option p) v
+sell_holds : (fee : ℤ) (p : Option ℤ) (v : ℕ) → hold fee Sell p v ≡ W.held Sell p v
 unfolding hold
 sell_holds fee None v = refl
 sell_holds fee (Some p) v = refl
 
 -- a fill takes (price + fee) × quantity from the buyer, 2^63 − 1 where it does not fit; the seller is paid the price
-buyer_pays : (fee p : ℤ) (q : ℕ) (f : Funds) → W.settle Buy (W.charged fee Buy p) q f ≡ W.bought (get_or (fit ((p +ℤ fee) *ℤ pos q)) most) (W.lots q) f
+buyer_pays : (fee p : ℤ) (q : ℕ) (f : Funds) → W.settle Buy (W.charged fee Buy p) q f ≡ W.bought (unwrap_or (fit ((p +ℤ fee) *ℤ pos q)) most) (W.lots q) f
 buyer_pays fee p q f = refl
 
 seller_is_paid : (fee p : ℤ) (q : ℕ) (f : Funds) → W.settle Sell (W.charged fee Sell p) q f ≡ W.settle Sell p q f
@@ -48,10 +46,10 @@ no_charge : (s : Side) (p : ℤ) → W.charged (pos 0) s p ≡ p
 no_charge Buy p = +ℤ_idr p
 no_charge Sell p = refl
 
-hold_was : (s : Side) (p : MaybePrice) (v : ℕ) → hold (pos 0) s p v ≡ W.held s (price_option p) v
+hold_was : (s : Side) (p : Option ℤ) (v : ℕ) → hold (pos 0) s p v ≡ W.held s p v
 unfolding hold
 hold_was s None v = refl
-hold_was s (Some p) v = ap (λ x. W.held s (some x) v) (no_charge s p)
+hold_was s (Some p) v = ap (λ x. W.held s (Some x) v) (no_charge s p)
 
 held_was : (a : ℕ) (s : Side) (os : List Order) → held (pos 0) a s os ≡ sum_was a s os
 held_was a s [] = refl
@@ -60,10 +58,10 @@ held_was a s (o ∷ os) =
 
 -- the account of the order is paid, or pays, the trade's price
 pay_was : (p : ℤ) (q : ℕ) (o : Option Order) (ws : List (Option Funds)) →
-    pay (pos 0) p q o ws ≡ option ws (λ x. set ws x.account (map (W.settle x.side p q) (wallet_of ws x))) o
+    pay (pos 0) p q o ws ≡ option ws (λ x. set ws x.account (option_map (W.settle x.side p q) (wallet_of ws x))) o
 unfolding pay
-pay_was p q none ws = refl
-pay_was p q (some x) ws = ap (λ y. set ws x.account (map (W.settle x.side y q) (wallet_of ws x))) (no_charge x.side p)
+pay_was p q None ws = refl
+pay_was p q (Some x) ws = ap (λ y. set ws x.account (option_map (W.settle x.side y q) (wallet_of ws x))) (no_charge x.side p)
 
 -- a wallet's limit order is asked to be paid for at its price
 covered_was : (s : Side) (p : ℤ) (q a : ℕ) (w : Funds) (os : List Order) →

@@ -1,8 +1,8 @@
 -- The depth's table stays ascending, and what waits to be published stays within its limits. Assumes nothing.
-use Prim.Native.Nat.{ℕ, ◌-◌}
+use Rattle.std.specs.Prelude.{Option, Some, None}
+use Prim.Native.Nat.{ℕ, ◌-◌, min}
 use mathlib.Core.Bool.{Bool, true, false, cond, not, ◌&&◌, and-eq-true_iff}
 use mathlib.Core.Path.{◌≡◌, refl, sym}
-use mathlib.Core.Option.{Option, none, some}
 use mathlib.Core.List.{List, []}
 use native.Mathlib.Omega.{arith}
 use lib.IntN.{ℤ}
@@ -13,7 +13,7 @@ use Rattle.orderbook.specs.declared.Event.TheVariants.{Accepted, Rejected, Trade
 use Rattle.protocol.specs.declared.TradeTick.{TradeTick}
 use Rattle.gateway.specs.Limits.{most_orders}
 use Rattle.gateway.specs.Basics.{option}
-use Rattle.gateway.specs.Depth.{Resting, Depth, resting_number, find_resting, add, show, take_off, where_resting, filled, modified, showing, lesser, same_price, apply, depth_agrees, levels_few, depth_few}
+use Rattle.gateway.specs.Depth.{Resting, Depth, resting_number, find_resting, add, show, take_off, where_resting, filled, modified, showing, same_price, apply, depth_agrees, levels_few, depth_few}
 use Rattle.gateway.specs.Entry.{settled_depth}
 use Rattle.gateway.proofs.Base.{split}
 use Rattle.gateway.proofs.Sorted.{absent_is, rises_insert, rises_replace, rises_without}
@@ -43,8 +43,8 @@ filled_acts q v o d = split (λ b. Alters o d (cond b (take_off o d) (show (show
 
 pub modified_acts : (p : ℤ) (v : ℕ) → Acts (modified p v)
 modified_acts p v o d =
-    split (λ b. Alters o d (cond b (show (showing (lesser o.visible v) v o) d) (take_off o d))) (ltb 0 v && (same_price p o.price && leb v o.leaves))
-    (λ _. shows (lesser o.visible v) v) (λ _. goes)
+    split (λ b. Alters o d (cond b (show (showing (min o.visible v) v o) d) (take_off o d))) (ltb 0 v && (same_price p o.price && leb v o.leaves))
+    (λ _. shows (min o.visible v) v) (λ _. goes)
 
 alters_rises : {o : Resting} {d e : Depth} → Alters o d e → Ascending d → Ascending e
 unfolding take_off show
@@ -55,8 +55,8 @@ pub where_rises : (n : ℕ) (f : Resting → Depth → Depth) → Acts f → (d 
 where_rises n f acts d h = go (find_resting n d.resting)
   where
     go : (o : Option Resting) → Ascending (option d (λ x. f x d) o)
-    go none = h
-    go (some o) = alters_rises (acts o d) h
+    go None = h
+    go (Some o) = alters_rises (acts o d) h
 
 not_true : (b : Bool) → not b ≡ true → b ≡ false
 not_true true e = sym e

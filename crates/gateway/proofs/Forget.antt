@@ -1,8 +1,8 @@
 -- Forgetting client references goes past every step of the ledger, and no check sees it. Assumes nothing.
-use Prim.Native.Nat.{ℕ, suc, ◌+◌, ◌<◌}
+use Rattle.std.specs.Prelude.{Option, Some, None, is_some}
+use Prim.Native.Nat.{ℕ, suc, ◌<◌}
 use mathlib.Core.Bool.{false, cond, ◌&&◌}
 use mathlib.Core.Path.{◌≡◌, refl, ap, ap₂, sym, ◌∙◌}
-use mathlib.Core.Option.{Option, none, some}
 use mathlib.Core.List.{List, [], ◌∷◌, ◌++◌, map}
 use borrow.Author.Tests.{lt-leb}
 use lib.IntN.{ℤ, ◌+ℤ◌}
@@ -11,7 +11,7 @@ use Rattle.orderbook.specs.declared.Side.{Side}
 use Rattle.accounts.specs.declared.Funds.{Funds}
 use Rattle.gateway.specs.Ledger.{Order, Ledger, New, Item, account, command, event, order_of, owner_of, placed, number_of, find, remove, with_leaves, with_price, with_orders, left}
 use Rattle.gateway.specs.Ledger.{Change, mark_by, fill, set_leaves, reprice, retire, changes, change, changed, pay, paper, wallet_of, step, held, held_by, wallet_fits, wallets_fit, holds_fit, open_of}
-use Rattle.gateway.specs.Basics.{option, is_some}
+use Rattle.gateway.specs.Basics.{option}
 use Rattle.table.specs.Live.{look, without}
 use Rattle.gateway.specs.Table.{update}
 use Rattle.gateway.specs.Restart.{forget, forgetting}
@@ -25,8 +25,8 @@ above n (event m e) = n < m
 
 module _ (N : ℕ) where
   abbrev pub forgotten : Option Order → Option Order
-  forgotten none = none
-  forgotten (some o) = some (forget N o)
+  forgotten None = None
+  forgotten (Some o) = Some (forget N o)
 
   pub find_forget : (n : ℕ) (os : List Order) → find n (map (forget N) os) ≡ forgotten (find n os)
   unfolding look
@@ -52,16 +52,16 @@ module _ (N : ℕ) where
 
   pay_forget : (fee p : ℤ) (q : ℕ) (o : Option Order) (ws : List (Option Funds)) → pay fee p q (forgotten o) ws ≡ pay fee p q o ws
   unfolding pay
-  pay_forget fee p q none ws = refl
-  pay_forget fee p q (some o) ws = refl
+  pay_forget fee p q None ws = refl
+  pay_forget fee p q (Some o) ws = refl
 
   paper_forget : (n : ℕ) (l : Ledger) → paper n (forgetting N l) ≡ paper n l
   unfolding paper
   paper_forget n l = ap (option false (λ o. is_some (wallet_of l.wallets o))) (find_forget n l.orders) ∙ same (find n l.orders)
     where
       same : (o : Option Order) → option false (λ x. is_some (wallet_of l.wallets x)) (forgotten o) ≡ option false (λ x. is_some (wallet_of l.wallets x)) o
-      same none = refl
-      same (some o) = refl
+      same None = refl
+      same (Some o) = refl
 
   pub change_forget : (x : Change) (l : Ledger) → forgetting N (change x l) ≡ change x (forgetting N l)
   unfolding change
@@ -81,8 +81,8 @@ module _ (N : ℕ) where
   map_append f (o ∷ a) b = ap (λ l. f o ∷ l) (map_append f a b)
 
   placed_forget : (ref n a : ℕ) (x : Option New) → N < n → map (forget N) (placed ref n a x) ≡ placed 0 n a x
-  placed_forget ref n a none h = refl
-  placed_forget ref n a (some x) h = simp (lt-leb n N h)
+  placed_forget ref n a None h = refl
+  placed_forget ref n a (Some x) h = simp (lt-leb n N h)
 
   -- the ledger's step with any reference, forgotten, is the step with none
   pub step_forget : (ref : ℕ) (i : Item) (l : Ledger) → above N i → forgetting N (step ref i l) ≡ step 0 i (forgetting N l)
@@ -100,8 +100,8 @@ module _ (N : ℕ) where
   held_forget fee a s (o ∷ os) = ap (λ n. held_by fee a s o +ℤ n) (held_forget fee a s os)
 
   fits_forget : (fee : ℤ) (a : ℕ) (w : Option Funds) (os : List Order) → wallet_fits fee a w (map (forget N) os) ≡ wallet_fits fee a w os
-  fits_forget fee a none os = refl
-  fits_forget fee a (some w) os = simp held_forget
+  fits_forget fee a None os = refl
+  fits_forget fee a (Some w) os = simp held_forget
 
   all_fit_forget : (fee : ℤ) (a : ℕ) (ws : List (Option Funds)) (os : List Order) → wallets_fit fee a ws (map (forget N) os) ≡ wallets_fit fee a ws os
   all_fit_forget fee a [] os = refl

@@ -1,9 +1,9 @@
 -- The core's invariant, which every recorded item keeps. Assumes nothing.
+use Rattle.std.specs.Prelude.{Option, Some, None, option_map, is_some}
 use Prim.Native.Nat.{ℕ, zero, suc, ◌+◌, ◌<◌, ◌≤◌}
 use mathlib.Core.Bool.{Bool, true, false, cond, not, ◌&&◌, ◌||◌, and-eq-true_iff}
 use mathlib.Core.Path.{◌≡◌, refl, ap, sym, ◌∙◌, subst}
-use mathlib.Core.Logic.{⊎_elim, ◌⊎◌}
-use mathlib.Core.Option.{Option, none, some, map}
+use mathlib.Core.Logic.{⊎_elim}
 use mathlib.Core.List.{List, [], ◌∷◌, ◌++◌, append-nil}
 use native.Mathlib.Omega.{arith}
 use native.Mathlib.Nat.{add-zero, zero-add}
@@ -14,24 +14,21 @@ use lib.Seq.{get_or-set_same, get_or-set_other}
 use lib.Dec.{eqb, ltb}
 use Rattle.orderbook.specs.declared.Side.{Side}
 use Rattle.orderbook.specs.declared.Side.TheVariants.{Buy, Sell}
-use Rattle.orderbook.specs.declared.MaybePrice.TheVariants.{None, Some}
 use Rattle.orderbook.specs.declared.Command.{Command}
 use Rattle.orderbook.specs.declared.Command.TheVariants.{Limit, Market, Cancel, Modify, Stop, CancelAll, SetPhase}
 use Rattle.orderbook.specs.declared.Event.{Event}
 use Rattle.orderbook.specs.declared.Event.TheVariants.{Accepted, Rejected, Trade, Rested, Replenished, Cancelled, Modified, StopPlaced, Triggered, MassCancelled, PhaseChanged}
 use Rattle.accounts.specs.declared.Account.{Account}
 use Rattle.accounts.specs.declared.Funds.{Funds}
-use Rattle.accounts.specs.declared.MaybeFunds as F
 use Rattle.gateway.specs.Limits.{owner_slots, most_orders, most_in_flight}
 use Rattle.wallet.specs.Wallet.{charged, settle}
 use Rattle.gateway.specs.Ledger.{Order, Ledger, New, Item, account, command, event, order_of, owner_of, placed, number_of, find, remove, with_leaves, with_price, left}
-use Rattle.gateway.specs.Ledger.{Change, mark_by, fill, set_leaves, reprice, retire, changes, change, changed, pay, paper, funds_of, step, same_side, order_hold, held, fits, wallet_fits, wallets_fit, holds_fit, open_of}
-use Rattle.gateway.specs.Basics.{is_some}
+use Rattle.gateway.specs.Ledger.{Change, mark_by, fill, set_leaves, reprice, retire, changes, change, changed, pay, paper, step, same_side, order_hold, held, wallet_fits, wallets_fit, holds_fit, open_of}
 use Rattle.table.specs.Live.{Each, without}
 use Rattle.gateway.specs.Table.{update, Rises}
-use Rattle.gateway.specs.Core.{Pass, Origin, Flight, Core, flight, drop_below, places, owner_below, tests, core_step}
+use Rattle.gateway.specs.Core.{Pass, Origin, Flight, Core, flight, drop_below, owner_below, tests, core_step}
 use Rattle.gateway.specs.Start.{funds_in}
-use Rattle.gateway.specs.Fits.{Unsigned, Signed, PriceFits, FundsFit, MaybeFundsFit, AccountFits, CommandFits, EventFits}
+use Rattle.gateway.specs.Fits.{Unsigned, Signed, PriceFits, MaybeFundsFit, AccountFits, CommandFits, EventFits}
 use Rattle.gateway.proofs.Base.{split}
 use Rattle.table.proofs.Live.{same?}
 use Rattle.gateway.proofs.Sorted.{rises_from}
@@ -180,9 +177,9 @@ left_fits f g n v os u h =
     split (λ b. All OrderFits (cond b (remove n os) (update number_of n (λ o. with_leaves v (f o)) os))) (eqb v 0) (λ e. remove_fits n os h)
     (λ e. update_fits (λ o. with_leaves v (f o)) (λ o k. leaves_fits v (f o) u (g o k)) n os h)
 
-settled_fits : (s : Side) (p : ℤ) (q : ℕ) (w : Option Funds) → WalletFits (map (settle s p q) w)
-settled_fits s p q none = tt
-settled_fits s p q (some w) = settle_fits s p q w
+settled_fits : (s : Side) (p : ℤ) (q : ℕ) (w : Option Funds) → WalletFits (option_map (settle s p q) w)
+settled_fits s p q None = tt
+settled_fits s p q (Some w) = settle_fits s p q w
 
 set_fits : (i : ℕ) (v : Option Funds) (ws : List (Option Funds)) → WalletFits v → WalletsFit ws → WalletsFit (set ws i v)
 set_fits i v [] g h = tt
@@ -191,8 +188,8 @@ set_fits (suc i) v (w ∷ ws) g h = (h.0, set_fits i v ws g h.1)
 
 pay_fits : (fee p : ℤ) (q : ℕ) (o : Option Order) (ws : List (Option Funds)) → WalletsFit ws → WalletsFit (pay fee p q o ws)
 unfolding pay
-pay_fits fee p q none ws h = h
-pay_fits fee p q (some o) ws h = set_fits o.account _ ws (settled_fits o.side (charged fee o.side p) q (get_or ws o.account none)) h
+pay_fits fee p q None ws h = h
+pay_fits fee p q (Some o) ws h = set_fits o.account _ ws (settled_fits o.side (charged fee o.side p) q (get_or ws o.account None)) h
 
 change_fits : (x : Change) (l : Ledger) → ChangeFits x → LedgerFits l → LedgerFits (change x l)
 unfolding change
@@ -237,9 +234,9 @@ ItemFits (account a) = AccountFits a
 ItemFits (command n k) = Unsigned n × CommandFits k
 ItemFits (event n e) = EventFits e
 
-funds_fit : (f : F.MaybeFunds) → MaybeFundsFit f → WalletFits (funds_of f)
-funds_fit F.TheVariants.None h = tt
-funds_fit (F.TheVariants.Some f) h = h
+funds_fit : (f : Option Funds) → MaybeFundsFit f → WalletFits f
+funds_fit None h = tt
+funds_fit (Some f) h = h
 
 placed_fits : (ref n a : ℕ) (k : Command) → Unsigned ref → CommandFits k → All OrderFits (placed ref n a (order_of k))
 unfolding order_of
@@ -256,7 +253,7 @@ unfolding step
 step_fits ref (account a) l r h k =
     record {
       last_fits = k.last_fits;
-      money_fits = set_fits a.id (funds_of a.funds) l.wallets (funds_fit a.funds h) k.money_fits;
+      money_fits = set_fits a.id a.funds l.wallets (funds_fit a.funds h) k.money_fits;
       orders_fit = k.orders_fit;
       mark_fits = k.mark_fits;
     }
@@ -307,38 +304,38 @@ fees_stay (x ∷ xs) l = fees_stay xs (change x l) ∙ fee_stays x l
 
 pay_length : (m : ℕ) (fee p : ℤ) (q : ℕ) (o : Option Order) (ws : List (Option Funds)) → length ws ≡ m → length (pay fee p q o ws) ≡ m
 unfolding pay
-pay_length m fee p q none ws h = h
-pay_length m fee p q (some o) ws h = rw length-set h
+pay_length m fee p q None ws h = h
+pay_length m fee p q (Some o) ws h = rw length-set h
 
-some_map : (f : Funds → Funds) (w : Option Funds) → is_some (map f w) ≡ is_some w
-some_map f none = refl
-some_map f (some w) = refl
+some_map : (f : Funds → Funds) (w : Option Funds) → is_some (option_map f w) ≡ is_some w
+some_map f None = refl
+some_map f (Some w) = refl
 
-still_some : (ws : List (Option Funds)) (i : ℕ) (v : Option Funds) → is_some v ≡ is_some (get_or ws i none) → (j : ℕ) →
-    is_some (get_or (set ws i v) j none) ≡ is_some (get_or ws j none)
+still_some : (ws : List (Option Funds)) (i : ℕ) (v : Option Funds) → is_some v ≡ is_some (get_or ws i None) → (j : ℕ) →
+    is_some (get_or (set ws i v) j None) ≡ is_some (get_or ws j None)
 still_some [] i v h j = refl
 still_some (w ∷ ws) zero v h zero = h
 still_some (w ∷ ws) zero v h (suc j) = refl
 still_some (w ∷ ws) (suc i) v h zero = refl
 still_some (w ∷ ws) (suc i) v h (suc j) = still_some ws i v h j
 
-pub pay_some : (fee p : ℤ) (q : ℕ) (o : Option Order) (ws : List (Option Funds)) (j : ℕ) → is_some (get_or (pay fee p q o ws) j none) ≡ is_some (get_or ws j none)
+pub pay_some : (fee p : ℤ) (q : ℕ) (o : Option Order) (ws : List (Option Funds)) (j : ℕ) → is_some (get_or (pay fee p q o ws) j None) ≡ is_some (get_or ws j None)
 unfolding pay
-pay_some fee p q none ws j = refl
-pay_some fee p q (some o) ws j = still_some ws o.account _ (some_map (settle o.side (charged fee o.side p) q) (get_or ws o.account none)) j
+pay_some fee p q None ws j = refl
+pay_some fee p q (Some o) ws j = still_some ws o.account _ (some_map (settle o.side (charged fee o.side p) q) (get_or ws o.account None)) j
 
 pay_owned : (t : List (Option Account)) (fee p : ℤ) (q : ℕ) (o : Option Order) (ws : List (Option Funds)) → Owned t ws → Owned t (pay fee p q o ws)
 pay_owned t fee p q o ws h j = pay_some fee p q o ws j ∙ h j
 
 -- a new account's wallet
 owned_set : (a : Account) (t : List (Option Account)) (ws : List (Option Funds)) → a.id < length t → length t ≤ length ws → Owned t ws →
-    Owned (set t a.id (some a)) (set ws a.id (funds_of a.funds))
+    Owned (set t a.id (Some a)) (set ws a.id a.funds)
 owned_set a t ws l m h j =
     ⊎_elim
     (λ (e : j ≡ a.id).
-    subst (λ k. is_some (get_or (set ws a.id (funds_of a.funds)) k none) ≡ is_some (funds_in (get_or (set t a.id (some a)) k none))) (sym e)
-    (ap is_some (get_or-set_same ws a.id (funds_of a.funds) none (omega arith)) ∙ ap (λ o. is_some (funds_in o)) (sym (get_or-set_same t a.id (some a) none l))))
-    (λ ne. ap is_some (get_or-set_other ws a.id j _ none ne) ∙ h j ∙ ap (λ o. is_some (funds_in o)) (sym (get_or-set_other t a.id j _ none ne)))
+    subst (λ k. is_some (get_or (set ws a.id a.funds) k None) ≡ is_some (funds_in (get_or (set t a.id (Some a)) k None))) (sym e)
+    (ap is_some (get_or-set_same ws a.id a.funds None (omega arith)) ∙ ap (λ o. is_some (funds_in o)) (sym (get_or-set_same t a.id (Some a) None l))))
+    (λ ne. ap is_some (get_or-set_other ws a.id j _ None ne) ∙ h j ∙ ap (λ o. is_some (funds_in o)) (sym (get_or-set_other t a.id j _ None ne)))
     (same? j a.id)
 
 -- ---- hold totals
@@ -362,8 +359,8 @@ held_none fee a s (o ∷ os) h =
     (eqb o.account a) (λ e z. absurd (omega (arith, z))) (λ e z. +ℤ_idl (held fee a s os) ∙ held_none fee a s os z) h
 
 fits_none : (fee : ℤ) (a : ℕ) (v : Option Funds) (os : List Order) → open_of a os ≡ 0 → wallet_fits fee a v os ≡ true
-fits_none fee a none os h = refl
-fits_none fee a (some w) os h = simp (held_none fee a Buy os h, held_none fee a Sell os h, zero_fits)
+fits_none fee a None os h = refl
+fits_none fee a (Some w) os h = simp (held_none fee a Buy os h, held_none fee a Sell os h, zero_fits)
 
 -- ---- the run of commands in flight: consecutive numbers that end at the last
 
@@ -394,8 +391,8 @@ holds_ref ref n k l h =
 
 place_rise : (ref n a limit : ℕ) (x : Option New) (l : Ledger) → l.last < n → Rise 0 l.orders → All (Keyed (In l.last limit)) l.orders →
     Rise 0 (l.orders ++ placed ref n a x)
-place_rise ref n a limit none l h t u = rw append-nil t
-place_rise ref n a limit (some x) l h t u = rise_more 0 l.last limit l.orders _ (omega arith) h t u
+place_rise ref n a limit None l h t u = rw append-nil t
+place_rise ref n a limit (Some x) l h t u = rise_more 0 l.last limit l.orders _ (omega arith) h t u
 
 -- whoever places an order is below the limit
 placer_below : (limit ref n : ℕ) (k : Command) → owner_below limit k ≡ true → All (Keyed (In n limit)) (placed ref n (owner_of k) (order_of k))
@@ -410,8 +407,8 @@ placer_below limit ref n (SetPhase p) h = tt
 
 place_few : (ref n a : ℕ) (x : Option New) (os : List Order) → not (is_some x) || ltb (length os) most_orders ≡ true → length os ≤ most_orders →
     length (os ++ placed ref n a x) ≤ most_orders
-place_few ref n a none os h t = rw append-nil t
-place_few ref n a (some x) os h t = rw length-append (omega (arith, ltb-true (length os) most_orders h))
+place_few ref n a None os h t = rw append-nil t
+place_few ref n a (Some x) os h t = rw length-append (omega (arith, ltb-true (length os) most_orders h))
 
 -- every recorded item keeps the invariant
 pub core_ok : (from : Origin) (i : Item) (c : Core) → Unsigned from.client_ref → ItemFits i → CoreOk c → Pass (tests i c) → CoreOk (core_step from i c)
@@ -425,7 +422,7 @@ core_ok from (account a) c r f ok p =
       few = ok.few;
       runs = ok.runs;
       flying = ok.flying;
-      holds = fit_set _ 0 a.id _ c.ledger.wallets c.ledger.orders (fits_none _ (0 + a.id) (funds_of a.funds) c.ledger.orders (rw zero-add (eqb-true _ 0 p.1.1.0))) ok.holds;
+      holds = fit_set _ 0 a.id _ c.ledger.wallets c.ledger.orders (fits_none _ (0 + a.id) a.funds c.ledger.orders (rw zero-add (eqb-true _ 0 p.1.1.0))) ok.holds;
       limit = rw length-set ok.limit;
       fit = step_fits from.client_ref (account a) c.ledger r f ok.fit;
     }

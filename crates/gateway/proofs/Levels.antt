@@ -1,10 +1,10 @@
 -- How the levels follow the resting orders. In plain words: an order that comes joins its level; one that goes leaves it, and a level without
 -- orders vanishes; one that shows something else changes its level's quantity by as much. The order in which orders join does not matter, and a
 -- level shows at least what each of its orders shows, so no subtraction is cut off. Assumes nothing.
+use Rattle.std.specs.Prelude.{Some}
 use Prim.Native.Nat.{ℕ, suc, ◌+◌, ◌-◌, ◌<◌, ◌≤◌}
 use mathlib.Core.Bool.{Bool, true, false, cond, ◌&&◌, true≢false}
 use mathlib.Core.Path.{◌≡◌, refl, ap, ap₂, sym, ◌∙◌}
-use mathlib.Core.Option.{some}
 use mathlib.Core.List.{List, [], ◌∷◌}
 use native.Mathlib.Omega.{arith}
 use borrow.Author.Tests.{ltb-true, le-ltb, le-leb, lt-leb, eqb-true, ne_eqb}
@@ -216,11 +216,11 @@ record Picked (s : Side) (n : ℕ) (o : Resting) (os : List Resting) : Type 0 wh
   mine : levels s os ≡ entered s o (levels s (without resting_number n os))
   other : (r : Resting) → r.number ≡ n → levels s (replace resting_number r os) ≡ entered s r (levels s (without resting_number n os))
 
-picked : (s : Side) (n m : ℕ) (o : Resting) (os : List Resting) → Rises resting_number m os → look resting_number n os ≡ some o → Picked s n o os
+picked : (s : Side) (n m : ℕ) (o : Resting) (os : List Resting) → Rises resting_number m os → look resting_number n os ≡ Some o → Picked s n o os
 unfolding look without replace
 picked s n m o [] t h = let z : ◌≡◌ {A = ℕ} 0 1 = cc in absurd (omega (arith, z))
 picked s n m o (x ∷ os) t h =
-    split (λ b. (eqb x.number n ≡ b) → cond b (some x) (look resting_number n os) ≡ some o → Picked s n o (x ∷ os)) (eqb x.number n)
+    split (λ b. (eqb x.number n ≡ b) → cond b (Some x) (look resting_number n os) ≡ Some o → Picked s n o (x ∷ os)) (eqb x.number n)
     (λ _ e k.
     let q : x ≡ o = cc in
     let j = eqb-true x.number n e in
@@ -246,7 +246,7 @@ picked s n m o (x ∷ os) t h =
 
 -- ---- an order that is there goes, or shows something else
 
-module _ (s : Side) (o : Resting) (os : List Resting) (asc : Rises resting_number 0 os) (there : look resting_number o.number os ≡ some o) where
+module _ (s : Side) (o : Resting) (os : List Resting) (asc : Rises resting_number 0 os) (there : look resting_number o.number os ≡ Some o) where
   pub levels_without : levels s (without resting_number o.number os) ≡ on s o (parted o.price o.visible) (levels s os)
   levels_without =
       let ls = levels s (without resting_number o.number os) in
@@ -273,7 +273,7 @@ pub add_levels : (s : Side) (o : Resting) (d : Depth) → levels s (add o d).res
 unfolding add
 add_levels s o d = levels_insert s o d.resting
 
-module _ (s : Side) (o : Resting) (d : Depth) (asc : Rises resting_number 0 d.resting) (there : look resting_number o.number d.resting ≡ some o) where
+module _ (s : Side) (o : Resting) (d : Depth) (asc : Rises resting_number 0 d.resting) (there : look resting_number o.number d.resting ≡ Some o) where
   pub take_off_levels : levels s (take_off o d).resting ≡ on s o (parted o.price o.visible) (levels s d.resting)
   unfolding take_off
   take_off_levels = levels_without s o d.resting asc there

@@ -1,4 +1,5 @@
 -- Amounts that fit: settling leaves such, and a word keeps them. Assumes nothing.
+use Rattle.std.specs.Prelude.{is_some}
 use mathlib.Core.Path.{◌≡◌, refl}
 use mathlib.Core.Bool.{true, cond}
 use Prim.Native.Nat.{ℕ}
@@ -12,9 +13,8 @@ use mir.ValLaws.{to_z-of_z}
 use Rattle.orderbook.specs.declared.Side.{Side}
 use Rattle.orderbook.specs.declared.Side.TheVariants.{Buy, Sell}
 use Rattle.accounts.specs.declared.Funds.{Funds}
-use Rattle.words.specs.Words.{least, most, place_of, fit_in, nearest_to, fit, clamp, inside, above, below}
+use Rattle.words.specs.Words.{least, most, place_of, fit_in, nearest_to, clamp, inside, above, below}
 use Rattle.wallet.specs.Wallet.{settle}
-use Rattle.gateway.specs.Basics.{is_some}
 use Rattle.gateway.specs.Ledger.{fits}
 use Rattle.gateway.specs.Fits.{FundsFit}
 use Rattle.gateway.proofs.Base.{split}

@@ -1,8 +1,8 @@
 -- A change of one order: what its account's orders then hold, and that the other orders and the set of wallets stay. Assumes nothing.
+use Rattle.std.specs.Prelude.{Option, Some, None, is_some}
 use Prim.Native.Nat.{ℕ, suc, ◌<◌}
 use mathlib.Core.Bool.{Bool, cond, ◌&&◌}
 use mathlib.Core.Path.{◌≡◌, refl, ap, ap₂, sym, ◌∙◌}
-use mathlib.Core.Option.{Option, none, some}
 use mathlib.Core.List.{List, [], ◌∷◌, ◌++◌}
 use native.Mathlib.Omega.{arith}
 use borrow.Author.Tests.{eqb-true, ne_eqb}
@@ -11,11 +11,9 @@ use lib.ListN.{get_or}
 use lib.Dec.{eqb}
 use Rattle.orderbook.specs.declared.Side.{Side}
 use Rattle.orderbook.specs.declared.Side.TheVariants.{Buy, Sell}
-use Rattle.orderbook.specs.declared.MaybePrice.{MaybePrice}
-use Rattle.orderbook.specs.declared.MaybePrice.TheVariants.{None, Some}
 use Rattle.words.specs.Words.{place_of}
 use Rattle.table.specs.Live.{Each, look, without}
-use Rattle.gateway.specs.Basics.{option, is_some}
+use Rattle.gateway.specs.Basics.{option}
 use Rattle.gateway.specs.Table.{update}
 use Rattle.gateway.specs.Ledger.{Order, Ledger, Change, mark_by, fill, set_leaves, reprice, retire, number_of, find, remove, with_leaves, with_price, left, with_orders, wallet_of, pay, change, same_side, hold, order_hold, held_by, held, wallets_fit, holds_fit}
 use Rattle.gateway.specs.Deliver.{hold_after, named, order_notices, change_notices}
@@ -52,11 +50,11 @@ left_turned n f v os =
     split (λ b. cond b (remove n os) (update number_of n (λ o. with_leaves v (f o)) os) ≡ turned n (λ o. cond b [] (with_leaves v (f o) ∷ [])) os) (eqb v 0)
     (λ _. remove_turned n os) (λ _. update_turned n (λ o. with_leaves v (f o)) os)
 
-turned_none : (n : ℕ) (g : Order → List Order) (os : List Order) → find n os ≡ none → turned n g os ≡ os
+turned_none : (n : ℕ) (g : Order → List Order) (os : List Order) → find n os ≡ None → turned n g os ≡ os
 unfolding look turned
 turned_none n g [] h = refl
 turned_none n g (o ∷ os) h =
-    split (λ b. cond b (some o) (find n os) ≡ none → cond b (g o ++ turned n g os) (o ∷ turned n g os) ≡ o ∷ os) (eqb o.number n)
+    split (λ b. cond b (Some o) (find n os) ≡ None → cond b (g o ++ turned n g os) (o ∷ turned n g os) ≡ o ∷ os) (eqb o.number n)
     (λ _ k. absurd (let z : ◌≡◌ {A = ℕ} 0 1 = cc in omega (arith, z))) (λ _ k. ap (λ r. o ∷ r) (turned_none n g os k)) h
 
 -- the changes of the order n
@@ -89,7 +87,7 @@ module _ {n : ℕ} where
   orders_turned retires l = remove_turned n l.orders
 
   -- where there is no such order, nothing changes
-  pub unchanged : {x : Change} → Of n x → (l : Ledger) → find n l.orders ≡ none → change x l ≡ l
+  pub unchanged : {x : Change} → Of n x → (l : Ledger) → find n l.orders ≡ None → change x l ≡ l
   unfolding change pay
   unchanged (fills p q v) l e =
       ap₂ (λ w os. record { last = l.last; wallets = pay l.fee p q w l.wallets; orders = os; mark = l.mark; fee = l.fee }) e (left_turned n (λ o. o) v l.orders ∙ turned_none n (leaves (λ o. o) v) l.orders e)
@@ -125,7 +123,7 @@ module _ (i j : ℕ) (ne : i ≡ j → ⊥) where
       let u = find_turned g h os in
       split (λ b. (eqb o.number i ≡ b) → find j (cond b (g o ++ turned i g os) (o ∷ turned i g os)) ≡ find j (o ∷ os)) (eqb o.number i)
       (λ _ e. let q = eqb-true o.number i e in find_past o.number (g o) (turned i g os) q (h o) ∙ u ∙ sym (find_past o.number (o ∷ []) os q (refl, tt)))
-      (λ _ e. ap (cond (eqb o.number j) (some o)) u) refl
+      (λ _ e. ap (cond (eqb o.number j) (Some o)) u) refl
 
   pub find_changed : {x : Change} → Of i x → (l : Ledger) → find j (change x l).orders ≡ find j l.orders
   find_changed {x} c l = ap (find j) (orders_turned c l) ∙ find_turned (becomes x) (becomes_keeps x) l.orders
@@ -134,9 +132,9 @@ pub rise_changed : (x : Change) (l : Ledger) → Rise 0 l.orders → Rise 0 (cha
 rise_changed x l = rise_shrinks 0 (shrunk (x ∷ []) l)
 
 -- nor is it changed who has a wallet
-pub wallets_changed : (x : Change) (l : Ledger) (a : ℕ) → is_some (get_or (change x l).wallets a none) ≡ is_some (get_or l.wallets a none)
+pub wallets_changed : (x : Change) (l : Ledger) (a : ℕ) → is_some (get_or (change x l).wallets a None) ≡ is_some (get_or l.wallets a None)
 wallets_changed x l =
-    (paid (λ ws. (a : ℕ) → is_some (get_or ws a none) ≡ is_some (get_or l.wallets a none)) (λ fee p q o ws h a. pay_some fee p q o ws a ∙ h a) (x ∷ []) l (λ a. refl)).1
+    (paid (λ ws. (a : ℕ) → is_some (get_or ws a None) ≡ is_some (get_or l.wallets a None)) (λ fee p q o ws h a. pay_some fee p q o ws a ∙ h a) (x ∷ []) l (λ a. refl)).1
 
 -- ---- the mark
 
@@ -182,7 +180,7 @@ swap x y h =
     )
 
 -- an order with nothing left holds nothing
-nothing_left : (fee : ℤ) (b : Side) (p : MaybePrice) → hold fee b p 0 ≡ pos 0
+nothing_left : (fee : ℤ) (b : Side) (p : Option ℤ) → hold fee b p 0 ≡ pos 0
 unfolding hold place_of
 nothing_left fee b None = refl
 nothing_left fee Buy (Some p) = rw *ℤ-zero refl
@@ -208,7 +206,7 @@ module _ (fee : ℤ) (a : ℕ) (z : Side) where
       let x = held_by fee a z o in
       let m : Option Order → ℤ = option (pos 0) (λ r. held fee a z (g r) -ℤ held_by fee a z r) in
       let u = held_turned n g (suc o.number) os t.1 in
-      split (λ b. (eqb o.number n ≡ b) → held fee a z (cond b (g o ++ rest) (o ∷ rest)) ≡ x +ℤ held fee a z os +ℤ m (cond b (some o) (find n os))) (eqb o.number n)
+      split (λ b. (eqb o.number n ≡ b) → held fee a z (cond b (g o ++ rest) (o ∷ rest)) ≡ x +ℤ held fee a z os +ℤ m (cond b (Some o) (find n os))) (eqb o.number n)
       (λ _ e.
       let same : held fee a z rest ≡ held fee a z os =
       u ∙ ap (λ w. held fee a z os +ℤ m w) (absent_rises n (suc o.number) os (let q = eqb-true o.number n e in omega arith) t.1) ∙ +ℤ_idr (held fee a z os) in
@@ -229,8 +227,8 @@ module _ (fee : ℤ) (a : ℕ) (z : Side) where
   held_becomes retires o = split (λ b. pos 0 ≡ cond b (pos 0) (pos 0)) (mine a z o) (λ _. refl) (λ _. refl)
 
   moves_by : {n : ℕ} {x : Change} → Of n x → (w : Option Order) → option (pos 0) (λ o. held fee a z (becomes x o) -ℤ held_by fee a z o) w ≡ hold_move fee a z x w
-  moves_by c none = refl
-  moves_by {x = x} c (some o) =
+  moves_by c None = refl
+  moves_by {x = x} c (Some o) =
       ap (λ h. h -ℤ held_by fee a z o) (held_becomes c o)
       ∙ split (λ b. cond b (hold_after fee x o) (pos 0) -ℤ cond b (order_hold fee o) (pos 0) ≡ cond b (hold_after fee x o -ℤ order_hold fee o) (pos 0)) (mine a z o) (λ _. refl) (λ _. refl)
 

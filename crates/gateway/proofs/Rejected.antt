@@ -1,9 +1,9 @@
 -- A refusal means one thing to the gateway and to the ledger: what `Refuses` of specs/Claims.antt claims. No live order bears the number of a command in flight
 -- that places nothing (`Fresh`). Assumes nothing.
+use Rattle.std.specs.Prelude.{Option, Some, None, is_some}
 use Prim.Native.Nat.{ℕ, ◌+◌, ◌<◌}
 use mathlib.Core.Bool.{Bool, true, false, cond, not, ◌||◌, and-eq-true_iff, true≢false}
 use mathlib.Core.Path.{◌≡◌, refl, ap, sym, ◌∙◌, subst}
-use mathlib.Core.Option.{Option, none, some}
 use mathlib.Core.List.{List, [], ◌∷◌, ◌++◌}
 use native.Mathlib.Omega.{arith}
 use borrow.Author.Tests.{eqb-true, ne_eqb}
@@ -16,7 +16,7 @@ use Rattle.orderbook.specs.declared.RejectReason.{RejectReason}
 use Rattle.orderbook.specs.declared.Listed.{Listed}
 use Rattle.accounts.specs.declared.Account.{Account}
 use Rattle.accounts.specs.declared.Timing.{Timing}
-use Rattle.gateway.specs.Basics.{option, is_some}
+use Rattle.gateway.specs.Basics.{option}
 use Rattle.gateway.specs.Limits.{malformed, bad_fee}
 use Rattle.table.specs.Live.{look, without}
 use Rattle.gateway.specs.Ledger.{Order, New, Item, account, command, event, order_of, owner_of, placed, find, remove, with_orders, Change, retire, changes, change, changed, step}
@@ -35,7 +35,7 @@ use Rattle.gateway.proofs.Invariant.{All, Keyed, In, Shrinks, shrunk, all_shrink
 use Rattle.gateway.proofs.Calls.{Good}
 use Rattle.gateway.proofs.Begin.{Begins, set_up_begins, restore_begins}
 use Rattle.gateway.proofs.Restart.{call_ok, good}
-use Rattle.gateway.specs.Invariant.{CoreOk, Ok, Runs}
+use Rattle.gateway.specs.Invariant.{CoreOk, GatewayOk, Runs}
 use Rattle.gateway.specs.Claims.{rust_changes, RefusesAsRust, Refuses}
 
 abbrev No : ℕ → List Order → Type 0
@@ -62,8 +62,8 @@ fresh_below n os (f ∷ fs) h =
     split (λ b. Fresh os (cond b (drop_below n fs) (f ∷ fs))) (ltb f.number n) (λ e. t) (λ e. h)
 
 no_placed : (ref n m a : ℕ) (x : Option New) → (n ≡ m → ⊥) → No m (placed ref n a x)
-no_placed ref n m a none h = tt
-no_placed ref n m a (some x) h = (h, tt)
+no_placed ref n m a None h = tt
+no_placed ref n m a (Some x) h = (h, tt)
 
 -- earlier commands stay fresh where a later number is placed
 fresh_more : (ref n a last : ℕ) (x : Option New) (os : List Order) (fs gs : List Flight) → last < n → Runs last fs → Fresh os fs →
@@ -75,8 +75,8 @@ fresh_more ref n a last x os (f ∷ fs) gs h u t s = (
 )
 
 no_new : (ref n a last limit : ℕ) (x : Option New) (os : List Order) → last < n → All (Keyed (In last limit)) os → is_some x ≡ false → No n (os ++ placed ref n a x)
-no_new ref n a last limit none os h t e = all_more (Keyed (In last limit)) _ (λ o v q. omega (arith, v.0, q)) os [] t tt
-no_new ref n a last limit (some x) os h t e = absurd (true≢false e)
+no_new ref n a last limit None os h t e = all_more (Keyed (In last limit)) _ (λ o v q. omega (arith, v.0, q)) os [] t tt
+no_new ref n a last limit (Some x) os h t e = absurd (true≢false e)
 
 fresh_step : (from : Origin) (i : Item) (c : Core) → CoreOk c → Pass (tests i c) → FreshCore c → FreshCore (core_step from i c)
 unfolding step tests
@@ -98,7 +98,7 @@ first_no : (n : ℕ) (os : List Order) (fs : List Flight) → is_first n fs ≡ 
 first_no n os [] a b h = absurd (true≢false (sym a))
 first_no n os (f ∷ fs) a b h = subst (λ m. No m os) (eqb-true f.number n a) (h.0 b)
 
-find_no : (n : ℕ) (os : List Order) → No n os → find n os ≡ none
+find_no : (n : ℕ) (os : List Order) → No n os → find n os ≡ None
 unfolding look
 find_no n [] h = refl
 find_no n (o ∷ os) h = rw (ne_eqb o.number n h.0) (find_no n os h.1)
@@ -129,7 +129,7 @@ notices_agree c n i why = agrees (λ xs. notices_of xs c.ledger) c n i why (λ t
 
 -- ---- for every list of calls
 
-module _ (g : Gateway) (ok : Ok g) (t : FreshCore g.core) where
+module _ (g : Gateway) (ok : GatewayOk g) (t : FreshCore g.core) where
   carry_fresh : (p : Plan) → Good ⊥ g.core p → FreshCore (next_of g (carry_out g.core p)).core
   carry_fresh (refuse k) h = t
   carry_fresh (quiet a ms r) h = t
@@ -150,7 +150,7 @@ module _ (g : Gateway) (ok : Ok g) (t : FreshCore g.core) where
         notices_agree g.core n i why pass t,
       )
 
-refuses : (g : Gateway) → Ok g → FreshCore g.core → RefusesAsRust g
+refuses : (g : Gateway) → GatewayOk g → FreshCore g.core → RefusesAsRust g
 refuses g ok t [] x a n i why ms h f e =
     carry_rejected g ok t (plan g.core g.rest x) (good g x ok) a n i why ms h e
 refuses g ok t (y ∷ xs) x a n i why ms h f e =
@@ -159,8 +159,8 @@ refuses g ok t (y ∷ xs) x a n i why ms h f e =
 
 -- ---- from set-up, and from restore: nothing is in flight
 
-starts : (s : Started) (g : Gateway) → Begins Ok s → (s ≡ started g → g.core.flights ≡ []) → s ≡ started g → RefusesAsRust g
-starts s g b f e = refuses g (subst (Begins Ok) e b) (rw (f e) tt)
+starts : (s : Started) (g : Gateway) → Begins GatewayOk s → (s ≡ started g → g.core.flights ≡ []) → s ≡ started g → RefusesAsRust g
+starts s g b f e = refuses g (subst (Begins GatewayOk) e b) (rw (f e) tt)
 
 none_flying : (ts : Tests ℕ) (k g : Gateway) → k.core.flights ≡ [] → start_unless ts k ≡ started g → g.core.flights ≡ []
 unfolding start_unless
@@ -188,8 +188,8 @@ unfolding restore restore_saved
 from_restore fee limit l timing bs g a b e = starts _ g (restore_begins fee limit l timing bs a b) (judged fee _ g (go (decode bs))) e
   where
     go : (s : Option Saved) → option (not_started malformed) (restore_saved fee limit l timing) s ≡ started g → g.core.flights ≡ []
-    go none q = absurd (let z : ◌≡◌ {A = ℕ} 0 1 = cc in omega (arith, z))
-    go (some s) q = none_flying _ _ g refl q
+    go None q = absurd (let z : ◌≡◌ {A = ℕ} 0 1 = cc in omega (arith, z))
+    go (Some s) q = none_flying _ _ g refl q
 
 pub refusing : Refuses
 refusing = record { from_set_up = from_set_up; from_restore = from_restore }

@@ -8,11 +8,10 @@
 -- What it does not say: it does not speak of sessions, the depth, batches or what waits to be published, which a restart loses; and an event of a
 -- command numbered at or before the checkpoint finds no command in the restored gateway, so nothing is claimed then. 01 also excludes checkpoints
 -- followed by an accepted `finish`; here they are included, since `finish` moves nothing that the ledger holds. Assumes nothing.
+use Rattle.std.specs.Prelude.{Option, Some, None, option_map, is_some}
 use Prim.Native.Nat.{ℕ, zero, suc, ◌+◌, ◌<◌, ◌≤◌}
 use mathlib.Core.Bool.{true, cond, and-eq-true_iff}
 use mathlib.Core.Path.{◌≡◌, refl, ap, sym, ◌∙◌, subst}
-use mathlib.Core.Option
-use mathlib.Core.Option.{Option, none, some}
 use mathlib.Core.List.{List, [], ◌∷◌, ◌++◌, map, append-nil, append_assoc}
 use native.Mathlib.Omega.{arith}
 use borrow.Author.Tests.{ltb-true, lt-ltb, eqb-true}
@@ -24,7 +23,7 @@ use Rattle.orderbook.specs.declared.Listed.{Listed}
 use Rattle.accounts.specs.declared.Account.{Account}
 use Rattle.accounts.specs.declared.Funds.{Funds}
 use Rattle.accounts.specs.declared.Timing.{Timing}
-use Rattle.gateway.specs.Basics.{option, is_some}
+use Rattle.gateway.specs.Basics.{option}
 use Rattle.gateway.specs.Limits.{malformed, bad_fee}
 use Rattle.gateway.specs.Ledger.{Order, Item, account, command, event, order_hold, open_of, changes, step, replayed}
 use Rattle.gateway.specs.Saved.{contents, opening}
@@ -44,7 +43,7 @@ use Rattle.gateway.proofs.Calls.{Good, plan_good, unless_pass, stamped_rest}
 use Rattle.gateway.proofs.Restore.{Accounts, begun_from, restores, opening_contents, view_now}
 use Rattle.gateway.proofs.Bytes.{decode_encode}
 use Rattle.gateway.proofs.Begin.{Begins, Given, set_up_begins, set_up_given, restore_begins, restore_given, contents_fit}
-use Rattle.gateway.specs.Invariant.{at, Known, RestOk, Ok, AllOk}
+use Rattle.gateway.specs.Invariant.{at, Known, RestOk, GatewayOk, AllOk}
 use Rattle.gateway.specs.Claims.{Demand3, RestartsFromAny}
 
 -- ---- one call, and a list of calls, keep the invariant
@@ -61,10 +60,10 @@ rest_later t m n r h ok = record { sessions = ok.sessions; buckets = ok.buckets;
 
 -- an account that exists stays
 still_known : (a : Account) (t : List (Option Account)) (o : Option ℕ) → Known t o → Known (accounts_after (account a) t) o
-still_known a t none h = tt
-still_known a t (some b) h = go t a.id b h
+still_known a t None h = tt
+still_known a t (Some b) h = go t a.id b h
   where
-    go : (t : List (Option Account)) (i b : ℕ) → is_some (get_or t b none) ≡ true → is_some (get_or (set t i (some a)) b none) ≡ true
+    go : (t : List (Option Account)) (i b : ℕ) → is_some (get_or t b None) ≡ true → is_some (get_or (set t i (Some a)) b None) ≡ true
     go [] i b q = q
     go (x ∷ t) zero zero q = refl
     go (x ∷ t) zero (suc b) q = q
@@ -83,7 +82,7 @@ rest_known (account a) t last r ok =
 rest_known (command n k) t last r ok = ok
 rest_known (event n e) t last r ok = ok
 
-carry_ok : (F : Type 0) (g : Gateway) (p : Plan) → F → Ok g → Good F g.core p → Ok (next_of g (carry_out g.core p))
+carry_ok : (F : Type 0) (g : Gateway) (p : Plan) → F → GatewayOk g → Good F g.core p → GatewayOk (next_of g (carry_out g.core p))
 carry_ok F g (refuse k) f ok h = ok
 carry_ok F g (quiet a ms r) f ok h = record { core_is = ok.core_is; rest_is = stamped_rest _ _ ms r h }
 carry_ok F g (records from i ms r) f ok h =
@@ -94,26 +93,26 @@ carry_ok F g (records from i ms r) f ok h =
           (rest_later _ _ _ (stamped ms r) (last_grows from i g.core h.0) (stamped_rest _ _ ms r h.1.1));
     }
 
-pub call_ok : (g : Gateway) (x : Call) → CallFits x → Ok g → Ok (next_of g (call g x))
+pub call_ok : (g : Gateway) (x : Call) → CallFits x → GatewayOk g → GatewayOk (next_of g (call g x))
 call_ok g x f ok = carry_ok (CallFits x) g (plan g.core g.rest x) f ok (plan_good (CallFits x) g.core g.rest x (λ u. u) ok.core_is ok.rest_is)
 
 -- what is recorded was tested, whatever the call's numbers
-pub good : (g : Gateway) (x : Call) → Ok g → Good ⊥ g.core (plan g.core g.rest x)
+pub good : (g : Gateway) (x : Call) → GatewayOk g → Good ⊥ g.core (plan g.core g.rest x)
 good g x ok = plan_good ⊥ g.core g.rest x (λ u. absurd u) ok.core_is ok.rest_is
 
-pub calls_ok : (g : Gateway) (xs : List Call) → CallsFit xs → Ok g → AllOk g xs
+pub calls_ok : (g : Gateway) (xs : List Call) → CallsFit xs → GatewayOk g → AllOk g xs
 calls_ok g [] f ok = ok
 calls_ok g (x ∷ xs) f ok = (ok, calls_ok (next_of g (call g x)) xs f.1 (call_ok g x f.0 ok))
 
-pub final_ok : (g : Gateway) (xs : List Call) → AllOk g xs → Ok (final g xs)
+pub final_ok : (g : Gateway) (xs : List Call) → AllOk g xs → GatewayOk (final g xs)
 final_ok g [] ok = ok
 final_ok g (x ∷ xs) ok = final_ok (next_of g (call g x)) xs ok.1
 
 -- ---- the accounts of the moment
 
-entered_more : (t : List (Option Account)) (l : List Account) (a : Account) → entered t (l ++ (a ∷ [])) ≡ set (entered t l) a.id (some a)
+entered_more : (t : List (Option Account)) (l : List Account) (a : Account) → entered t (l ++ (a ∷ [])) ≡ set (entered t l) a.id (Some a)
 entered_more t [] a = refl
-entered_more t (b ∷ l) a = entered_more (set t b.id (some b)) l a
+entered_more t (b ∷ l) a = entered_more (set t b.id (Some b)) l a
 
 below_more : (n : ℕ) (l : List Account) (a : Account) → all_below n l ≡ true → a.id < n → all_below n (l ++ (a ∷ [])) ≡ true
 below_more n [] a h g = rw (lt-ltb a.id n g) refl
@@ -125,7 +124,7 @@ item_accounts : (fee : ℤ) (limit : ℕ) (l : List Account) (from : Origin) (i 
 unfolding step tests
 item_accounts fee limit l from (account a) c p t =
     record {
-      table = rw t.table (sym (entered_more (replicate limit none) l a));
+      table = rw t.table (sym (entered_more (replicate limit None) l a));
       below = below_more limit l a t.below (rw t.size at (ltb-true a.id (length c.accounts) p.0));
       size = rw length-set t.size;
       fee_is = t.fee_is;
@@ -172,7 +171,7 @@ module _ (N : ℕ) where
   -- from what is seen of c, the items lead by replay, and the ledger with them, to what is seen of d
   abbrev Leads : Core → List Item → Core → Type 0
   Leads c is d = (r : Rest) → no_session r.sessions ≡ true →
-      (q : Rest) × (replay is (at_view c r) ≡ some (at_view d q)) × (replayed is (forgetting N c.ledger) ≡ forgetting N d.ledger)
+      (q : Rest) × (replay is (at_view c r) ≡ Some (at_view d q)) × (replayed is (forgetting N c.ledger) ≡ forgetting N d.ledger)
 
   above_of : (i : Item) (c : Core) → N ≤ c.ledger.last → Pass (tests i c) → later N i → above N i
   unfolding tests
@@ -226,9 +225,9 @@ held_same : (fee : ℤ) (n : ℕ) (os : List Order) → map (order_hold fee) (ma
 held_same fee n [] = refl
 held_same fee n (o ∷ os) = ap (λ t. order_hold fee o ∷ t) (held_same fee n os)
 
-balance_same : (fee : ℤ) (n a : ℕ) (w : Option Funds) (os : List Order) → Option.map (balance_with fee a (map (forget n) os)) w ≡ Option.map (balance_with fee a os) w
-balance_same fee n a none os = refl
-balance_same fee n a (some w) os = simp (held_forget n fee a Buy os, held_forget n fee a Sell os)
+balance_same : (fee : ℤ) (n a : ℕ) (w : Option Funds) (os : List Order) → option_map (balance_with fee a (map (forget n) os)) w ≡ option_map (balance_with fee a os) w
+balance_same fee n a None os = refl
+balance_same fee n a (Some w) os = simp (held_forget n fee a Buy os, held_forget n fee a Sell os)
 
 same_books : (n : ℕ) (c d : Core) → d.ledger ≡ forgetting n c.ledger → SameBooks n c d
 same_books n c d e =
@@ -238,7 +237,7 @@ same_books n c d e =
       fee = ap (λ l. l.fee) e;
       orders = ap (λ l. l.orders) e;
       holds = ap (λ l. map (order_hold l.fee) l.orders) e ∙ held_same c.ledger.fee n c.ledger.orders;
-      wallet = λ a. ap (λ l. Option.map (balance_with l.fee a l.orders) (get_or l.wallets a none)) e ∙ balance_same c.ledger.fee n a (get_or c.ledger.wallets a none) c.ledger.orders;
+      wallet = λ a. ap (λ l. option_map (balance_with l.fee a l.orders) (get_or l.wallets a None)) e ∙ balance_same c.ledger.fee n a (get_or c.ledger.wallets a None) c.ledger.orders;
       open_count = λ a. ap (λ l. open_of a l.orders) e ∙ open_forget n a c.ledger.orders;
     }
 
@@ -257,7 +256,7 @@ restart fee limit l timing g t xs ys room bs h ok ok' e late =
     let mok = final_ok g xs ok in
     let mat = final_accounts fee limit l g xs ok t in
     let k = checkpointed m _ (encode (contents m.core.ledger)) bs h e in
-    let d : decode bs ≡ some (contents m.core.ledger) = ap decode k.0 ∙ decode_encode (contents m.core.ledger) (contents_fit m.core mok.core_is) in
+    let d : decode bs ≡ Some (contents m.core.ledger) = ap decode k.0 ∙ decode_encode (contents m.core.ledger) (contents_fit m.core mok.core_is) in
     let u = leads N m ys ok' (omega arith) late (begun_from timing m.core).rest refl in
     let same : final g (xs ++ (checkpoint room ∷ ys)) ≡ final m ys =
     final_append g xs (checkpoint room ∷ ys) ∙ ap (λ o. final (next_of m o) ys) e ∙ ap (λ n. final n ys) k.1 in
@@ -274,15 +273,15 @@ restart fee limit l timing g t xs ys room bs h ok ok' e late =
       agrees =
           same_books N (final g (xs ++ (checkpoint room ∷ ys))).core (view N (final m ys).core) (ap (λ n. forgetting N n.core.ledger) (sym same));
       counted =
-          ap (Option.map (λ s. replayed (record_of m ys) (opening fee s))) d
-          ∙ ap (λ y. some (replayed (record_of m ys) (opening y (contents m.core.ledger)))) (sym mat.fee_is)
-          ∙ ap (λ c. some (replayed (record_of m ys) c)) (opening_contents m.core mok.core_is ∙ sym (ap (λ c. c.ledger) (view_now m.core mok.core_is)))
-          ∙ ap some u.2;
+          ap (option_map (λ s. replayed (record_of m ys) (opening fee s))) d
+          ∙ ap (λ y. Some (replayed (record_of m ys) (opening y (contents m.core.ledger)))) (sym mat.fee_is)
+          ∙ ap (λ c. Some (replayed (record_of m ys) c)) (opening_contents m.core mok.core_is ∙ sym (ap (λ c. c.ledger) (view_now m.core mok.core_is)))
+          ∙ ap Some u.2;
     }
 
-demand_3 : (fee : ℤ) (limit : ℕ) (l : List Account) (s : Started) (g : Gateway) → Begins Ok s → Begins (Given fee limit l) s → s ≡ started g → Demand3 fee limit l g
+demand_3 : (fee : ℤ) (limit : ℕ) (l : List Account) (s : Started) (g : Gateway) → Begins GatewayOk s → Begins (Given fee limit l) s → s ≡ started g → Demand3 fee limit l g
 demand_3 fee limit l s g b a e =
-    let ok : Ok g = subst (Begins Ok) e b in
+    let ok : GatewayOk g = subst (Begins GatewayOk) e b in
     record {
       restarts = λ timing xs ys room bs h f f'.
           let m = calls_ok g xs f ok in

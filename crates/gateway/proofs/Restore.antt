@@ -1,8 +1,8 @@
 -- The contents of a core that keeps the invariant are restored, to what the view shows. Assumes nothing.
+use Rattle.std.specs.Prelude.{Option, Some, None, is_some}
 use Prim.Native.Nat.{ℕ, zero, suc, ◌+◌, ◌<◌, ◌≤◌}
 use mathlib.Core.Bool.{true}
 use mathlib.Core.Path.{◌≡◌, refl, ap, ap₂, sym, ◌∙◌, subst}
-use mathlib.Core.Option.{Option, none, some}
 use mathlib.Core.List.{List, [], ◌∷◌, ◌++◌, map}
 use lib.IntN.{ℤ, pos}
 use lib.Signed.{le_z}
@@ -13,7 +13,7 @@ use lib.Dec.{ltb}
 use Rattle.accounts.specs.declared.Account.{Account}
 use Rattle.accounts.specs.declared.Funds.{Funds}
 use Rattle.accounts.specs.declared.Timing.{Timing}
-use Rattle.gateway.specs.Basics.{each, is_some}
+use Rattle.gateway.specs.Basics.{each}
 use Rattle.gateway.specs.Limits.{owner_slots, outside}
 use Rattle.gateway.specs.Ledger.{Order, Ledger, holds_fit}
 use Rattle.gateway.specs.Saved.{saved_from, slots, contents, opening}
@@ -28,15 +28,15 @@ use Rattle.gateway.specs.Invariant.{CoreOk, Owned, Runs}
 
 -- ---- wallets: slots, saved and filled again
 
-slots_skip : (n k m : ℕ) (ws : List (Option Funds)) → k < m → slots (suc n) k (saved_from m ws) ≡ none ∷ slots n (suc k) (saved_from m ws)
+slots_skip : (n k m : ℕ) (ws : List (Option Funds)) → k < m → slots (suc n) k (saved_from m ws) ≡ None ∷ slots n (suc k) (saved_from m ws)
 slots_skip n k m [] h = refl
-slots_skip n k m (none ∷ ws) h = slots_skip n k (suc m) ws (omega arith)
-slots_skip n k m (some w ∷ ws) h = simp (ne_eqb m k (λ e. omega (arith, e)))
+slots_skip n k m (None ∷ ws) h = slots_skip n k (suc m) ws (omega arith)
+slots_skip n k m (Some w ∷ ws) h = simp (ne_eqb m k (λ e. omega (arith, e)))
 
 slots_saved : (k : ℕ) (ws : List (Option Funds)) → slots (length ws) k (saved_from k ws) ≡ ws
 slots_saved k [] = refl
-slots_saved k (none ∷ ws) = slots_skip (length ws) k (suc k) ws (omega arith) ∙ ap (λ t. none ∷ t) (slots_saved (suc k) ws)
-slots_saved k (some w ∷ ws) = simp (eq-eqb k k refl) (ap (λ t. some w ∷ t) (slots_saved (suc k) ws))
+slots_saved k (None ∷ ws) = slots_skip (length ws) k (suc k) ws (omega arith) ∙ ap (λ t. None ∷ t) (slots_saved (suc k) ws)
+slots_saved k (Some w ∷ ws) = simp (eq-eqb k k refl) (ap (λ t. Some w ∷ t) (slots_saved (suc k) ws))
 
 pub refilled : (ws : List (Option Funds)) → length ws ≡ owner_slots → slots owner_slots 0 (saved_from 0 ws) ≡ ws
 refilled ws e = subst (λ n. slots n 0 (saved_from 0 ws) ≡ ws) e (slots_saved 0 ws)
@@ -44,17 +44,17 @@ refilled ws e = subst (λ n. slots n 0 (saved_from 0 ws) ≡ ws) e (slots_saved 
 -- wallets are saved for accounts that have funds, below the limit
 pub nothing_saved : (k : ℕ) (ws : List (Option Funds)) → Owned [] ws → saved_from k ws ≡ []
 nothing_saved k [] h = refl
-nothing_saved k (none ∷ ws) h = nothing_saved (suc k) ws (λ i. h (suc i))
-nothing_saved k (some w ∷ ws) h = absurd (let e = h 0 in let z : ◌≡◌ {A = ℕ} 0 1 = cc in omega (arith, z))
+nothing_saved k (None ∷ ws) h = nothing_saved (suc k) ws (λ i. h (suc i))
+nothing_saved k (Some w ∷ ws) h = absurd (let e = h 0 in let z : ◌≡◌ {A = ℕ} 0 1 = cc in omega (arith, z))
 
 saved_below : (k limit : ℕ) (t : List (Option Account)) (ws : List (Option Funds)) → k + length t ≤ limit → Owned t ws → wallets_below limit (saved_from k ws) ≡ true
 saved_below k limit [] ws l h = ap (wallets_below limit) (nothing_saved k ws h)
 saved_below k limit (a ∷ t) [] l h = refl
-saved_below k limit (a ∷ t) (none ∷ ws) l h = saved_below (suc k) limit t ws (omega arith) (λ i. h (suc i))
-saved_below k limit (a ∷ t) (some w ∷ ws) l h = rw (lt-ltb k limit (omega (arith, l))) (saved_below (suc k) limit t ws (omega arith) (λ i. h (suc i)))
+saved_below k limit (a ∷ t) (None ∷ ws) l h = saved_below (suc k) limit t ws (omega arith) (λ i. h (suc i))
+saved_below k limit (a ∷ t) (Some w ∷ ws) l h = rw (lt-ltb k limit (omega (arith, l))) (saved_below (suc k) limit t ws (omega arith) (λ i. h (suc i)))
 
 -- the wallets by the accounts' funds, with the amounts of the bytes
-pub by_slot_at : {A : Type 0} (f : Option Account → A) (d : A) (n : ℕ) (t : List (Option Account)) (i : ℕ) → i < n → get_or (by_slot f n t) i d ≡ f (get_or t i none)
+pub by_slot_at : {A : Type 0} (f : Option Account → A) (d : A) (n : ℕ) (t : List (Option Account)) (i : ℕ) → i < n → get_or (by_slot f n t) i d ≡ f (get_or t i None)
 by_slot_at f d zero t i h = absurd (omega (arith, h))
 by_slot_at f d (suc n) [] zero h = refl
 by_slot_at f d (suc n) [] (suc i) h = by_slot_at f d n [] i (omega arith)
@@ -69,20 +69,20 @@ by_slot_length f (suc n) (a ∷ t) = ap suc (by_slot_length f n t)
 -- a slot of the funds' table is a wallet's where and only where the account has funds
 pub by_slot_owned : (t : List (Option Account)) → length t ≤ owner_slots → Owned t (by_slot funds_in owner_slots t)
 by_slot_owned t l i =
-    split (λ b. (ltb i owner_slots ≡ b) → is_some (get_or (by_slot funds_in owner_slots t) i none) ≡ is_some (funds_in (get_or t i none))) (ltb i owner_slots)
-    (λ _ e. ap is_some (by_slot_at funds_in none owner_slots t i (ltb-true i owner_slots e)))
+    split (λ b. (ltb i owner_slots ≡ b) → is_some (get_or (by_slot funds_in owner_slots t) i None) ≡ is_some (funds_in (get_or t i None))) (ltb i owner_slots)
+    (λ _ e. ap is_some (by_slot_at funds_in None owner_slots t i (ltb-true i owner_slots e)))
     (λ _ e.
-    ap is_some (get_or-eq_default (by_slot funds_in owner_slots t) none {n = i} (let q : owner_slots ≤ i = ltb-false i owner_slots e in omega (arith, by_slot_length funds_in owner_slots t)))
-    ∙ ap (λ a. is_some (funds_in a)) (sym (get_or-eq_default t none {n = i} (let q : owner_slots ≤ i = ltb-false i owner_slots e in omega arith))))
+    ap is_some (get_or-eq_default (by_slot funds_in owner_slots t) None {n = i} (let q : owner_slots ≤ i = ltb-false i owner_slots e in omega (arith, by_slot_length funds_in owner_slots t)))
+    ∙ ap (λ a. is_some (funds_in a)) (sym (get_or-eq_default t None {n = i} (let q : owner_slots ≤ i = ltb-false i owner_slots e in omega arith))))
     refl
 
 same_wallet : (f w : Option Funds) → is_some w ≡ is_some f → restored_wallet f w ≡ w
-same_wallet none none h = refl
-same_wallet none (some w) h = absurd (let z : ◌≡◌ {A = ℕ} 0 1 = cc in omega (arith, z))
-same_wallet (some f) none h = absurd (let z : ◌≡◌ {A = ℕ} 0 1 = cc in omega (arith, z))
-same_wallet (some f) (some w) h = refl
+same_wallet None None h = refl
+same_wallet None (Some w) h = absurd (let z : ◌≡◌ {A = ℕ} 0 1 = cc in omega (arith, z))
+same_wallet (Some f) None h = absurd (let z : ◌≡◌ {A = ℕ} 0 1 = cc in omega (arith, z))
+same_wallet (Some f) (Some w) h = refl
 
-same_wallets : (fs ws : List (Option Funds)) → length fs ≡ length ws → ((i : ℕ) → is_some (get_or ws i none) ≡ is_some (get_or fs i none)) → restored_wallets fs ws ≡ ws
+same_wallets : (fs ws : List (Option Funds)) → length fs ≡ length ws → ((i : ℕ) → is_some (get_or ws i None) ≡ is_some (get_or fs i None)) → restored_wallets fs ws ≡ ws
 same_wallets [] [] e h = refl
 same_wallets [] (w ∷ ws) e h = absurd (omega (arith, e))
 same_wallets (f ∷ fs) [] e h = absurd (omega (arith, e))

@@ -1,8 +1,8 @@
 -- A gateway with room serves: what `RoomServes` of specs/Claims.antt claims. Assumes nothing.
+use Rattle.std.specs.Prelude.{Option, Some, None, unwrap_or, is_some}
 use Prim.Native.Nat.{ℕ, suc, ◌+◌, ◌<◌}
 use mathlib.Core.Bool.{Bool, true, false, cond, not, ◌&&◌, ◌||◌, true≢false}
 use mathlib.Core.Path.{◌≡◌, refl, ap, ap₂, sym, ◌∙◌, subst}
-use mathlib.Core.Option.{Option, none, some, get_or}
 use mathlib.Core.List.{List, [], ◌∷◌, ◌++◌, append-nil}
 use native.Mathlib.Omega.{arith}
 use borrow.Author.Tests.{lt-ltb, le-leb, eq-eqb}
@@ -12,8 +12,6 @@ use lib.ListN.{length, set}
 use lib.Dec.{eqb, ltb, leb}
 use Rattle.orderbook.specs.declared.Side.{Side}
 use Rattle.orderbook.specs.declared.Side.TheVariants.{Buy, Sell}
-use Rattle.orderbook.specs.declared.MaybePrice.{MaybePrice}
-use Rattle.orderbook.specs.declared.MaybePrice.TheVariants.{None, Some}
 use Rattle.orderbook.specs.declared.Command.{Command}
 use Rattle.orderbook.specs.declared.Command.TheVariants.{Cancel, Modify, CancelAll}
 use Rattle.orderbook.specs.declared.Event.{Event}
@@ -32,7 +30,7 @@ use Rattle.accounts.specs.declared.Funds.{Funds}
 use Rattle.accounts.specs.declared.Timing.{Timing}
 use Rattle.words.specs.Words.{least, most, fit, fit_in, place_of, inside, above, below, modulus}
 use Rattle.risk.specs.declared.Bucket.{Bucket}
-use Rattle.gateway.specs.Basics.{option, is_some}
+use Rattle.gateway.specs.Basics.{option}
 use Rattle.gateway.specs.Limits.{most_in_flight, most_orders, most_notices, most_trades, full, too_short, inconsistent, not_quiet}
 use Rattle.table.specs.Live.{look, insert}
 use Rattle.gateway.specs.Ledger.{Order, Ledger, New, Item, account, command, event, order_of, owner_of, placed, Change, mark_by, fill, set_leaves, reprice, retire, wallet_of, change, changes, step, same_side, hold, order_hold, held_by, held, fits, wallets_fit, holds_fit}
@@ -59,14 +57,14 @@ begins timing l t e h =
 
 -- ---- one order's hold is in range, whatever it is
 
-or_zero : (z : ℤ) → fits (get_or (fit z) (pos 0)) ≡ true
+or_zero : (z : ℤ) → fits (unwrap_or (fit z) (pos 0)) ≡ true
 unfolding place_of
 or_zero z =
-    split (λ x. (le_z least z ≡ x) → fits (get_or (fit_in (cond x (cond (le_z z most) (inside z) above) below)) (pos 0)) ≡ true) (le_z least z)
-    (λ _ a. split (λ y. (le_z z most ≡ y) → fits (get_or (fit_in (cond y (inside z) above)) (pos 0)) ≡ true) (le_z z most) (λ _ b. between z a b) (λ _ b. zero_fits) refl)
+    split (λ x. (le_z least z ≡ x) → fits (unwrap_or (fit_in (cond x (cond (le_z z most) (inside z) above) below)) (pos 0)) ≡ true) (le_z least z)
+    (λ _ a. split (λ y. (le_z z most ≡ y) → fits (unwrap_or (fit_in (cond y (inside z) above)) (pos 0)) ≡ true) (le_z z most) (λ _ b. between z a b) (λ _ b. zero_fits) refl)
     (λ _ a. zero_fits) refl
 
-hold_fits : (fee : ℤ) (s : Side) (p : MaybePrice) (v : ℕ) → fits (hold fee s p v) ≡ true
+hold_fits : (fee : ℤ) (s : Side) (p : Option ℤ) (v : ℕ) → fits (hold fee s p v) ≡ true
 unfolding hold
 hold_fits fee s None v = zero_fits
 hold_fits fee Buy (Some p) v = or_zero _
@@ -79,9 +77,9 @@ held_one fee a s o =
 
 one_fits : (fee : ℤ) (ref n b : ℕ) (x : Option New) (a : ℕ) (ws : List (Option Funds)) → wallets_fit fee a ws (placed ref n b x) ≡ true
 one_fits fee ref n b x a [] = refl
-one_fits fee ref n b x a (none ∷ ws) = one_fits fee ref n b x (suc a) ws
-one_fits fee ref n b none a (some w ∷ ws) = rw zero_fits (one_fits fee ref n b none (suc a) ws)
-one_fits fee ref n b (some x) a (some w ∷ ws) = rw (held_one fee a Buy _, held_one fee a Sell _) (one_fits fee ref n b (some x) (suc a) ws)
+one_fits fee ref n b x a (None ∷ ws) = one_fits fee ref n b x (suc a) ws
+one_fits fee ref n b None a (Some w ∷ ws) = rw zero_fits (one_fits fee ref n b None (suc a) ws)
+one_fits fee ref n b (Some x) a (Some w ∷ ws) = rw (held_one fee a Buy _, held_one fee a Sell _) (one_fits fee ref n b (Some x) (suc a) ws)
 
 room_fits : (c : Core) (n : ℕ) (k : Command) → c.ledger.orders ≡ [] → fits_after (command n k) c ≡ true
 unfolding step holds_fit
@@ -195,8 +193,8 @@ guard_serves s ref r p ts h k = unless_needs (is_code Unavailable) Serves (rejec
 
 module _ (s a : ℕ) (c : Core) where
   one_notice : (o : NewOrder) (w : Option Funds) → leb (length (new_notice c.ledger.fee a o w)) most_notices ≡ true
-  one_notice o none = refl
-  one_notice o (some w) =
+  one_notice o None = refl
+  one_notice o (Some w) =
       split (λ b. leb (length (cond b [] (a ∷ []))) most_notices ≡ true) (is_zero (hold c.ledger.fee o.side (price_of o.kind) o.qty)) (λ e. refl) (λ e. refl)
 
   last_pass : (o : NewOrder) (k : Command) (r : Rest) → Roomy c r → Pass (last_tests a o k c r)
@@ -209,17 +207,17 @@ module _ (s a : ℕ) (c : Core) where
       (needs_append bad (can_number Unavailable c r) (last_tests a o k c r) (can_pass Unavailable c r h) (last_pass o k r h))
     where
       paper : (k : OrderKind) (w : Option Funds) → Needs (is_code Unavailable) (option [] (paper_tests a o.side o.qty c r k) w)
-      paper k none = tt
-      paper (Kind.Limit z t d) (some w) = tt
-      paper Kind.Market (some w) = tt
-      paper (Kind.Stop t l) (some w) = tt
+      paper k None = tt
+      paper (Kind.Limit z t d) (Some w) = tt
+      paper Kind.Market (Some w) = tt
+      paper (Kind.Stop t l) (Some w) = tt
 
   new_serves : (o : NewOrder) (r : Rest) → Roomy c r → Serves (enter_new s a o c r)
   new_serves o r h = let k = command_of (next c) a o.side o.qty o.kind in guard_serves s o.client_ref r _ (new_tests a o k c r) (new_needs o k r h) tt
 
   other_serves : (own : Tests RejectCode) (k : Command) (r : Rest) → Roomy c r → Needs (is_code Unavailable) own → Serves (enter_other s own k c r)
   other_serves own k r h g =
-      guard_serves s 0 r (numbered (some s) k c r) (own ++ can_number Unavailable c r)
+      guard_serves s 0 r (numbered (Some s) k c r) (own ++ can_number Unavailable c r)
       (needs_append (is_code Unavailable) own (can_number Unavailable c r) g (can_pass Unavailable c r h)) tt
 
   token_serves : (ref : ℕ) (r : Rest) (enter : Rest → Plan) → Roomy c r → ((q : Rest) → Roomy c q → Serves (enter q)) → Serves (with_token s a ref c r enter)
@@ -261,15 +259,15 @@ receive_serves s m c r h =
     (λ _. go (account_of (session_at s r))) (λ _. silent)
   where
     go : (a : Option ℕ) → Serves (option (greet s m c (update_session s (set_received r.clock) r)) (λ b. hear s b m c (update_session s (set_received r.clock) r)) a)
-    go none = greet_serves s m c _
-    go (some a) = hear_serves s a c m _ (moved r.clock _ r.buckets c r h)
+    go None = greet_serves s m c _
+    go (Some a) = hear_serves s a c m _ (moved r.clock _ r.buckets c r h)
 
 -- ---- delivering
 
 shrinks_none : {ps : List Order} → Shrinks [] ps → ps ≡ []
 shrinks_none empty = refl
 
-named_none : (x : Change) → named x [] ≡ none
+named_none : (x : Change) → named x [] ≡ None
 unfolding look
 named_none (mark_by t m p) = refl
 named_none (fill n p q v) = refl
@@ -343,8 +341,8 @@ plan_open c r (shut_down room) h = within_open room (all_ended r) tt
 plan_open c r (disconnect s) h = go (account_of (session_at s r))
   where
     go : (a : Option ℕ) → Open (gone a c (without_session s r))
-    go none = tt
-    go (some a) = guard_open _ (can_number full c (without_session s r)) (can_pass full c (without_session s r) (moved r.clock (set r.sessions s none) r.buckets c r h)) tt
+    go None = tt
+    go (Some a) = guard_open _ (can_number full c (without_session s r)) (can_pass full c (without_session s r) (moved r.clock (set r.sessions s None) r.buckets c r h)) tt
 plan_open c r (detach s) h = tt
 plan_open c r (take_batch room) h = guard_open _ _ tt tt
 plan_open c r (deliver_event n e room) h = guard_open _ (deliver_tests n e c r) (deliver_needs n e c r h) (within_open room (deliver n e c r) tt)
@@ -392,37 +390,37 @@ module _ (s a : ℕ) (c : Core) (r : Rest) (h : Roomy c r) (m : Member a c r) wh
 
   -- the new order is numbered under the client's reference, and nobody is sent anything
   new : (o : NewOrder) → (let k = command_of (next c) a o.side o.qty o.kind in
-      hear s a (In.NewOrder o) c r ≡ records (record { client_ref = o.client_ref; session = some s }) (command (next c) k) [] (queued k (spent a c r)))
+      hear s a (In.NewOrder o) c r ≡ records (record { client_ref = o.client_ref; session = Some s }) (command (next c) k) [] (queued k (spent a c r)))
   unfolding hear
   new o =
       let k = command_of (next c) a o.side o.qty o.kind in
       let told : List ℕ → Plan = λ ns.
-      records (record { client_ref = o.client_ref; session = some s }) (command (next c) k) [] (queued k (pending r.depth r.trades ns (spent a c r))) in
+      records (record { client_ref = o.client_ref; session = Some s }) (command (next c) k) [] (queued k (pending r.depth r.trades ns (spent a c r))) in
       tokened o.client_ref (enter_new s a o c)
       ∙ unless_pass (reject s o.client_ref (spent a c r)) (told (r.notices ++ new_notice c.ledger.fee a o (wallet_at a c))) (new_tests a o k c (spent a c r)) (new_pass o k)
       ∙ ap (λ w. told (r.notices ++ new_notice c.ledger.fee a o w)) m.no_wallet
       ∙ ap told (append-nil r.notices)
 
-  other_numbered : (own : Tests RejectCode) (k : Command) → Pass own → with_token s a 0 c r (enter_other s own k c) ≡ numbered (some s) k c (spent a c r)
+  other_numbered : (own : Tests RejectCode) (k : Command) → Pass own → with_token s a 0 c r (enter_other s own k c) ≡ numbered (Some s) k c (spent a c r)
   other_numbered own k p =
       tokened 0 (enter_other s own k c)
-      ∙ unless_pass (reject s 0 (spent a c r)) (numbered (some s) k c (spent a c r)) (own ++ can_number Unavailable c (spent a c r)) (pass_join own _ p (can_pass Unavailable c (spent a c r) roomy_spent))
+      ∙ unless_pass (reject s 0 (spent a c r)) (numbered (Some s) k c (spent a c r)) (own ++ can_number Unavailable c (spent a c r)) (pass_join own _ p (can_pass Unavailable c (spent a c r) roomy_spent))
 
-  cancel : (i : ℕ) → hear s a (In.Cancel i) c r ≡ numbered (some s) (Cancel i a) c (spent a c r)
+  cancel : (i : ℕ) → hear s a (In.Cancel i) c r ≡ numbered (Some s) (Cancel i a) c (spent a c r)
   unfolding hear
   cancel i = other_numbered [] (Cancel i a) tt
 
-  modify : (i : ℕ) (p : ℤ) (q : ℕ) → hear s a (In.Modify i p q) c r ≡ numbered (some s) (Modify i a p q) c (spent a c r)
+  modify : (i : ℕ) (p : ℤ) (q : ℕ) → hear s a (In.Modify i p q) c r ≡ numbered (Some s) (Modify i a p q) c (spent a c r)
   unfolding hear
   modify i p q = other_numbered ((NotAllowed, not (is_some (wallet_at a c))) ∷ []) (Modify i a p q) (rw m.no_wallet refl, tt)
 
-  mass : hear s a In.MassCancel c r ≡ numbered (some s) (CancelAll a) c (spent a c r)
+  mass : hear s a In.MassCancel c r ≡ numbered (Some s) (CancelAll a) c (spent a c r)
   unfolding hear
   mass = other_numbered [] (CancelAll a) tt
 
 -- what is heard of an open session is what the call does, where it sends nothing
-heard : (s a t room : ℕ) (x : Inbound) (y : Session) (c : Core) (r : Rest) (from : Origin) (i : Item) (q : Rest) → session_at s r ≡ some y →
-    y.account ≡ some a → y.closing ≡ false → hear s a x c (update_session s (set_received t) (at_time t r)) ≡ records from i [] q → plan c r (receive_from s x t room) ≡ records from i [] q
+heard : (s a t room : ℕ) (x : Inbound) (y : Session) (c : Core) (r : Rest) (from : Origin) (i : Item) (q : Rest) → session_at s r ≡ Some y →
+    y.account ≡ Some a → y.closing ≡ false → hear s a x c (update_session s (set_received t) (at_time t r)) ≡ records from i [] q → plan c r (receive_from s x t room) ≡ records from i [] q
 unfolding plan receive within
 heard s a t room x y c r from i q e f g h =
     let after = update_session s (set_received t) (at_time t r) in

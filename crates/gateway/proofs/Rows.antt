@@ -1,8 +1,8 @@
 -- Numbers, rows and sections of bytes, over any field widths: what was written is read back, whatever bytes stand behind it; bytes that are read are
 -- those written for what was read; every byte is below 256. Assumes nothing.
+use Rattle.std.specs.Prelude.{Some, None}
 use Prim.Native.Nat.{ℕ, zero, suc, ◌+◌, ◌*◌, ◌^◌, ◌/◌, ◌<◌}
 use mathlib.Core.Path.{◌≡◌, refl, ap, ap₂, ◌∙◌}
-use mathlib.Core.Option.{none, some}
 use mathlib.Core.List.{List, [], ◌∷◌, ◌++◌, map, append_assoc}
 use native.Mathlib.Omega.{arith}
 use native.Mathlib.Nat.{pow-succ', mod-add-div}
@@ -23,27 +23,27 @@ pub record FitRows (ws : List ℕ) (rs : List (List ℕ)) : Type 0 where
 
 -- ---- what was written is read back, whatever stands behind it
 
-pub number_back : (n v : ℕ) (ys : List ℕ) → v < 256 ^ n → read_number n (number n v ++ ys) ≡ some (v, ys)
-number_back zero v ys h = ap (λ x. some (x, ys)) (omega arith)
+pub number_back : (n v : ℕ) (ys : List ℕ) → v < 256 ^ n → read_number n (number n v ++ ys) ≡ Some (v, ys)
+number_back zero v ys h = ap (λ x. Some (x, ys)) (omega arith)
 number_back (suc n) v ys h = rw (number_back n (v / 256) ys (omega (arith, pow-succ' 256 n)), mod-add-div v 256)
 
-pub row_back : {ws vs : List ℕ} → Fit ws vs → (ys : List ℕ) → read_row ws (row ws vs ++ ys) ≡ some (vs, ys)
+pub row_back : {ws vs : List ℕ} → Fit ws vs → (ys : List ℕ) → read_row ws (row ws vs ++ ys) ≡ Some (vs, ys)
 row_back done ys = refl
 row_back (field {w = w} {v = v} {ws = ws} {vs = vs} h t) ys = rw (append_assoc (number w v) (row ws vs) ys, number_back w v (row ws vs ++ ys) h, row_back t ys)
 
-rows_back : (ws : List ℕ) (rs : List (List ℕ)) → Each (Fit ws) rs → (ys : List ℕ) → read_rows ws (length rs) (rows ws rs ++ ys) ≡ some (rs, ys)
+rows_back : (ws : List ℕ) (rs : List (List ℕ)) → Each (Fit ws) rs → (ys : List ℕ) → read_rows ws (length rs) (rows ws rs ++ ys) ≡ Some (rs, ys)
 rows_back ws [] h ys = refl
 rows_back ws (r ∷ rs) h ys = rw (append_assoc (row ws r) (rows ws rs) ys, row_back h.0 (rows ws rs ++ ys), rows_back ws rs h.1 ys)
 
-pub section_back : (ws : List ℕ) (rs : List (List ℕ)) → FitRows ws rs → (ys : List ℕ) → read_section ws (section ws rs ++ ys) ≡ some (rs, ys)
+pub section_back : (ws : List ℕ) (rs : List (List ℕ)) → FitRows ws rs → (ys : List ℕ) → read_section ws (section ws rs ++ ys) ≡ Some (rs, ys)
 section_back ws rs h ys = ap (λ r. then r (read_rows ws)) (number_back 4 (length rs) (rows ws rs ++ ys) h.count) ∙ rows_back ws rs h.each ys
 
 -- ---- bytes that are read are those written
 
 -- P of what was read and of the bytes behind it
 pub data Of {A : Type 0} (P : A → List ℕ → Type 0) : Read A → Type 0 where
-  missing : Of P none
-  got : (a : A) (ys : List ℕ) → P a ys → Of P (some (a, ys))
+  missing : Of P None
+  got : (a : A) (ys : List ℕ) → P a ys → Of P (Some (a, ys))
 
 -- reading one thing, then another
 pub of_then : {A B : Type 0} {P : A → List ℕ → Type 0} {Q : B → List ℕ → Type 0} {r : Read A} {f : A → List ℕ → Read B} → Of P r → ((a : A) (ys : List ℕ) → P a ys → Of Q (f a ys)) → Of Q (then r f)

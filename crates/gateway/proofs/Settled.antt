@@ -1,9 +1,9 @@
 -- An accepted trade settles: what `Settling` of specs/Claims.antt claims. Assumes nothing.
+use Rattle.std.specs.Prelude.{Option, Some, None, option_map}
 use Prim.Native.Nat.{ℕ}
-use mathlib.Core.Bool.{Bool, true, false, not, ◌&&◌, and-eq-true_iff, true≢false}
+use mathlib.Core.Bool.{Bool, true, not, ◌&&◌, and-eq-true_iff, true≢false}
 use mathlib.Core.Path.{◌≡◌, refl, ap, ap₂, sym, ◌∙◌}
 use mathlib.Core.Logic.{◌⊎◌, inl, inr}
-use mathlib.Core.Option.{Option, none, some, map}
 use mathlib.Core.List.{List}
 use borrow.Author.Tests.{eq-eqb}
 use lib.IntN.{ℤ, pos, ◌+ℤ◌, ◌-ℤ◌, ◌*ℤ◌}
@@ -30,18 +30,18 @@ use Rattle.gateway.specs.Claims.{Settles, exactly, hold_move, Settling}
 
 module _ (fee p : ℤ) (q : ℕ) (ws : List (Option Funds)) where
   -- the account of a filled order is paid
-  pay_own : (x : Option Order) (o : Order) (w : Funds) → x ≡ some o → get_or ws o.account none ≡ some w →
-      get_or (pay fee p q x ws) o.account none ≡ some (W.settle o.side (W.charged fee o.side p) q w)
+  pay_own : (x : Option Order) (o : Order) (w : Funds) → x ≡ Some o → get_or ws o.account None ≡ Some w →
+      get_or (pay fee p q x ws) o.account None ≡ Some (W.settle o.side (W.charged fee o.side p) q w)
   unfolding pay
   pay_own x o w h e =
-      ap (λ y. get_or (pay fee p q y ws) o.account none) h
-      ∙ get_or-set_same ws o.account _ none (held_slot ws o.account w e) ∙ ap (map (W.settle o.side (W.charged fee o.side p) q)) e
+      ap (λ y. get_or (pay fee p q y ws) o.account None) h
+      ∙ get_or-set_same ws o.account _ None (held_slot ws o.account w e) ∙ ap (option_map (W.settle o.side (W.charged fee o.side p) q)) e
 
   -- and no other
-  pay_other : (x : Option Order) (b : ℕ) → ((o : Order) → x ≡ some o → b ≡ o.account → ⊥) → get_or (pay fee p q x ws) b none ≡ get_or ws b none
+  pay_other : (x : Option Order) (b : ℕ) → ((o : Order) → x ≡ Some o → b ≡ o.account → ⊥) → get_or (pay fee p q x ws) b None ≡ get_or ws b None
   unfolding pay
-  pay_other none b h = refl
-  pay_other (some o) b h = get_or-set_other ws o.account b _ none (h o refl)
+  pay_other None b h = refl
+  pay_other (Some o) b h = get_or-set_other ws o.account b _ None (h o refl)
 
 -- where the numbers fit, settling is exact
 fit_inside : (z : ℤ) → fits z ≡ true → place_of z ≡ inside z
@@ -57,7 +57,7 @@ exact Sell p q f a b c d = simp (fit_inside _ a, fit_inside _ b, fit_inside _ c,
 -- ---- holds
 
 -- for the order's own account and side: what it holds afterwards, less what it held
-own_hold : (fee : ℤ) (x : Change) (o : Order) → hold_move fee o.account o.side x (some o) ≡ hold_after fee x o -ℤ order_hold fee o
+own_hold : (fee : ℤ) (x : Change) (o : Order) → hold_move fee o.account o.side x (Some o) ≡ hold_after fee x o -ℤ order_hold fee o
 own_hold fee x o = simp (eq-eqb o.account o.account refl, self o.side)
   where
     self : (s : Side) → same_side s s ≡ true
@@ -96,23 +96,23 @@ accepted_settles from n t taker maker s p q tl ml c ok h =
 
 -- the taker's account, where the maker's order is not of it; and the maker's likewise
 one_side : (c d : Ledger) (taker maker : ℕ) (p : ℤ) (q tl ml : ℕ) → Settles c d taker maker p q tl ml → (i j : ℕ) → ((i ≡ taker) × (j ≡ maker)) ⊎ ((i ≡ maker) × (j ≡ taker)) →
-    (o : Order) (w : Funds) → find i c.orders ≡ some o → get_or c.wallets o.account none ≡ some w →
-    ((x : Order) → find j c.orders ≡ some x → o.account ≡ x.account → ⊥) → get_or d.wallets o.account none ≡ some (W.settle o.side (W.charged c.fee o.side p) q w)
+    (o : Order) (w : Funds) → find i c.orders ≡ Some o → get_or c.wallets o.account None ≡ Some w →
+    ((x : Order) → find j c.orders ≡ Some x → o.account ≡ x.account → ⊥) → get_or d.wallets o.account None ≡ Some (W.settle o.side (W.charged c.fee o.side p) q w)
 one_side c d taker maker p q tl ml h i j (inl z) o w e f g =
-    ap (λ ws. get_or ws o.account none) h.wallets
+    ap (λ ws. get_or ws o.account None) h.wallets
     ∙ pay_other c.fee p q _ (find maker c.orders) o.account (λ x k. g x (ap (λ m. find m c.orders) z.1 ∙ k))
     ∙ pay_own c.fee p q c.wallets (find taker c.orders) o w (ap (λ m. find m c.orders) (sym z.0) ∙ e) f
 one_side c d taker maker p q tl ml h i j (inr z) o w e f g =
-    ap (λ ws. get_or ws o.account none) h.wallets
+    ap (λ ws. get_or ws o.account None) h.wallets
     ∙ pay_own c.fee p q _ (find maker c.orders) o w (ap (λ m. find m c.orders) (sym z.0) ∙ e)
     (pay_other c.fee p q c.wallets (find taker c.orders) o.account (λ x k. g x (ap (λ m. find m c.orders) z.1 ∙ k)) ∙ f)
 
 -- an account that neither order names
 others : (c d : Ledger) (taker maker : ℕ) (p : ℤ) (q tl ml : ℕ) → Settles c d taker maker p q tl ml → (b : ℕ) →
-    ((o : Order) → find taker c.orders ≡ some o → b ≡ o.account → ⊥) → ((o : Order) → find maker c.orders ≡ some o → b ≡ o.account → ⊥) →
-    get_or d.wallets b none ≡ get_or c.wallets b none
+    ((o : Order) → find taker c.orders ≡ Some o → b ≡ o.account → ⊥) → ((o : Order) → find maker c.orders ≡ Some o → b ≡ o.account → ⊥) →
+    get_or d.wallets b None ≡ get_or c.wallets b None
 others c d taker maker p q tl ml h b u v =
-    ap (λ ws. get_or ws b none) h.wallets ∙ pay_other c.fee p q _ (find maker c.orders) b v ∙ pay_other c.fee p q c.wallets (find taker c.orders) b u
+    ap (λ ws. get_or ws b None) h.wallets ∙ pay_other c.fee p q _ (find maker c.orders) b v ∙ pay_other c.fee p q c.wallets (find taker c.orders) b u
 
 pub settling : Settling
 settling = record { settles = accepted_settles; one_side = one_side; others = others; exact = exact; own_hold = own_hold }

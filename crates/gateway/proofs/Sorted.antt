@@ -1,15 +1,14 @@
 -- Tables ascending by key, over the row's type. Assumes nothing.
+use Rattle.std.specs.Prelude.{Option, Some, None, is_some}
 use Prim.Native.Nat.{ℕ, suc, ◌≤◌}
 use mathlib.Core.Bool.{Bool, true, false, cond}
 use mathlib.Core.Path.{◌≡◌, refl, sym, ap, ◌∙◌}
-use mathlib.Core.Option.{Option, none, some}
 use mathlib.Core.List.{List, [], ◌∷◌}
 use native.Mathlib.Omega.{arith}
 use borrow.Author.Tests.{ltb-true, ltb-false, eqb-true, eqb-false, ne_eqb}
 use lib.ListN.{length}
 use lib.Dec.{eqb, ltb}
 use Rattle.table.specs.Live.{Each, look, without, insert, replace}
-use Rattle.gateway.specs.Basics.{is_some}
 use Rattle.gateway.specs.Table.{Rises}
 use Rattle.gateway.proofs.Base.{split}
 
@@ -36,9 +35,9 @@ module _ {A : Type 0} (key : A → ℕ) where
 
   -- no row of the table has the key
   abbrev pub Absent : ℕ → List A → Type 0
-  Absent k l = look key k l ≡ none
+  Absent k l = look key k l ≡ None
 
-  not_some : (b : Bool) (x : A) (o : Option A) → cond b (some x) o ≡ none → (b ≡ false) × (o ≡ none)
+  not_some : (b : Bool) (x : A) (o : Option A) → cond b (Some x) o ≡ None → (b ≡ false) × (o ≡ None)
   not_some true x o e = let z : ◌≡◌ {A = ℕ} 0 1 = cc in absurd (omega (arith, z))
   not_some false x o e = (refl, e)
 
@@ -80,30 +79,30 @@ module _ {A : Type 0} (key : A → ℕ) where
   unfolding insert look
   absent_insert k r [] h a = missing h a
     where
-      missing : (key r ≡ k → ⊥) → Absent k [] → cond (eqb (key r) k) (some r) none ≡ none
-      missing h a = split (λ c. (eqb (key r) k ≡ c) → cond c (some r) none ≡ none) (eqb (key r) k) (λ _ e. absurd (h (eqb-true (key r) k e))) (λ _ e. refl) refl
+      missing : (key r ≡ k → ⊥) → Absent k [] → cond (eqb (key r) k) (Some r) None ≡ None
+      missing h a = split (λ c. (eqb (key r) k ≡ c) → cond c (Some r) None ≡ None) (eqb (key r) k) (λ _ e. absurd (h (eqb-true (key r) k e))) (λ _ e. refl) refl
   absent_insert k r (x ∷ l) h a =
       let b = absent_head k x l a in
       let u = absent_insert k r l h b.1 in
       let nr : eqb (key r) k ≡ false = split (λ c. (eqb (key r) k ≡ c) → c ≡ false) (eqb (key r) k) (λ _ e. absurd (h (eqb-true (key r) k e))) (λ _ e. refl) refl in
       let nx : eqb (key x) k ≡ false = split (λ c. (eqb (key x) k ≡ c) → c ≡ false) (eqb (key x) k) (λ _ e. absurd (b.0 (eqb-true (key x) k e))) (λ _ e. refl) refl in
-      split (λ c. look key k (cond c (r ∷ x ∷ l) (x ∷ insert key r l)) ≡ none) (ltb (key r) (key x))
+      split (λ c. look key k (cond c (r ∷ x ∷ l) (x ∷ insert key r l)) ≡ None) (ltb (key r) (key x))
       (λ e. rw (nr, nx) b.1) (λ e. rw nx u)
 
   pub absent_is : (k : ℕ) (l : List A) → is_some (look key k l) ≡ false → Absent k l
   absent_is k l h = go (look key k l) h
     where
-      go : (o : Option A) → is_some o ≡ false → o ≡ none
-      go none e = refl
-      go (some x) e = let z : ◌≡◌ {A = ℕ} 0 1 = cc in absurd (omega (arith, z))
+      go : (o : Option A) → is_some o ≡ false → o ≡ None
+      go None e = refl
+      go (Some x) e = let z : ◌≡◌ {A = ℕ} 0 1 = cc in absurd (omega (arith, z))
 
   -- ---- what is found, and how many are left
 
-  pub look_key : (k : ℕ) (x : A) (l : List A) → look key k l ≡ some x → key x ≡ k
+  pub look_key : (k : ℕ) (x : A) (l : List A) → look key k l ≡ Some x → key x ≡ k
   unfolding look
   look_key k x [] e = let z : ◌≡◌ {A = ℕ} 0 1 = cc in absurd (omega (arith, z))
   look_key k x (r ∷ l) e =
-      split (λ b. (eqb (key r) k ≡ b) → cond b (some r) (look key k l) ≡ some x → key x ≡ k) (eqb (key r) k)
+      split (λ b. (eqb (key r) k ≡ b) → cond b (Some r) (look key k l) ≡ Some x → key x ≡ k) (eqb (key r) k)
       (λ _ q w. let j : r ≡ x = cc in ap key (sym j) ∙ eqb-true (key r) k q) (λ _ q w. look_key k x l w) refl e
 
   -- another row is found as before
@@ -112,19 +111,19 @@ module _ {A : Type 0} (key : A → ℕ) where
   look_without k n h [] = refl
   look_without k n h (x ∷ l) =
       let u = look_without k n h l in
-      split (λ b. (eqb (key x) n ≡ b) → look key k (cond b (without key n l) (x ∷ without key n l)) ≡ cond (eqb (key x) k) (some x) (look key k l)) (eqb (key x) n)
-      (λ _ e. let q = eqb-true (key x) n e in u ∙ sym (rw (ne_eqb (key x) k (λ w. h (sym w ∙ q))) refl)) (λ _ e. ap (cond (eqb (key x) k) (some x)) u) refl
+      split (λ b. (eqb (key x) n ≡ b) → look key k (cond b (without key n l) (x ∷ without key n l)) ≡ cond (eqb (key x) k) (Some x) (look key k l)) (eqb (key x) n)
+      (λ _ e. let q = eqb-true (key x) n e in u ∙ sym (rw (ne_eqb (key x) k (λ w. h (sym w ∙ q))) refl)) (λ _ e. ap (cond (eqb (key x) k) (Some x)) u) refl
 
   pub look_replace : (k : ℕ) (r : A) → (k ≡ key r → ⊥) → (l : List A) → look key k (replace key r l) ≡ look key k l
   unfolding look replace
   look_replace k r h [] = refl
   look_replace k r h (x ∷ l) =
       let u = look_replace k r h l in
-      split (λ b. (eqb (key x) (key r) ≡ b) → cond (eqb (key (cond b r x)) k) (some (cond b r x)) (look key k (replace key r l)) ≡ cond (eqb (key x) k) (some x) (look key k l)) (eqb (key x) (key r))
+      split (λ b. (eqb (key x) (key r) ≡ b) → cond (eqb (key (cond b r x)) k) (Some (cond b r x)) (look key k (replace key r l)) ≡ cond (eqb (key x) k) (Some x) (look key k l)) (eqb (key x) (key r))
       (λ _ e.
       let q = eqb-true (key x) (key r) e in
       rw (ne_eqb (key r) k (λ w. h (sym w)), ne_eqb (key x) k (λ w. h (sym w ∙ q))) u)
-      (λ _ e. ap (cond (eqb (key x) k) (some x)) u) refl
+      (λ _ e. ap (cond (eqb (key x) k) (Some x)) u) refl
 
   pub length_without : (k : ℕ) (l : List A) → length (without key k l) ≤ length l
   unfolding without

@@ -1,16 +1,16 @@
 -- What a restored gateway sees of the core: references forgotten, commands up to N not in flight, senders unknown. Replay moves the view as the
 -- core is moved. Assumes nothing.
-use Prim.Native.Nat.{ℕ, suc, ◌+◌, ◌<◌, ◌≤◌}
-use mathlib.Core.Bool.{true, cond, not}
+use Rattle.std.specs.Prelude.{None}
+use Prim.Native.Nat.{ℕ, suc, ◌<◌, ◌≤◌}
+use mathlib.Core.Bool.{true, cond}
 use mathlib.Core.Path.{◌≡◌, refl, ap, sym, ◌∙◌}
-use mathlib.Core.Option.{none}
 use mathlib.Core.List.{List, [], ◌∷◌, ◌++◌, map}
 use native.Mathlib.Omega.{arith}
 use borrow.Author.Tests.{ltb-true, ltb-false, lt-ltb, le-ltb}
 use lib.ListN.{length, length-map}
 use lib.Dec.{ltb}
 use Rattle.gateway.specs.Limits.{most_in_flight}
-use Rattle.gateway.specs.Ledger.{Item, account, command, event, step}
+use Rattle.gateway.specs.Ledger.{Item, account, command, event}
 use Rattle.gateway.specs.Core.{Pass, Origin, system, Flight, Core, drop_below, is_first, first_places, tests, fits_after, flights_after, core_step}
 use Rattle.gateway.specs.Restart.{forgetting}
 use Rattle.gateway.proofs.Base.{split, if_map}
@@ -48,7 +48,7 @@ below_short m (f ∷ fs) =
 
 -- senders unknown
 abbrev pub unsent : Flight → Flight
-unsent f = record { number = f.number; session = none; owner = f.owner; places = f.places }
+unsent f = record { number = f.number; session = None; owner = f.owner; places = f.places }
 
 below_unsent : (n : ℕ) (fs : List Flight) → drop_below n (map unsent fs) ≡ map unsent (drop_below n fs)
 below_unsent n [] = refl

@@ -1,12 +1,9 @@
 -- The checkpoint's bytes: little-endian rows of fields, written and read back.
-use Rattle.std.specs.Prelude.{ℕ, zero, suc, ◌+◌, ◌*◌, ◌/◌, ◌%◌, Bool, true, cond, ◌&&◌, ◌||◌, List, [], ◌∷◌, ◌++◌, map, length, get_or, eqb, leb}
-use Rattle.std.proofs.Math.Option.{Option, none, some}
+use Rattle.std.specs.Prelude.{ℕ, zero, suc, ◌+◌, ◌*◌, ◌/◌, ◌%◌, Bool, true, cond, ◌&&◌, ◌||◌, List, [], ◌∷◌, ◌++◌, map, length, get_or, eqb, leb, Option, Some, None, ℤ}
 use Rattle.std.specs.Int.{w64}
 use Rattle.std.proofs.Common.{of_z, to_z}
 use Rattle.orderbook.specs.declared.Side.{Side}
 use Rattle.orderbook.specs.declared.Side.TheVariants.{Buy, Sell}
-use Rattle.orderbook.specs.declared.MaybePrice.{MaybePrice}
-use Rattle.orderbook.specs.declared.MaybePrice.TheVariants.{None, Some}
 use Rattle.accounts.specs.declared.Funds.{Funds}
 use Rattle.gateway.specs.Limits.{owner_slots, most_orders}
 use Rattle.gateway.specs.Ledger.{Order}
@@ -39,21 +36,21 @@ abbrev pub Read : Type 0 → Type 0
 Read A = Option (A × List ℕ)
 
 abbrev pub then : {A B : Type 0} → Read A → (A → List ℕ → Read B) → Read B
-then none f = none
-then (some x) f = f x.0 x.1
+then None f = None
+then (Some x) f = f x.0 x.1
 
 abbrev pub read_number : ℕ → List ℕ → Read ℕ
-read_number zero xs = some (0, xs)
-read_number (suc n) [] = none
-read_number (suc n) (x ∷ xs) = then (read_number n xs) (λ v more. some (x + 256 * v, more))
+read_number zero xs = Some (0, xs)
+read_number (suc n) [] = None
+read_number (suc n) (x ∷ xs) = then (read_number n xs) (λ v more. Some (x + 256 * v, more))
 
 abbrev pub read_row : List ℕ → List ℕ → Read (List ℕ)
-read_row [] xs = some ([], xs)
-read_row (w ∷ ws) xs = then (read_number w xs) (λ v more. then (read_row ws more) (λ vs end. some (v ∷ vs, end)))
+read_row [] xs = Some ([], xs)
+read_row (w ∷ ws) xs = then (read_number w xs) (λ v more. then (read_row ws more) (λ vs end. Some (v ∷ vs, end)))
 
 abbrev pub read_rows : List ℕ → ℕ → List ℕ → Read (List (List ℕ))
-read_rows ws zero xs = some ([], xs)
-read_rows ws (suc n) xs = then (read_row ws xs) (λ r more. then (read_rows ws n more) (λ rs end. some (r ∷ rs, end)))
+read_rows ws zero xs = Some ([], xs)
+read_rows ws (suc n) xs = then (read_row ws xs) (λ r more. then (read_rows ws n more) (λ rs end. Some (r ∷ rs, end)))
 
 abbrev pub read_section : List ℕ → List ℕ → Read (List (List ℕ))
 read_section ws xs = then (read_number 4 xs) (read_rows ws)
@@ -81,13 +78,13 @@ write_raw r = row head_widths r.head ++ (section wallet_widths r.wallets ++ sect
 
 abbrev pub read_parts : List ℕ → Read Raw
 read_parts xs =
-    then (read_row head_widths xs) (λ h more. then (read_section wallet_widths more) (λ ws rest. then (read_section order_widths rest) (λ os end. some (record { head = h; wallets = ws; orders = os }, end))))
+    then (read_row head_widths xs) (λ h more. then (read_section wallet_widths more) (λ ws rest. then (read_section order_widths rest) (λ os end. Some (record { head = h; wallets = ws; orders = os }, end))))
 
 -- extra bytes are refused
 abbrev pub whole : {A : Type 0} → Read A → Option A
-whole none = none
-whole (some (a, [])) = some a
-whole (some (a, x ∷ end)) = none
+whole None = None
+whole (Some (a, [])) = Some a
+whole (Some (a, x ∷ end)) = None
 
 abbrev pub read_raw : List ℕ → Option Raw
 read_raw xs = whole (read_parts xs)
@@ -95,11 +92,11 @@ read_raw xs = whole (read_parts xs)
 -- ---- values as fields
 
 -- an absent price is 0
-abbrev pub price_word : MaybePrice → ℕ
+abbrev pub price_word : Option ℤ → ℕ
 price_word None = 0
 price_word (Some p) = of_z w64 p
 
-abbrev pub price_flag : MaybePrice → ℕ
+abbrev pub price_flag : Option ℤ → ℕ
 price_flag None = 0
 price_flag (Some p) = 1
 
@@ -107,7 +104,7 @@ abbrev pub buy_flag : Side → ℕ
 buy_flag Buy = 1
 buy_flag Sell = 0
 
-abbrev pub price_from : ℕ → ℕ → MaybePrice
+abbrev pub price_from : ℕ → ℕ → Option ℤ
 price_from flag w = cond (eqb flag 1) (Some (to_z w64 w)) None
 
 abbrev pub side_from : ℕ → Side
@@ -180,8 +177,8 @@ unfoldable pub encode : Saved → List ℕ
 encode s = write_raw (raw s)
 
 abbrev pub checked : Option Raw → Option Saved
-checked none = none
-checked (some r) = cond (well_formed r) (some (saved r)) none
+checked None = None
+checked (Some r) = cond (well_formed r) (Some (saved r)) None
 
 -- refusal 11 is none here
 unfoldable pub decode : List ℕ → Option Saved

@@ -1,13 +1,9 @@
 -- What is claimed of the definitions beyond what they say: each end theorem as a type, with 01 or the order of 02 that asks for it. `claims` in src/lib.rt has a
 -- proof of all of them; docs/REVIEW.md lists them.
-use Rattle.std.specs.Prelude.{ℕ, ◌+◌, ◌≤◌, ◌<◌, Bool, true, false, cond, ◌&&◌, ◌≡◌, ◌⊎◌, List, [], ◌∷◌, ◌++◌, map, ℤ, pos, ◌+ℤ◌, ◌-ℤ◌, ◌*ℤ◌, length, get_or, set, eqb}
-use Rattle.std.proofs.Math.Option
-use Rattle.std.proofs.Math.Option.{Option, none, some}
+use Rattle.std.specs.Prelude.{ℕ, ◌+◌, ◌≤◌, ◌<◌, Bool, true, false, cond, ◌&&◌, ◌≡◌, ◌⊎◌, List, [], ◌∷◌, ◌++◌, map, ℤ, pos, ◌+ℤ◌, ◌-ℤ◌, ◌*ℤ◌, length, get_or, set, eqb, Option, Some, None, option_map, unwrap_or}
 use Rattle.std.specs.Int.Signed.{le_z}
 use Rattle.orderbook.specs.declared.Side.{Side}
 use Rattle.orderbook.specs.declared.Side.TheVariants.{Buy, Sell}
-use Rattle.orderbook.specs.declared.MaybePrice.{MaybePrice}
-use Rattle.orderbook.specs.declared.MaybePrice.TheVariants.{Some}
 use Rattle.orderbook.specs.declared.Command.TheVariants.{Cancel, Modify, CancelAll}
 use Rattle.orderbook.specs.declared.Event.TheVariants.{Rejected, Trade}
 use Rattle.orderbook.specs.declared.RejectReason.{RejectReason}
@@ -25,7 +21,7 @@ use Rattle.wallet.specs.Wallet as W
 use Rattle.table.specs.Live.{Each}
 use Rattle.gateway.specs.Basics.{option}
 use Rattle.gateway.specs.Limits.{most_in_flight, full, not_quiet}
-use Rattle.gateway.specs.Ledger.{Order, Ledger, Item, command, event, Change, find, fill, retire, changes, changed, pay, price_option, same_side, wallet_of, hold, order_hold, held, open_of, fits}
+use Rattle.gateway.specs.Ledger.{Order, Ledger, Item, command, event, Change, find, fill, retire, changes, changed, pay, same_side, wallet_of, hold, order_hold, held, open_of, fits}
 use Rattle.gateway.specs.Saved.{Saved, contents}
 use Rattle.gateway.specs.Bytes.{encode, decode}
 use Rattle.gateway.specs.Core.{Pass, Origin, Core, drop_below, first_places, account_at, tests, core_step}
@@ -36,7 +32,7 @@ use Rattle.gateway.specs.Deliver.{notices_of, hold_after}
 use Rattle.gateway.specs.Calls.{Gateway, Call, receive_from, checkpoint, plan, done, call}
 use Rattle.gateway.specs.Start.{Started, started, begin, empty_depth, charging, set_up, restore}
 use Rattle.gateway.specs.Fits.{Unsigned, AccountsFit, ListingFits, CallFits, CallsFit, Bytes}
-use Rattle.gateway.specs.Invariant.{CoreOk, Ok}
+use Rattle.gateway.specs.Invariant.{CoreOk, GatewayOk}
 use Rattle.gateway.specs.Restart.{next_of, added, final, record_of, all_later, Restarts}
 use Rattle.gateway.specs.Examples.{Examples}
 use Rattle.gateway.specs.FromRust.{FromRust}
@@ -46,9 +42,9 @@ use Rattle.gateway.specs.FromRust.{FromRust}
 -- Set-up and restore begin with the invariant, and every call keeps it.
 pub record Lasting : Type 0 where
   pub set_up_ok : (fee : ℤ) (limit last : ℕ) (l : List Account) (listing : List Listed) (timing : Timing) (g : Gateway) → Unsigned last → AccountsFit l → ListingFits listing →
-      set_up fee limit last l listing timing ≡ started g → Ok g
-  pub restore_ok : (fee : ℤ) (limit : ℕ) (l : List Account) (timing : Timing) (bs : List ℕ) (g : Gateway) → AccountsFit l → Bytes bs → restore fee limit l timing bs ≡ started g → Ok g
-  pub call_ok : (g : Gateway) (x : Call) → CallFits x → Ok g → Ok (next_of g (call g x))
+      set_up fee limit last l listing timing ≡ started g → GatewayOk g
+  pub restore_ok : (fee : ℤ) (limit : ℕ) (l : List Account) (timing : Timing) (bs : List ℕ) (g : Gateway) → AccountsFit l → Bytes bs → restore fee limit l timing bs ≡ started g → GatewayOk g
+  pub call_ok : (g : Gateway) (x : Call) → CallFits x → GatewayOk g → GatewayOk (next_of g (call g x))
 
 -- ---- restart (01, Restart: demand 3)
 
@@ -90,8 +86,8 @@ pub record Refuses : Type 0 where
 
 -- What is written is read back; bytes that are read are those written for what they hold; each is a byte, and there are at most 43,033.
 pub record ReadsBack : Type 0 where
-  pub back : (c : Core) → CoreOk c → decode (encode (contents c.ledger)) ≡ some (contents c.ledger)
-  pub only : (xs : List ℕ) (s : Saved) → Bytes xs → decode xs ≡ some s → encode s ≡ xs
+  pub back : (c : Core) → CoreOk c → decode (encode (contents c.ledger)) ≡ Some (contents c.ledger)
+  pub only : (xs : List ℕ) (s : Saved) → Bytes xs → decode xs ≡ Some s → encode s ≡ xs
   pub bytes : (s : Saved) → Bytes (encode s)
   pub short : (c : Core) → CoreOk c → length (encode (contents c.ledger)) ≤ 43033
 
@@ -119,14 +115,14 @@ pub record Settling : Type 0 where
   pub settles : (from : Origin) (n t taker maker : ℕ) (s : Side) (p : ℤ) (q tl ml : ℕ) (c : Core) → CoreOk c → Pass (tests (event n (Trade t taker maker s p q tl ml)) c) →
       Settles c.ledger (core_step from (event n (Trade t taker maker s p q tl ml)) c).ledger taker maker p q tl ml
   pub one_side : (c d : Ledger) (taker maker : ℕ) (p : ℤ) (q tl ml : ℕ) → Settles c d taker maker p q tl ml → (i j : ℕ) → ((i ≡ taker) × (j ≡ maker)) ⊎ ((i ≡ maker) × (j ≡ taker)) →
-      (o : Order) (w : Funds) → find i c.orders ≡ some o → get_or c.wallets o.account none ≡ some w → ((x : Order) → find j c.orders ≡ some x → o.account ≡ x.account → ⊥) →
-      get_or d.wallets o.account none ≡ some (W.settle o.side (W.charged c.fee o.side p) q w)
+      (o : Order) (w : Funds) → find i c.orders ≡ Some o → get_or c.wallets o.account None ≡ Some w → ((x : Order) → find j c.orders ≡ Some x → o.account ≡ x.account → ⊥) →
+      get_or d.wallets o.account None ≡ Some (W.settle o.side (W.charged c.fee o.side p) q w)
   pub others : (c d : Ledger) (taker maker : ℕ) (p : ℤ) (q tl ml : ℕ) → Settles c d taker maker p q tl ml → (b : ℕ) →
-      ((o : Order) → find taker c.orders ≡ some o → b ≡ o.account → ⊥) → ((o : Order) → find maker c.orders ≡ some o → b ≡ o.account → ⊥) →
-      get_or d.wallets b none ≡ get_or c.wallets b none
+      ((o : Order) → find taker c.orders ≡ Some o → b ≡ o.account → ⊥) → ((o : Order) → find maker c.orders ≡ Some o → b ≡ o.account → ⊥) →
+      get_or d.wallets b None ≡ get_or c.wallets b None
   pub exact : (s : Side) (p : ℤ) (q : ℕ) (f : Funds) → fits (p *ℤ pos q) ≡ true → fits (pos q) ≡ true →
       fits (exactly s (p *ℤ pos q) (pos q) f).cash ≡ true → fits (exactly s (p *ℤ pos q) (pos q) f).position ≡ true → W.settle s p q f ≡ exactly s (p *ℤ pos q) (pos q) f
-  pub own_hold : (fee : ℤ) (x : Change) (o : Order) → hold_move fee o.account o.side x (some o) ≡ hold_after fee x o -ℤ order_hold fee o
+  pub own_hold : (fee : ℤ) (x : Change) (o : Order) → hold_move fee o.account o.side x (Some o) ≡ hold_after fee x o -ℤ order_hold fee o
 
 -- ---- room (01, What a reviewer will try, 5 and 6)
 
@@ -148,7 +144,7 @@ spent a c r = with_buckets (set r.buckets a (taken a c r).bucket) r
 
 -- account a has no wallet, a token, and an open limit above 0
 pub record Member (a : ℕ) (c : Core) (r : Rest) : Type 0 where
-  pub no_wallet : wallet_at a c ≡ none
+  pub no_wallet : wallet_at a c ≡ None
   pub token : (taken a c r).passed ≡ true
   pub limit : 0 < most_open (account_at a c)
 
@@ -160,11 +156,11 @@ pub record RoomServes : Type 0 where
   pub never_unavailable : (c : Core) (r : Rest) (s : ℕ) (m : Inbound) (t room : ℕ) → Roomy c r → (a : Answer) (z ref : ℕ) (q : Rest) →
       plan c r (receive_from s m t room) ≡ quiet a (send z (Out.Reject Unavailable ref) ∷ []) q → ⊥
   pub new : (s a : ℕ) (c : Core) (r : Rest) → Roomy c r → Member a c r → (o : NewOrder) → (let k = command_of (next c) a o.side o.qty o.kind in
-      hear s a (In.NewOrder o) c r ≡ records (record { client_ref = o.client_ref; session = some s }) (command (next c) k) [] (queued k (spent a c r)))
-  pub cancel : (s a : ℕ) (c : Core) (r : Rest) → Roomy c r → Member a c r → (i : ℕ) → hear s a (In.Cancel i) c r ≡ numbered (some s) (Cancel i a) c (spent a c r)
-  pub modify : (s a : ℕ) (c : Core) (r : Rest) → Roomy c r → Member a c r → (i : ℕ) (p : ℤ) (q : ℕ) → hear s a (In.Modify i p q) c r ≡ numbered (some s) (Modify i a p q) c (spent a c r)
-  pub mass : (s a : ℕ) (c : Core) (r : Rest) → Roomy c r → Member a c r → hear s a In.MassCancel c r ≡ numbered (some s) (CancelAll a) c (spent a c r)
-  pub heard : (s a t room : ℕ) (x : Inbound) (y : Session) (c : Core) (r : Rest) (from : Origin) (i : Item) (q : Rest) → session_at s r ≡ some y → y.account ≡ some a → y.closing ≡ false →
+      hear s a (In.NewOrder o) c r ≡ records (record { client_ref = o.client_ref; session = Some s }) (command (next c) k) [] (queued k (spent a c r)))
+  pub cancel : (s a : ℕ) (c : Core) (r : Rest) → Roomy c r → Member a c r → (i : ℕ) → hear s a (In.Cancel i) c r ≡ numbered (Some s) (Cancel i a) c (spent a c r)
+  pub modify : (s a : ℕ) (c : Core) (r : Rest) → Roomy c r → Member a c r → (i : ℕ) (p : ℤ) (q : ℕ) → hear s a (In.Modify i p q) c r ≡ numbered (Some s) (Modify i a p q) c (spent a c r)
+  pub mass : (s a : ℕ) (c : Core) (r : Rest) → Roomy c r → Member a c r → hear s a In.MassCancel c r ≡ numbered (Some s) (CancelAll a) c (spent a c r)
+  pub heard : (s a t room : ℕ) (x : Inbound) (y : Session) (c : Core) (r : Rest) (from : Origin) (i : Item) (q : Rest) → session_at s r ≡ Some y → y.account ≡ Some a → y.closing ≡ false →
       hear s a x c (update_session s (set_received t) (at_time t r)) ≡ records from i [] q → plan c r (receive_from s x t room) ≡ records from i [] q
 
 -- ---- counts (01, What a reviewer will try, 7)
@@ -202,22 +198,22 @@ pub record Counts : Type 0 where
 -- A buy holds (price + fee) × leaves, 0 where that does not fit; a fill takes (price + fee) × quantity from the buyer, 2^63 − 1 where that does not fit; sellers
 -- are unaffected, and no event changes the fee.
 pub record Charges : Type 0 where
-  pub buy_holds : (fee p : ℤ) (v : ℕ) → hold fee Buy (Some p) v ≡ Option.get_or (fit ((p +ℤ fee) *ℤ pos v)) (pos 0)
-  pub sell_holds : (fee : ℤ) (p : MaybePrice) (v : ℕ) → hold fee Sell p v ≡ W.held Sell (price_option p) v
-  pub buyer_pays : (fee p : ℤ) (q : ℕ) (f : Funds) → W.settle Buy (W.charged fee Buy p) q f ≡ W.bought (Option.get_or (fit ((p +ℤ fee) *ℤ pos q)) most) (W.lots q) f
+  pub buy_holds : (fee p : ℤ) (v : ℕ) → hold fee Buy (Some p) v ≡ unwrap_or (fit ((p +ℤ fee) *ℤ pos v)) (pos 0)
+  pub sell_holds : (fee : ℤ) (p : Option ℤ) (v : ℕ) → hold fee Sell p v ≡ W.held Sell p v
+  pub buyer_pays : (fee p : ℤ) (q : ℕ) (f : Funds) → W.settle Buy (W.charged fee Buy p) q f ≡ W.bought (unwrap_or (fit ((p +ℤ fee) *ℤ pos q)) most) (W.lots q) f
   pub seller_is_paid : (fee p : ℤ) (q : ℕ) (f : Funds) → W.settle Sell (W.charged fee Sell p) q f ≡ W.settle Sell p q f
   pub stays : (xs : List Change) (l : Ledger) → (changed xs l).fee ≡ l.fee
 
 -- what an account's orders of a side hold, without a fee
 abbrev pub sum_was : ℕ → Side → List Order → ℤ
 sum_was a s [] = pos 0
-sum_was a s (o ∷ os) = cond (eqb o.account a && same_side s o.side) (W.held o.side (price_option o.price) o.leaves) (pos 0) +ℤ sum_was a s os
+sum_was a s (o ∷ os) = cond (eqb o.account a && same_side s o.side) (W.held o.side o.price o.leaves) (pos 0) +ℤ sum_was a s os
 
 -- With the fee 0 holds, settling, cover and a start are what they were without one.
 pub record NoFee : Type 0 where
   pub held_was : (a : ℕ) (s : Side) (os : List Order) → held (pos 0) a s os ≡ sum_was a s os
   pub pay_was : (p : ℤ) (q : ℕ) (o : Option Order) (ws : List (Option Funds)) →
-      pay (pos 0) p q o ws ≡ option ws (λ x. set ws x.account (Option.map (W.settle x.side p q) (wallet_of ws x))) o
+      pay (pos 0) p q o ws ≡ option ws (λ x. set ws x.account (option_map (W.settle x.side p q) (wallet_of ws x))) o
   pub covered_was : (s : Side) (p : ℤ) (q a : ℕ) (w : Funds) (os : List Order) →
       covered (pos 0) s p q a w os ≡ option false (λ h. le_z (pos 0) h && W.covers s h (balance_with (pos 0) a os w)) (W.hold_of s p q)
   pub start_was : (s : Started) → charging (pos 0) s ≡ s

@@ -1,12 +1,10 @@
 -- The core: the ledger, the commands in flight and the accounts, which live calls and replay move alike; and the checks that replay makes.
-use Rattle.std.specs.Prelude.{ℕ, ◌+◌, Bool, true, false, cond, not, ◌&&◌, ◌||◌, ◌≡◌, List, [], ◌∷◌, ◌++◌, length, get_or, set, eqb, ltb, leb}
-use Rattle.std.proofs.Math.Option.{Option, none, some}
+use Rattle.std.specs.Prelude.{ℕ, ◌+◌, Bool, true, false, cond, not, ◌&&◌, ◌||◌, ◌≡◌, List, [], ◌∷◌, ◌++◌, length, get_or, set, eqb, ltb, leb, Option, Some, None, is_some}
 use Rattle.orderbook.specs.declared.Command.{Command}
 use Rattle.orderbook.specs.declared.Command.TheVariants.{Limit, Market, Cancel, Modify, Stop, CancelAll, SetPhase}
 use Rattle.orderbook.specs.declared.Event.{Event}
 use Rattle.orderbook.specs.declared.Event.TheVariants.{Accepted, Rejected, Trade, Rested, Replenished, Cancelled, Modified, StopPlaced, Triggered, MassCancelled, PhaseChanged}
 use Rattle.accounts.specs.declared.Account.{Account}
-use Rattle.gateway.specs.Basics.{is_some}
 use Rattle.gateway.specs.Limits.{most_orders, most_in_flight, out_of_range, exists, sequence, full, outside, inconsistent, has_orders}
 use Rattle.gateway.specs.Ledger.{Ledger, Item, account, command, event, order_of, owner_of, step, holds_fit, open_of}
 
@@ -24,7 +22,7 @@ pub record Origin : Type 0 where
   pub session : Option ℕ
 
 abbrev pub system : Origin
-system = record { client_ref = 0; session = none }
+system = record { client_ref = 0; session = None }
 
 -- a command in flight: its events may still come
 pub record Flight : Type 0 where
@@ -43,7 +41,7 @@ abbrev pub owner_limit : Core → ℕ
 owner_limit c = length c.accounts
 
 abbrev pub account_at : ℕ → Core → Option Account
-account_at a c = get_or c.accounts a none
+account_at a c = get_or c.accounts a None
 
 -- ---- in flight: the Rust's rule (`command`)
 
@@ -155,7 +153,7 @@ flights_after from (command n k) fs = fs ++ (flight from n k ∷ [])
 flights_after from (event n e) fs = drop_below n fs
 
 abbrev pub accounts_after : Item → List (Option Account) → List (Option Account)
-accounts_after (account a) t = set t a.id (some a)
+accounts_after (account a) t = set t a.id (Some a)
 accounts_after (command n k) t = t
 accounts_after (event n e) t = t
 

@@ -1,15 +1,13 @@
 -- Delivering an event: whom it is reported to, which wallets it notices, and what it leaves to be published (`deliver` of exchange.rs).
-use Rattle.std.specs.Prelude.{ℕ, ◌+◌, cond, not, List, [], ◌∷◌, ◌++◌, ℤ, pos, ◌-ℤ◌, length, leb}
-use Rattle.std.proofs.Math.Option.{Option, none}
+use Rattle.std.specs.Prelude.{ℕ, cond, List, [], ◌∷◌, ◌++◌, ℤ, pos, ◌-ℤ◌, length, leb, Option, Some, None, is_some}
 use Rattle.orderbook.specs.Types.{opposite_of}
-use Rattle.orderbook.specs.declared.MaybePrice.TheVariants.{Some}
 use Rattle.orderbook.specs.declared.Event.{Event}
 use Rattle.orderbook.specs.declared.Event.TheVariants.{Accepted, Rejected, Trade, Rested, Replenished, Cancelled, Modified, StopPlaced, Triggered, MassCancelled, PhaseChanged}
 use Rattle.protocol.specs.declared.Report.{Report}
 use Rattle.protocol.specs.declared.ReportKind.{ReportKind}
 use Rattle.protocol.specs.declared.ReportKind.TheVariants as Kind
 use Rattle.protocol.specs.declared.TradeTick.{TradeTick}
-use Rattle.gateway.specs.Basics.{option, is_some}
+use Rattle.gateway.specs.Basics.{option}
 use Rattle.gateway.specs.Limits.{most_trades, most_notices, full, outside, inconsistent}
 use Rattle.gateway.specs.Ledger.{Order, Ledger, Change, mark_by, fill, set_leaves, reprice, retire, change, changes, event, find, wallet_of, hold, order_hold}
 use Rattle.gateway.specs.Core.{Tests, Flight, Core, system, drop_below, event_tests, fits_after}
@@ -78,7 +76,7 @@ order_notices fee (retire n) o = hold_notice o.account (order_hold fee o) (pos 0
 
 -- the order that a change names
 abbrev pub named : Change → List Order → Option Order
-named (mark_by t m p) os = none
+named (mark_by t m p) os = None
 named (fill n p q v) os = find n os
 named (set_leaves n v) os = find n os
 named (reprice n p v) os = find n os

@@ -1,12 +1,11 @@
 -- The depth: the resting orders, and the price levels counted from them (crates/marketdata/src/lib.rs).
-use Rattle.std.specs.Prelude.{ℕ, suc, ◌+◌, ◌-◌, Bool, true, false, cond, not, ◌&&◌, ◌||◌, List, [], ◌∷◌, ◌++◌, ℤ, length, eqb, ltb, leb}
-use Rattle.std.proofs.Math.Option.{Option}
+use Rattle.std.specs.Prelude.{ℕ, suc, ◌+◌, ◌-◌, Bool, true, false, cond, not, ◌&&◌, ◌||◌, List, [], ◌∷◌, ◌++◌, ℤ, length, eqb, ltb, leb, Option, is_some, min}
 use Rattle.std.specs.Int.Signed.{le_z, lt_z}
 use Rattle.orderbook.specs.declared.Side.{Side}
 use Rattle.orderbook.specs.declared.Side.TheVariants.{Buy, Sell}
 use Rattle.orderbook.specs.declared.Event.{Event}
 use Rattle.orderbook.specs.declared.Event.TheVariants.{Accepted, Rejected, Trade, Rested, Replenished, Cancelled, Modified, StopPlaced, Triggered, MassCancelled, PhaseChanged}
-use Rattle.gateway.specs.Basics.{option, is_some}
+use Rattle.gateway.specs.Basics.{option}
 use Rattle.gateway.specs.Limits.{most_orders, most_levels, most_changed}
 use Rattle.gateway.specs.Ledger.{same_side}
 use Rattle.table.specs.Live.{look, without, insert, replace}
@@ -106,13 +105,10 @@ where_resting n f d = option d (λ o. f o d) (find_resting n d.resting)
 abbrev pub filled : ℕ → ℕ → Resting → Depth → Depth
 filled q v o d = cond (eqb v 0) (take_off o d) (show (showing (o.visible - q) v o) d)
 
-abbrev pub lesser : ℕ → ℕ → ℕ
-lesser a b = cond (leb a b) a b
-
 -- a modify that keeps the price and adds nothing shrinks the order in place, its hidden part first; any other takes it off
 abbrev pub modified : ℤ → ℕ → Resting → Depth → Depth
 modified p v o d =
-    cond (ltb 0 v && (same_price p o.price && leb v o.leaves)) (show (showing (lesser o.visible v) v o) d) (take_off o d)
+    cond (ltb 0 v && (same_price p o.price && leb v o.leaves)) (show (showing (min o.visible v) v o) d) (take_off o d)
 
 -- a trade's maker comes before its taker
 unfoldable pub apply : Event → Depth → Depth

@@ -1,12 +1,8 @@
 -- Sessions and entry: what a received message does (`receive`, `login`, `enter`, `subscribe`, `publish` of exchange.rs).
-use Rattle.std.specs.Prelude.{ℕ, ◌+◌, ◌-◌, Bool, false, cond, not, ◌&&◌, List, [], ◌∷◌, ◌++◌, map, ℤ, pos, length, get_or, set, eqb, ltb, leb}
-use Rattle.std.proofs.Math.Option
-use Rattle.std.proofs.Math.Option.{Option, none, some}
+use Rattle.std.specs.Prelude.{ℕ, ◌+◌, Bool, false, cond, not, ◌&&◌, List, [], ◌∷◌, ◌++◌, map, ℤ, pos, length, get_or, set, eqb, ltb, leb, Option, Some, None, option_map, is_some}
 use Rattle.std.specs.Int.Signed.{le_z}
 use Rattle.orderbook.specs.declared.Side.{Side}
 use Rattle.orderbook.specs.declared.Side.TheVariants.{Buy, Sell}
-use Rattle.orderbook.specs.declared.MaybePrice.{MaybePrice}
-use Rattle.orderbook.specs.declared.MaybePrice.TheVariants.{None, Some}
 use Rattle.orderbook.specs.declared.Command.{Command}
 use Rattle.orderbook.specs.declared.Command.TheVariants.{Limit, Market, Cancel, Modify, Stop, CancelAll}
 use Rattle.protocol.specs.declared.Inbound.{Inbound}
@@ -18,7 +14,6 @@ use Rattle.protocol.specs.declared.Outbound.{Outbound}
 use Rattle.protocol.specs.declared.Outbound.TheVariants as Out
 use Rattle.protocol.specs.declared.Balance.{Balance}
 use Rattle.protocol.specs.declared.LevelUpdate.{LevelUpdate}
-use Rattle.protocol.specs.declared.TradeTick.{TradeTick}
 use Rattle.protocol.specs.declared.ReportKind.TheVariants.{Rested}
 use Rattle.protocol.specs.declared.LoginError.{LoginError}
 use Rattle.protocol.specs.declared.LoginError.TheVariants.{UnsupportedVersion, BadCredentials, AlreadyLoggedIn, AlreadyInSession}
@@ -27,14 +22,14 @@ use Rattle.protocol.specs.declared.RejectCode.{RejectCode}
 use Rattle.protocol.specs.declared.RejectCode.TheVariants.{TooManyOrders, Throttled, Unavailable, InsufficientFunds, NotAllowed, OffMarket}
 use Rattle.accounts.specs.declared.Account.{Account}
 use Rattle.accounts.specs.declared.Funds.{Funds}
-use Rattle.gateway.specs.Basics.{option, each, is_some}
+use Rattle.gateway.specs.Basics.{option, each}
 use Rattle.gateway.specs.Limits.{protocol_version, most_orders, most_in_flight, most_in_batch, most_notices}
 use Rattle.wallet.specs.Wallet as W
 use Rattle.risk.specs.declared.Bucket.{Bucket}
 use Rattle.risk.specs.declared.Taken.{Taken}
 use Rattle.risk.specs.Collar.{near_market}
 use Rattle.risk.specs.Throttle as Throttle
-use Rattle.gateway.specs.Ledger.{Order, Item, command, price_option, hold, held, open_of}
+use Rattle.gateway.specs.Ledger.{Order, Item, command, hold, held, open_of}
 use Rattle.gateway.specs.Core.{Tests, Origin, Core, account_at, fits_after}
 use Rattle.gateway.specs.Depth.{Depth, Level, level, levels}
 use Rattle.gateway.specs.Rest.{Mail, send, close, Rest, with_buckets, with_batch, with_published, pending, session_at, is_open, is_present, is_subscribed, account_of, session_of, update_session, set_received, set_account, set_closing, set_subscribed, each_session}
@@ -69,13 +64,13 @@ sends ms r = quiet nothing ms r
 -- ---- accounts
 
 abbrev pub wallet_at : ℕ → Core → Option Funds
-wallet_at a c = get_or c.ledger.wallets a none
+wallet_at a c = get_or c.ledger.wallets a None
 
 abbrev pub balance_with : ℤ → ℕ → List Order → Funds → Balance
 balance_with fee a os w = record { cash = w.cash; position = w.position; cash_held = held fee a Buy os; position_held = held fee a Sell os }
 
 abbrev pub balance : ℕ → Core → Option Balance
-balance a c = Option.map (balance_with c.ledger.fee a c.ledger.orders) (wallet_at a c)
+balance a c = option_map (balance_with c.ledger.fee a c.ledger.orders) (wallet_at a c)
 
 -- ---- ending a session
 
@@ -105,7 +100,7 @@ rested s last o p =
 -- account a's orders that have a price and are numbered at most the delivered number
 abbrev pub open_order : ℕ → ℕ → ℕ → ℕ → Order → List Mail
 open_order s a last delivered o =
-    cond (eqb o.account a && leb o.number delivered) (option [] (λ p. rested s last o p ∷ []) (price_option o.price)) []
+    cond (eqb o.account a && leb o.number delivered) (option [] (λ p. rested s last o p ∷ []) o.price) []
 
 abbrev pub logged_in : ℕ → ℕ → Core → Rest → Plan
 logged_in s a c r =
@@ -144,7 +139,7 @@ queued k r = with_batch (r.batch ++ (k ∷ [])) r
 abbrev pub numbered : Option ℕ → Command → Core → Rest → Plan
 numbered s k c r = records (record { client_ref = 0; session = s }) (command (next c) k) [] (queued k r)
 
-abbrev pub price_of : OrderKind → MaybePrice
+abbrev pub price_of : OrderKind → Option ℤ
 price_of (Kind.Limit p t d) = Some p
 price_of Kind.Market = None
 price_of (Kind.Stop t l) = l
@@ -161,7 +156,7 @@ covered fee s p q a w os = option false (λ h. le_z (pos 0) h && W.covers s h (b
 -- a wallet's account places limit orders that it can pay for in full
 abbrev pub paper_tests : ℕ → Side → ℕ → Core → Rest → OrderKind → Funds → Tests RejectCode
 paper_tests a s q c r (Kind.Limit p t d) w =
-    (OffMarket, near_market p r.collar (price_option c.ledger.mark))
+    (OffMarket, near_market p r.collar c.ledger.mark)
     ∷ (InsufficientFunds, covered c.ledger.fee s p q a w c.ledger.orders)
     ∷ []
 paper_tests a s q c r Kind.Market w = (NotAllowed, false) ∷ []
@@ -195,11 +190,11 @@ abbrev pub enter_new : ℕ → ℕ → NewOrder → Core → Rest → Plan
 enter_new s a o c r =
     let k = command_of (next c) a o.side o.qty o.kind in
     unless (new_tests a o k c r) (reject s o.client_ref r)
-    (records (record { client_ref = o.client_ref; session = some s }) (command (next c) k) [] (queued k (noticing (new_notice c.ledger.fee a o (wallet_at a c)) r)))
+    (records (record { client_ref = o.client_ref; session = Some s }) (command (next c) k) [] (queued k (noticing (new_notice c.ledger.fee a o (wallet_at a c)) r)))
 
 -- a command that places nothing, after the tests of its own
 abbrev pub enter_other : ℕ → Tests RejectCode → Command → Core → Rest → Plan
-enter_other s own k c r = unless (own ++ can_number Unavailable c r) (reject s 0 r) (numbered (some s) k c r)
+enter_other s own k c r = unless (own ++ can_number Unavailable c r) (reject s 0 r) (numbered (Some s) k c r)
 
 abbrev pub rate_of : Option Account → ℕ
 rate_of a = option 0 (λ x. x.messages_per_second) a

@@ -1,14 +1,11 @@
 -- Short lists of calls, and what is seen of each call.
-use Rattle.std.specs.Prelude.{ℕ, ◌≡◌, List, [], ◌∷◌, ◌++◌, ℤ, pos}
-use Rattle.std.proofs.Math.Option.{none, some}
+use Rattle.std.specs.Prelude.{ℕ, ◌≡◌, List, [], ◌∷◌, ◌++◌, ℤ, pos, Option, Some, None}
 use Rattle.orderbook.specs.declared.Side.{Side}
 use Rattle.orderbook.specs.declared.Side.TheVariants.{Buy, Sell}
-use Rattle.orderbook.specs.declared.MaybePrice.TheVariants.{None, Some}
-use Rattle.orderbook.specs.declared.MaybeQty as Q
 use Rattle.orderbook.specs.declared.TimeInForce.TheVariants.{Gtc}
 use Rattle.orderbook.specs.declared.Command.TheVariants as Cmd
 use Rattle.orderbook.specs.declared.Event.TheVariants as Ev
-use Rattle.orderbook.specs.declared.CancelReason.TheVariants.{Requested, MassCancel}
+use Rattle.orderbook.specs.declared.CancelReason.TheVariants.{Requested}
 use Rattle.orderbook.specs.declared.RejectReason.TheVariants.{UnknownOrder}
 use Rattle.orderbook.specs.declared.Listed.{Listed}
 use Rattle.orderbook.specs.declared.Listed.TheVariants as L
@@ -23,8 +20,8 @@ use Rattle.protocol.specs.declared.LoginError.TheVariants as Login
 use Rattle.protocol.specs.declared.LogoutReason.TheVariants as Logout
 use Rattle.protocol.specs.declared.RejectCode.TheVariants as Reject
 use Rattle.accounts.specs.declared.Account.{Account}
-use Rattle.accounts.specs.declared.MaybeFunds as F
 use Rattle.accounts.specs.declared.Timing.{Timing}
+use Rattle.accounts.specs.declared.Funds.{Funds}
 use Rattle.table.specs.Live.{Each}
 use Rattle.gateway.specs.Rest.{Mail, send, close}
 use Rattle.gateway.specs.Entry.{Answer, nothing, account_was, wallet_is, number_is, levels_are, commands, bytes}
@@ -51,14 +48,14 @@ run_from (started g) xs = run g xs
 
 -- ---- the start: account 0 has 1,000 pence and 5 seats, account 1 no wallet, account 2 has 10 seats and may send one message a second
 
-abbrev funds : ℤ → ℤ → F.MaybeFunds
-funds c p = F.TheVariants.Some (record { cash = c; position = p })
+abbrev funds : ℤ → ℤ → Option Funds
+funds c p = Some (record { cash = c; position = p })
 
-abbrev member : ℕ → ℕ → ℕ → F.MaybeFunds → Account
+abbrev member : ℕ → ℕ → ℕ → Option Funds → Account
 member i token rate f = record { id = i; token = token; max_open_orders = 2; messages_per_second = rate; funds = f }
 
 abbrev people : List Account
-people = member 0 7 9 (funds (pos 1000) (pos 5)) ∷ member 1 8 9 F.TheVariants.None ∷ member 2 9 1 (funds (pos 0) (pos 10)) ∷ []
+people = member 0 7 9 (funds (pos 1000) (pos 5)) ∷ member 1 8 9 None ∷ member 2 9 1 (funds (pos 0) (pos 10)) ∷ []
 
 abbrev timing : Timing
 timing = record { heartbeat = 1000000000; idle_timeout = 5000000000 }
@@ -73,10 +70,10 @@ abbrev hears : ℕ → Inbound → Call
 hears s m = receive_from s m 1 9
 
 abbrev buys : ℕ → ℤ → ℕ → Inbound
-buys ref p q = In.NewOrder (record { client_ref = ref; side = Buy; qty = q; kind = Kind.Limit p Gtc Q.TheVariants.None })
+buys ref p q = In.NewOrder (record { client_ref = ref; side = Buy; qty = q; kind = Kind.Limit p Gtc None })
 
 abbrev sells : ℕ → ℤ → ℕ → Inbound
-sells ref p q = In.NewOrder (record { client_ref = ref; side = Sell; qty = q; kind = Kind.Limit p Gtc Q.TheVariants.None })
+sells ref p q = In.NewOrder (record { client_ref = ref; side = Sell; qty = q; kind = Kind.Limit p Gtc None })
 
 abbrev pub quietly : Seen
 quietly = sees nothing []
@@ -94,7 +91,7 @@ abbrev level : ℕ → Side → ℤ → ℕ → ℕ → Outbound
 level n s p q k = Out.LevelUpdate (record { seq = n; side = s; price = p; qty = q; orders = k })
 
 abbrev has : ℤ → ℤ → ℤ → ℤ → Seen
-has c p ch ph = sees (wallet_is (some (record { cash = c; position = p; cash_held = ch; position_held = ph }))) []
+has c p ch ph = sees (wallet_is (Some (record { cash = c; position = p; cash_held = ch; position_held = ph }))) []
 
 -- the last bytes that a run gave
 abbrev bytes_in : Seen → List ℕ → List ℕ
@@ -126,7 +123,7 @@ opening_seen =
     ∷ quietly
     ∷ tells (send 4 (Out.LoginAccepted 1 0) ∷ [])
     ∷ quietly
-    ∷ sees (commands (Cmd.Limit 1 0 Buy (pos 250) 4 Gtc Q.TheVariants.None ∷ [])) []
+    ∷ sees (commands (Cmd.Limit 1 0 Buy (pos 250) 4 Gtc None ∷ [])) []
     ∷ tells (send 3 (about 1 1 77 Report.Accepted) ∷ [])
     ∷ tells (send 3 (about 1 1 77 (Report.Rested Buy (pos 250) 4 4)) ∷ [])
     ∷ []
@@ -205,8 +202,8 @@ gone_seen =
     ∷ tells (send 3 (Out.Logout Logout.Requested) ∷ close 3 ∷ [])
     ∷ quietly
     ∷ tells (send 4 (Out.LoginRejected Login.AlreadyLoggedIn) ∷ close 4 ∷ [])
-    ∷ sees (account_was (some 0)) []
-    ∷ sees (account_was none) []
+    ∷ sees (account_was (Some 0)) []
+    ∷ sees (account_was None) []
     ∷ quietly
     ∷ tells (send 5 (Out.LoginAccepted 0 0) ∷ send 5 (balance (pos 1000) (pos 5) (pos 0) (pos 0)) ∷ [])
     ∷ quietly
@@ -218,7 +215,7 @@ gone_seen =
 abbrev collar_calls : ℕ → ℕ → ℕ → List Call
 collar_calls s a token =
     connect 3 0 ∷ log_in 3 0 7 ∷ connect s 0 ∷ log_in s a token ∷ hears 3 (buys 1 (pos 250) 1) ∷ hears s (sells 2 (pos 250) 1)
-    ∷ deliver_event 2 (Ev.Trade 1 2 1 Sell (pos 250) 1 0 0) 9 ∷ set_paper_collar (some 10) ∷ hears 3 (buys 3 (pos 1) 1) ∷ []
+    ∷ deliver_event 2 (Ev.Trade 1 2 1 Sell (pos 250) 1 0 0) 9 ∷ set_paper_collar (Some 10) ∷ hears 3 (buys 3 (pos 1) 1) ∷ []
 
 abbrev last_seen : List Seen → Seen
 last_seen [] = quietly
@@ -273,7 +270,7 @@ saved_bytes = last_bytes (run_from start (opening_calls ++ (checkpoint 99 ∷ ch
 
 abbrev restart_calls : List Call
 restart_calls =
-    replay_command 2 (Cmd.Limit 2 1 Sell (pos 240) 3 Gtc Q.TheVariants.None) ∷ replay_event 2 (Ev.Trade 1 2 1 Sell (pos 240) 2 1 2) ∷ wallet 0
+    replay_command 2 (Cmd.Limit 2 1 Sell (pos 240) 3 Gtc None) ∷ replay_event 2 (Ev.Trade 1 2 1 Sell (pos 240) 2 1 2) ∷ wallet 0
     ∷ finish (L.Order 1 0 Buy (pos 250) 2 2 ∷ []) ∷ finish (L.Order 1 0 Buy (pos 250) 2 2 ∷ L.Order 2 1 Sell (pos 240) 1 1 ∷ []) ∷ connect 3 0 ∷ log_in 3 0 7 ∷ []
 
 abbrev restart_seen : List Seen
@@ -290,20 +287,20 @@ restart_seen =
 -- a refusal of each code
 abbrev refusal_calls : List Call
 refusal_calls =
-    add_account (member 4 1 1 F.TheVariants.None) ∷ add_account (member 0 1 1 F.TheVariants.None) ∷ deliver_event 1 (Ev.Accepted 1) 9
+    add_account (member 4 1 1 None) ∷ add_account (member 0 1 1 None) ∷ deliver_event 1 (Ev.Accepted 1) 9
     ∷ connect 3 0 ∷ receive_from 3 (In.Login 1 0 7) 1 1 ∷ connect 64 0 ∷ connect 3 0 ∷ log_in 3 0 7 ∷ hears 3 In.MassCancel ∷ checkpoint 99
     ∷ replay_command 2 (Cmd.CancelAll 0) ∷ detach 3
-    ∷ replay_command 2 (Cmd.Limit 3 0 Buy (pos 1) 1 Gtc Q.TheVariants.None)
-    ∷ replay_command 2 (Cmd.Limit 2 0 Buy (pos 4611686018427387904) 1 Gtc Q.TheVariants.None)
-    ∷ replay_command 3 (Cmd.Limit 3 0 Buy (pos 4611686018427387904) 1 Gtc Q.TheVariants.None)
-    ∷ replay_command 3 (Cmd.Market 3 3 Buy 1) ∷ add_account (member 3 1 1 F.TheVariants.None) ∷ []
+    ∷ replay_command 2 (Cmd.Limit 3 0 Buy (pos 1) 1 Gtc None)
+    ∷ replay_command 2 (Cmd.Limit 2 0 Buy (pos 4611686018427387904) 1 Gtc None)
+    ∷ replay_command 3 (Cmd.Limit 3 0 Buy (pos 4611686018427387904) 1 Gtc None)
+    ∷ replay_command 3 (Cmd.Market 3 3 Buy 1) ∷ add_account (member 3 1 1 None) ∷ []
 
 abbrev refusal_seen : List Seen
 refusal_seen =
     code 1 ∷ code 3 ∷ code 4
     ∷ quietly ∷ code 6 ∷ code 9 ∷ code 9
     ∷ tells (send 3 (Out.LoginAccepted 0 0) ∷ send 3 (balance (pos 1000) (pos 5) (pos 0) (pos 0)) ∷ []) ∷ quietly ∷ code 10
-    ∷ code 4 ∷ sees (account_was (some 0)) []
+    ∷ code 4 ∷ sees (account_was (Some 0)) []
     ∷ code 8
     ∷ quietly
     ∷ code 7

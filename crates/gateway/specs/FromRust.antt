@@ -1,11 +1,8 @@
 -- Random lists of calls with what the published Rust made of each call. A refused call has the code of document 01. Printed by
 -- `target/compare/release/lists 280 13` (compare/README.md), not by hand.
-use Rattle.std.specs.Prelude.{ℕ, ◌≡◌, List, [], ◌∷◌, ℤ, pos, negsuc}
-use Rattle.std.proofs.Math.Option.{Option, none, some}
+use Rattle.std.specs.Prelude.{ℕ, ◌≡◌, List, [], ◌∷◌, ℤ, pos, negsuc, Option, Some, None}
 use Rattle.orderbook.specs.declared.Side.{Side}
 use Rattle.orderbook.specs.declared.Side.TheVariants.{Buy, Sell}
-use Rattle.orderbook.specs.declared.MaybePrice.TheVariants.{None, Some}
-use Rattle.orderbook.specs.declared.MaybeQty.TheVariants as Qty
 use Rattle.orderbook.specs.declared.TimeInForce.TheVariants as Time
 use Rattle.orderbook.specs.declared.Phase.TheVariants as Phase
 use Rattle.orderbook.specs.declared.Command.TheVariants as Cmd
@@ -28,12 +25,11 @@ use Rattle.protocol.specs.declared.LoginError.TheVariants as Login
 use Rattle.protocol.specs.declared.LogoutReason.TheVariants as Logout
 use Rattle.protocol.specs.declared.RejectCode.TheVariants as Reject
 use Rattle.accounts.specs.declared.Account.{Account}
-use Rattle.accounts.specs.declared.MaybeFunds.{MaybeFunds}
-use Rattle.accounts.specs.declared.MaybeFunds.TheVariants as F
+use Rattle.accounts.specs.declared.Funds.{Funds}
 use Rattle.accounts.specs.declared.Timing.{Timing}
 use Rattle.gateway.specs.Depth.{Level}
 use Rattle.table.specs.Live.{Each}
-use Rattle.gateway.specs.Rest.{Mail, send, close}
+use Rattle.gateway.specs.Rest.{send, close}
 use Rattle.gateway.specs.Entry.{Answer, account_was, wallet_is, number_is, levels_are, commands, bytes}
 use Rattle.gateway.specs.Calls.{Call, add_account, connect, set_paper_collar, wallet, last_seq, depth_levels, receive_from, tick, publish, end_session, shut_down, disconnect, detach, take_batch, deliver_event, replay_command, replay_event, finish, checkpoint}
 use Rattle.gateway.specs.Start.{Started, set_up, restore}
@@ -45,10 +41,10 @@ answers a = sees a []
 abbrev timing : ℕ → ℕ → Timing
 timing h i = record { heartbeat = h; idle_timeout = i }
 
-abbrev funds : ℤ → ℤ → MaybeFunds
-funds c p = F.Some (record { cash = c; position = p })
+abbrev funds : ℤ → ℤ → Option Funds
+funds c p = Some (record { cash = c; position = p })
 
-abbrev member : ℕ → ℕ → ℕ → ℕ → MaybeFunds → Account
+abbrev member : ℕ → ℕ → ℕ → ℕ → Option Funds → Account
 member i token most rate f = record { id = i; token = token; max_open_orders = most; messages_per_second = rate; funds = f }
 
 abbrev order : ℕ → Side → ℕ → OrderKind → NewOrder
@@ -71,36 +67,36 @@ at p q k = record { price = p; qty = q; orders = k }
 
 abbrev start_0 : Started
 start_0 =
-    set_up (pos 0) 4 4 (member 0 7 9 1 F.None ∷ member 1 8 2 0 (funds (pos 1276) (pos 9)) ∷ member 2 9 9 1 (funds (pos 238) (pos 13))
+    set_up (pos 0) 4 4 (member 0 7 9 1 None ∷ member 1 8 2 0 (funds (pos 1276) (pos 9)) ∷ member 2 9 9 1 (funds (pos 238) (pos 13))
     ∷ []) [] (timing 1000000000 5000000000)
 
 abbrev calls_0 : List Call
 calls_0 =
-    set_paper_collar (some 0) ∷ connect 1 0 ∷ receive_from 1 (In.Login 1 0 7) 1 1 ∷ wallet 2 ∷ last_seq ∷ receive_from 1 (In.Cancel 5) 3 999
-    ∷ deliver_event 5 (Ev.Rested 3 Buy (pos 99) 2 2) 999 ∷ add_account (member 2 9 2 9 F.None) ∷ deliver_event 5 (Ev.Rested 4 Sell (pos 102) 4 4) 0
+    set_paper_collar (Some 0) ∷ connect 1 0 ∷ receive_from 1 (In.Login 1 0 7) 1 1 ∷ wallet 2 ∷ last_seq ∷ receive_from 1 (In.Cancel 5) 3 999
+    ∷ deliver_event 5 (Ev.Rested 3 Buy (pos 99) 2 2) 999 ∷ add_account (member 2 9 2 9 None) ∷ deliver_event 5 (Ev.Rested 4 Sell (pos 102) 4 4) 0
     ∷ deliver_event 5 (Ev.PhaseChanged Phase.Continuous) 0 ∷ deliver_event 5 (Ev.PhaseChanged Phase.Continuous) 1
     ∷ receive_from 1 (In.NewOrder (order 27 Buy 4 (Kind.Stop (pos 102) (Some (pos 101))))) 4 1
     ∷ deliver_event 5 (Ev.Trade 6 3 4 Buy (pos 102) 1 4 2) 0 ∷ receive_from 1 (In.NewOrder (order 30 Buy 9223372036854775807 Kind.Market)) 5 999
     ∷ receive_from 1 (In.Cancel 2) 8 999 ∷ deliver_event 5 (Ev.Trade 64 0 3 Sell (pos 99) 1 0 2) 0
     ∷ deliver_event 5 (Ev.Cancelled 3 1 Gone.PriceBand) 0 ∷ receive_from 1 (In.NewOrder (order 41 Sell 4 (Kind.Stop (pos 98) None))) 497666589 0
     ∷ receive_from 1 (In.NewOrder (order 41 Sell 4 (Kind.Stop (pos 98) None))) 497666589 1
-    ∷ receive_from 1 (In.NewOrder (order 15 Sell 1 (Kind.Limit (pos 99) Time.Fok Qty.None))) 1737315356 0
+    ∷ receive_from 1 (In.NewOrder (order 15 Sell 1 (Kind.Limit (pos 99) Time.Fok None))) 1737315356 0
     ∷ deliver_event 6 (Ev.Rested 6 Sell (pos 99) 1 1) 0 ∷ deliver_event 6 (Ev.Rested 6 Sell (pos 99) 1 1) 999 ∷ deliver_event 6 (Ev.Accepted 6) 1
     ∷ receive_from 1 (In.Modify 6 (pos 100) 4) 1737315356 999
-    ∷ receive_from 1 (In.NewOrder (order 46 Buy 3 (Kind.Limit (pos 101) Time.Ioc Qty.None))) 1737315358 999 ∷ take_batch 999
+    ∷ receive_from 1 (In.NewOrder (order 46 Buy 3 (Kind.Limit (pos 101) Time.Ioc None))) 1737315358 999 ∷ take_batch 999
     ∷ deliver_event 6 (Ev.Trade 51 6 6 Sell (pos 99) 1 0 0) 999 ∷ take_batch 0 ∷ deliver_event 6 (Ev.PhaseChanged Phase.Closed) 999 ∷ checkpoint 102
     ∷ []
 
 abbrev seen_0 : List Seen
 seen_0 =
-    quietly ∷ quietly ∷ tells (send 1 (Out.LoginAccepted 0 4) ∷ []) ∷ answers (wallet_is (some (balance (pos 238) (pos 13) (pos 0) (pos 0))))
+    quietly ∷ quietly ∷ tells (send 1 (Out.LoginAccepted 0 4) ∷ []) ∷ answers (wallet_is (Some (balance (pos 238) (pos 13) (pos 0) (pos 0))))
     ∷ answers (number_is 4) ∷ quietly ∷ quietly ∷ code 3 ∷ quietly ∷ code 6
     ∷ tells (send 1 (Out.Report (report 5 0 0 (Report.PhaseChanged Phase.Continuous))) ∷ []) ∷ tells (send 1 (Out.Reject Reject.Throttled 27) ∷ [])
     ∷ quietly ∷ tells (send 1 (Out.Reject Reject.Throttled 30) ∷ []) ∷ tells (send 1 (Out.Reject Reject.Throttled 0) ∷ []) ∷ quietly ∷ quietly
     ∷ code 6 ∷ tells (send 1 (Out.Reject Reject.Throttled 41) ∷ []) ∷ quietly ∷ code 6
     ∷ tells (send 1 (Out.Report (report 6 6 15 (Report.Rested Sell (pos 99) 1 1))) ∷ []) ∷ tells (send 1 (Out.Report (report 6 6 15 Report.Accepted))
     ∷ []) ∷ tells (send 1 (Out.Reject Reject.Throttled 0) ∷ []) ∷ tells (send 1 (Out.Reject Reject.Throttled 46) ∷ [])
-    ∷ answers (commands (Cmd.Cancel 5 0 ∷ Cmd.Limit 6 0 Sell (pos 99) 1 Time.Fok Qty.None ∷ [])) ∷ code 8 ∷ answers (commands [])
+    ∷ answers (commands (Cmd.Cancel 5 0 ∷ Cmd.Limit 6 0 Sell (pos 99) 1 Time.Fok None ∷ [])) ∷ code 8 ∷ answers (commands [])
     ∷ tells (send 1 (Out.Report (report 6 0 0 (Report.PhaseChanged Phase.Closed))) ∷ []) ∷ answers (bytes (6 ∷ 0 ∷ 0 ∷ 0 ∷ 0 ∷ 0 ∷ 0 ∷ 0 ∷ 1 ∷ 99 ∷ 0
     ∷ 0 ∷ 0 ∷ 0 ∷ 0 ∷ 0 ∷ 0 ∷ 2 ∷ 0 ∷ 0 ∷ 0 ∷ 1 ∷ 0 ∷ 0 ∷ 0 ∷ 252 ∷ 4 ∷ 0 ∷ 0 ∷ 0 ∷ 0 ∷ 0 ∷ 0 ∷ 9 ∷ 0 ∷ 0 ∷ 0 ∷ 0 ∷ 0 ∷ 0 ∷ 0 ∷ 2 ∷ 0 ∷ 0 ∷ 0 ∷ 238
     ∷ 0 ∷ 0 ∷ 0 ∷ 0 ∷ 0 ∷ 0 ∷ 0 ∷ 13 ∷ 0 ∷ 0 ∷ 0 ∷ 0 ∷ 0 ∷ 0 ∷ 0 ∷ 1 ∷ 0 ∷ 0 ∷ 0 ∷ 6 ∷ 0 ∷ 0 ∷ 0 ∷ 0 ∷ 0 ∷ 0 ∷ 0 ∷ 0 ∷ 0 ∷ 0 ∷ 0 ∷ 15 ∷ 0 ∷ 0 ∷ 0 ∷ 0
@@ -118,12 +114,12 @@ calls_1 =
     ∷ take_batch 0 ∷ receive_from 1 (In.Cancel 1) 5000000005 0 ∷ deliver_event 2 (Ev.MassCancelled 0 2) 999
     ∷ deliver_event 2 (Ev.Trade 54 1 1 Buy (pos 98) 4 1 1) 999 ∷ deliver_event 1 (Ev.PhaseChanged Phase.Halted) 999
     ∷ deliver_event 2 (Ev.Modified 1 (pos 102) 4 0) 999 ∷ deliver_event 2 (Ev.Cancelled 3 6 Gone.PriceBand) 999
-    ∷ receive_from 1 (In.NewOrder (order 44 Sell 3 (Kind.Limit (pos 97) Time.Fok Qty.None))) 6122237414 0
+    ∷ receive_from 1 (In.NewOrder (order 44 Sell 3 (Kind.Limit (pos 97) Time.Fok None))) 6122237414 0
     ∷ deliver_event 2 (Ev.Rested 3 Sell (pos 97) 3 3) 999
     ∷ receive_from 2 (In.NewOrder (order 14 Sell 4 (Kind.Stop (pos 101) (Some (pos 100))))) 11122237414 1
     ∷ deliver_event 2 (Ev.PhaseChanged Phase.Halted) 999 ∷ deliver_event 2 (Ev.Rejected 3 Why.UnknownOrder) 999
     ∷ deliver_event 3 (Ev.StopPlaced 3 Sell (pos 102) (Some (pos 97)) 6) 1 ∷ deliver_event 3 (Ev.Accepted 3) 999
-    ∷ receive_from 2 (In.NewOrder (order 70 Sell 4 (Kind.Limit (pos 99) Time.Ioc Qty.None))) 11122237414 999
+    ∷ receive_from 2 (In.NewOrder (order 70 Sell 4 (Kind.Limit (pos 99) Time.Ioc None))) 11122237414 999
     ∷ deliver_event 4 (Ev.Cancelled 4 4 Gone.MassCancel) 999 ∷ deliver_event 4 (Ev.Trade 51 3 3 Sell (pos 97) 3 0 0) 999 ∷ []
 
 abbrev seen_1 : List Seen
@@ -141,20 +137,20 @@ seen_1 =
 
 abbrev start_2 : Started
 start_2 =
-    set_up (pos 0) 4 7 (member 0 7 9 1 (funds (pos 1792) (pos 18)) ∷ member 1 8 3 9 (funds (pos 1558) (pos 3)) ∷ member 2 9 9 9 F.None
+    set_up (pos 0) 4 7 (member 0 7 9 1 (funds (pos 1792) (pos 18)) ∷ member 1 8 3 9 (funds (pos 1558) (pos 3)) ∷ member 2 9 9 9 None
     ∷ []) [] (timing 4 12)
 
 abbrev calls_2 : List Call
 calls_2 =
-    set_paper_collar (some 0) ∷ connect 1 0 ∷ receive_from 1 (In.Login 1 0 7) 1 1 ∷ receive_from 1 (In.Login 1 0 7) 1 999 ∷ connect 2 4
+    set_paper_collar (Some 0) ∷ connect 1 0 ∷ receive_from 1 (In.Login 1 0 7) 1 1 ∷ receive_from 1 (In.Login 1 0 7) 1 999 ∷ connect 2 4
     ∷ receive_from 2 (In.Login 1 1 8) 5 999 ∷ tick 8 0 ∷ tick 8 999
-    ∷ receive_from 1 (In.NewOrder (order 22 Sell 3 (Kind.Limit (pos 99) Time.Gtc Qty.None))) 9 0 ∷ connect 3 12 ∷ disconnect 2 ∷ connect 2 12
+    ∷ receive_from 1 (In.NewOrder (order 22 Sell 3 (Kind.Limit (pos 99) Time.Gtc None))) 9 0 ∷ connect 3 12 ∷ disconnect 2 ∷ connect 2 12
     ∷ receive_from 2 (In.Login 1 3 0) 14 2 ∷ connect 0 15
-    ∷ receive_from 1 (In.NewOrder (order 63 Buy 4 (Kind.Limit (negsuc 4611686018427387903) Time.Fok (Qty.Some 6)))) 15 999
-    ∷ end_session 1 Logout.SlowConsumer 999 ∷ receive_from 1 (In.NewOrder (order 26 Sell 5 (Kind.Limit (pos 100) Time.Gtc Qty.None))) 18 0
-    ∷ replay_command 10 (Cmd.Limit 10 0 Buy (pos 99) 3 Time.Ioc (Qty.Some 3)) ∷ publish 999 ∷ receive_from 1 In.Subscribe 18 0
-    ∷ add_account (member 5 12 9 9 F.None) ∷ deliver_event 9 (Ev.Modified 8 (pos 99) 3 3) 999 ∷ connect 0 20 ∷ replay_event 9 (Ev.MassCancelled 2 2)
-    ∷ receive_from 1 (In.Cancel 8) 22 999 ∷ receive_from 1 (In.NewOrder (order 54 Buy 5 (Kind.Limit (pos 97) Time.Gtc Qty.None))) 19 999 ∷ []
+    ∷ receive_from 1 (In.NewOrder (order 63 Buy 4 (Kind.Limit (negsuc 4611686018427387903) Time.Fok (Some 6)))) 15 999
+    ∷ end_session 1 Logout.SlowConsumer 999 ∷ receive_from 1 (In.NewOrder (order 26 Sell 5 (Kind.Limit (pos 100) Time.Gtc None))) 18 0
+    ∷ replay_command 10 (Cmd.Limit 10 0 Buy (pos 99) 3 Time.Ioc (Some 3)) ∷ publish 999 ∷ receive_from 1 In.Subscribe 18 0
+    ∷ add_account (member 5 12 9 9 None) ∷ deliver_event 9 (Ev.Modified 8 (pos 99) 3 3) 999 ∷ connect 0 20 ∷ replay_event 9 (Ev.MassCancelled 2 2)
+    ∷ receive_from 1 (In.Cancel 8) 22 999 ∷ receive_from 1 (In.NewOrder (order 54 Buy 5 (Kind.Limit (pos 97) Time.Gtc None))) 19 999 ∷ []
 
 abbrev seen_2 : List Seen
 seen_2 =
@@ -166,7 +162,7 @@ seen_2 =
 
 abbrev start_3 : Started
 start_3 =
-    restore (pos 0) 4 (member 0 7 9 1 F.None ∷ member 1 8 2 0 (funds (pos 1276) (pos 9)) ∷ member 2 9 9 1 (funds (pos 238) (pos 13))
+    restore (pos 0) 4 (member 0 7 9 1 None ∷ member 1 8 2 0 (funds (pos 1276) (pos 9)) ∷ member 2 9 9 1 (funds (pos 238) (pos 13))
     ∷ []) (timing 1000000000 5000000000) (6 ∷ 0 ∷ 0 ∷ 0 ∷ 0 ∷ 0 ∷ 0 ∷ 0 ∷ 3 ∷ 99 ∷ 0 ∷ 0 ∷ 0 ∷ 0 ∷ 0 ∷ 0 ∷ 0 ∷ 2 ∷ 0 ∷ 0 ∷ 0 ∷ 1 ∷ 0 ∷ 0 ∷ 0 ∷ 252 ∷ 4
     ∷ 0 ∷ 0 ∷ 0 ∷ 0 ∷ 0 ∷ 0 ∷ 9 ∷ 0 ∷ 0 ∷ 0 ∷ 0 ∷ 0 ∷ 0 ∷ 0 ∷ 2 ∷ 0 ∷ 0 ∷ 0 ∷ 238 ∷ 0 ∷ 0 ∷ 0 ∷ 0 ∷ 0 ∷ 0 ∷ 0 ∷ 13 ∷ 0 ∷ 0 ∷ 0 ∷ 0 ∷ 0 ∷ 0 ∷ 0 ∷ 1 ∷ 0
     ∷ 0 ∷ 0 ∷ 6 ∷ 0 ∷ 0 ∷ 0 ∷ 0 ∷ 0 ∷ 0 ∷ 0 ∷ 0 ∷ 0 ∷ 0 ∷ 0 ∷ 15 ∷ 0 ∷ 0 ∷ 0 ∷ 0 ∷ 0 ∷ 0 ∷ 0 ∷ 2 ∷ 99 ∷ 0 ∷ 0 ∷ 0 ∷ 0 ∷ 0 ∷ 0 ∷ 0 ∷ 1 ∷ 0 ∷ 0 ∷ 0 ∷ 0
@@ -182,12 +178,12 @@ seen_3 =
 
 abbrev start_4 : Started
 start_4 =
-    set_up (pos 0) 4 1 (member 0 7 1 9 F.None ∷ member 1 8 3 2 (funds (pos 966) (pos 12)) ∷ member 2 9 2 2 F.None
+    set_up (pos 0) 4 1 (member 0 7 1 9 None ∷ member 1 8 3 2 (funds (pos 966) (pos 12)) ∷ member 2 9 2 2 None
     ∷ []) [] (timing 1000000000 5000000000)
 
 abbrev calls_4 : List Call
 calls_4 =
-    set_paper_collar (some 1) ∷ connect 1 0 ∷ receive_from 1 (In.Login 1 0 7) 2 1 ∷ disconnect 1
+    set_paper_collar (Some 1) ∷ connect 1 0 ∷ receive_from 1 (In.Login 1 0 7) 2 1 ∷ disconnect 1
     ∷ replay_event 2 (Ev.Rested 3 Buy (pos 0) 9223372036854775808 2) ∷ deliver_event 2 (Ev.Trade 47 0 3 Buy (pos 102) 0 0 3) 999
     ∷ depth_levels Sell 999 ∷ receive_from 63 (In.Login 1 2 9) 2 0 ∷ detach 0 ∷ connect 0 5000000002 ∷ receive_from 0 (In.Login 1 5 0) 5177480169 999
     ∷ deliver_event 2 (Ev.Replenished 3 Sell (pos 102) 4) 999 ∷ publish 999 ∷ receive_from 0 (In.Login 1 3 0) 5177480169 999
@@ -201,7 +197,7 @@ calls_4 =
 abbrev seen_4 : List Seen
 seen_4 =
     quietly ∷ quietly ∷ tells (send 1 (Out.LoginAccepted 0 1) ∷ []) ∷ quietly ∷ code 8 ∷ code 8 ∷ answers (levels_are []) ∷ quietly
-    ∷ answers (account_was none) ∷ quietly ∷ tells (send 0 (Out.LoginRejected Login.BadCredentials) ∷ close 0 ∷ []) ∷ code 8 ∷ quietly ∷ quietly
+    ∷ answers (account_was None) ∷ quietly ∷ tells (send 0 (Out.LoginRejected Login.BadCredentials) ∷ close 0 ∷ []) ∷ code 8 ∷ quietly ∷ quietly
     ∷ quietly ∷ code 8 ∷ quietly ∷ code 8 ∷ quietly ∷ quietly ∷ quietly ∷ quietly ∷ code 4 ∷ code 8 ∷ code 6 ∷ answers (commands (Cmd.CancelAll 0
     ∷ [])) ∷ quietly ∷ answers (bytes (2 ∷ 0 ∷ 0 ∷ 0 ∷ 0 ∷ 0 ∷ 0 ∷ 0 ∷ 0 ∷ 0 ∷ 0 ∷ 0 ∷ 0 ∷ 0 ∷ 0 ∷ 0 ∷ 0 ∷ 1 ∷ 0 ∷ 0 ∷ 0 ∷ 1 ∷ 0 ∷ 0 ∷ 0 ∷ 198 ∷ 3 ∷ 0
     ∷ 0 ∷ 0 ∷ 0 ∷ 0 ∷ 0 ∷ 12 ∷ 0 ∷ 0 ∷ 0 ∷ 0 ∷ 0 ∷ 0 ∷ 0 ∷ 0 ∷ 0 ∷ 0 ∷ 0 ∷ [])) ∷ []
@@ -215,10 +211,10 @@ abbrev calls_5 : List Call
 calls_5 =
     connect 1 3 ∷ receive_from 1 (In.Login 1 0 7) 1338757275 2 ∷ connect 2 2655043633 ∷ receive_from 2 (In.Login 1 1 8) 2655043633 2
     ∷ connect 3 2655043635 ∷ receive_from 3 (In.Login 1 2 9) 2655043638 2 ∷ publish 999
-    ∷ receive_from 1 (In.NewOrder (order 46 Sell 4 (Kind.Limit (pos 101) Time.Ioc (Qty.Some 3)))) 2655043641 999
-    ∷ receive_from 2 In.Subscribe 2383096001 1 ∷ receive_from 2 (In.NewOrder (order 26 Buy 6 (Kind.Limit (pos 98) Time.Fok Qty.None))) 2383096001 1
+    ∷ receive_from 1 (In.NewOrder (order 46 Sell 4 (Kind.Limit (pos 101) Time.Ioc (Some 3)))) 2655043641 999
+    ∷ receive_from 2 In.Subscribe 2383096001 1 ∷ receive_from 2 (In.NewOrder (order 26 Buy 6 (Kind.Limit (pos 98) Time.Fok None))) 2383096001 1
     ∷ wallet 3 ∷ receive_from 1 (In.Modify 2 (pos 102) 3) 3196315130 999 ∷ last_seq ∷ wallet 3
-    ∷ receive_from 1 (In.NewOrder (order 27 Buy 1 (Kind.Limit (pos 100) Time.Gtc Qty.None))) 3243244768 999 ∷ receive_from 2 In.Logout 3243244769 999
+    ∷ receive_from 1 (In.NewOrder (order 27 Buy 1 (Kind.Limit (pos 100) Time.Gtc None))) 3243244768 999 ∷ receive_from 2 In.Logout 3243244769 999
     ∷ disconnect 1 ∷ deliver_event 4 (Ev.Cancelled 4 1 Gone.Requested) 0 ∷ deliver_event 4 (Ev.Modified 6 (pos 102) 3 3) 999
     ∷ deliver_event 5 (Ev.Trade 33 0 6 Sell (pos 99) 3 2 0) 999 ∷ deliver_event 4 (Ev.Trade 78 6 3 Sell (pos 1) 3 1 0) 999
     ∷ receive_from 3 (In.Modify 2 (pos 100) 3) 3260625072 999 ∷ receive_from 2 (In.Modify 1 (pos 97) 5) 3260625072 999
@@ -230,19 +226,19 @@ seen_5 =
     ∷ tells (send 2 (Out.LoginAccepted 1 3) ∷ send 2 (Out.Balance (balance (pos 39) (pos 10) (pos 0) (pos 0))) ∷ []) ∷ quietly
     ∷ tells (send 3 (Out.LoginAccepted 2 3) ∷ send 3 (Out.Balance (balance (pos 1347) (pos 1) (pos 0) (pos 0))) ∷ []) ∷ quietly
     ∷ tells (send 1 (Out.Reject Reject.InsufficientFunds 46) ∷ []) ∷ tells (send 2 (Out.BookSnapshot 3 0) ∷ [])
-    ∷ tells (send 2 (Out.Reject Reject.Throttled 26) ∷ []) ∷ answers (wallet_is none) ∷ tells (send 1 (Out.Reject Reject.NotAllowed 0) ∷ [])
-    ∷ answers (number_is 3) ∷ answers (wallet_is none) ∷ quietly ∷ tells (send 2 (Out.Logout Logout.Requested) ∷ close 2 ∷ []) ∷ quietly ∷ quietly
+    ∷ tells (send 2 (Out.Reject Reject.Throttled 26) ∷ []) ∷ answers (wallet_is None) ∷ tells (send 1 (Out.Reject Reject.NotAllowed 0) ∷ [])
+    ∷ answers (number_is 3) ∷ answers (wallet_is None) ∷ quietly ∷ tells (send 2 (Out.Logout Logout.Requested) ∷ close 2 ∷ []) ∷ quietly ∷ quietly
     ∷ code 8 ∷ code 8 ∷ code 8 ∷ tells (send 3 (Out.Reject Reject.NotAllowed 0) ∷ []) ∷ quietly ∷ quietly ∷ []
 
 abbrev start_6 : Started
 start_6 =
-    set_up (pos 0) 4 7 (member 0 7 9 9 F.None ∷ member 1 8 9 0 F.None ∷ member 2 9 9 2 F.None ∷ []) [] (timing 1000000000 5000000000)
+    set_up (pos 0) 4 7 (member 0 7 9 9 None ∷ member 1 8 9 0 None ∷ member 2 9 9 2 None ∷ []) [] (timing 1000000000 5000000000)
 
 abbrev calls_6 : List Call
 calls_6 =
-    set_paper_collar (some 0) ∷ connect 1 2 ∷ receive_from 1 (In.Login 1 0 7) 5 999 ∷ receive_from 1 In.Subscribe 7 1 ∷ connect 2 0
+    set_paper_collar (Some 0) ∷ connect 1 2 ∷ receive_from 1 (In.Login 1 0 7) 5 999 ∷ receive_from 1 In.Subscribe 7 1 ∷ connect 2 0
     ∷ receive_from 2 (In.Login 1 1 8) 644763513 999 ∷ receive_from 2 In.Subscribe 644763515 999 ∷ depth_levels Buy 999 ∷ publish 0
-    ∷ receive_from 2 (In.NewOrder (order 12 Sell 1 (Kind.Limit (pos 100) Time.PostOnly Qty.None))) 1527808794 999 ∷ tick 1527808794 999
+    ∷ receive_from 2 (In.NewOrder (order 12 Sell 1 (Kind.Limit (pos 100) Time.PostOnly None))) 1527808794 999 ∷ tick 1527808794 999
     ∷ receive_from 2 (In.Cancel 0) 1748803968 999 ∷ receive_from 2 (In.Login 1 2 9) 1748803969 999 ∷ receive_from 2 (In.Cancel 4) 1748803972 1
     ∷ publish 999 ∷ publish 999 ∷ receive_from 1 (In.NewOrder (order 59 Sell 5 (Kind.Stop (pos 100) None))) 1748803972 0
     ∷ deliver_event 8 (Ev.Trade 33 8 8 Sell (pos 97) 3 2 2) 999 ∷ deliver_event 8 (Ev.Rested 8 Sell (pos 99) 5 5) 1
@@ -266,7 +262,7 @@ seen_6 =
 
 abbrev start_7 : Started
 start_7 =
-    set_up (pos 0) 4 2 (member 0 7 9 0 F.None ∷ member 1 8 2 9 F.None ∷ member 2 9 9 9 F.None ∷ []) [] (timing 5 0)
+    set_up (pos 0) 4 2 (member 0 7 9 0 None ∷ member 1 8 2 9 None ∷ member 2 9 9 9 None ∷ []) [] (timing 5 0)
 
 abbrev calls_7 : List Call
 calls_7 =
@@ -279,20 +275,20 @@ abbrev seen_7 : List Seen
 seen_7 =
     quietly ∷ quietly ∷ tells (send 2 (Out.Logout Logout.Shutdown) ∷ close 2 ∷ []) ∷ quietly ∷ quietly ∷ quietly ∷ quietly ∷ quietly ∷ quietly
     ∷ answers (levels_are []) ∷ quietly ∷ quietly ∷ quietly ∷ quietly ∷ quietly ∷ quietly ∷ quietly ∷ quietly ∷ quietly ∷ quietly ∷ quietly
-    ∷ tells (send 0 (Out.Logout Logout.Idle) ∷ close 0 ∷ []) ∷ answers (account_was none) ∷ quietly ∷ tells (send 0 (Out.LoginAccepted 2 2) ∷ []) ∷ []
+    ∷ tells (send 0 (Out.Logout Logout.Idle) ∷ close 0 ∷ []) ∷ answers (account_was None) ∷ quietly ∷ tells (send 0 (Out.LoginAccepted 2 2) ∷ []) ∷ []
 
 abbrev start_8 : Started
 start_8 =
-    restore (pos 0) 4 (member 0 7 9 9 F.None ∷ member 1 8 9 0 F.None ∷ member 2 9 9 2 F.None ∷ []) (timing 1000000000 5000000000) (8 ∷ 0 ∷ 0 ∷ 0 ∷ 0
-    ∷ 0 ∷ 0 ∷ 0 ∷ 1 ∷ 99 ∷ 0 ∷ 0 ∷ 0 ∷ 0 ∷ 0 ∷ 0 ∷ 0 ∷ 0 ∷ 0 ∷ 0 ∷ 0 ∷ 0 ∷ 0 ∷ 0 ∷ 0 ∷ [])
+    restore (pos 0) 4 (member 0 7 9 9 None ∷ member 1 8 9 0 None ∷ member 2 9 9 2 None ∷ []) (timing 1000000000 5000000000) (8 ∷ 0 ∷ 0 ∷ 0 ∷ 0 ∷ 0
+    ∷ 0 ∷ 0 ∷ 1 ∷ 99 ∷ 0 ∷ 0 ∷ 0 ∷ 0 ∷ 0 ∷ 0 ∷ 0 ∷ 0 ∷ 0 ∷ 0 ∷ 0 ∷ 0 ∷ 0 ∷ 0 ∷ 0 ∷ [])
 
 abbrev calls_8 : List Call
 calls_8 =
     replay_command 9 (Cmd.SetPhase Phase.Auction) ∷ replay_event 9 (Ev.Modified 0 (pos 98) 1 2)
-    ∷ replay_command 10 (Cmd.Limit 10 3 Buy (pos 98) 3 Time.Ioc (Qty.Some 5)) ∷ replay_command 11 (Cmd.Modify 10 2 (pos 100) 3)
-    ∷ replay_event 10 (Ev.Trade 18 10 10 Buy (pos 98) 2 1 1) ∷ set_paper_collar (some 10)
-    ∷ replay_command 12 (Cmd.Limit 12 1 Sell (pos 100) 6 Time.Ioc Qty.None) ∷ replay_event 9 (Ev.Cancelled 10 3 Gone.Requested)
-    ∷ replay_event 10 (Ev.Trade 78 10 12 Buy (pos 98) 3 0 3) ∷ replay_command 13 (Cmd.Limit 12 1 Buy (pos 101) 4 Time.Gtc Qty.None)
+    ∷ replay_command 10 (Cmd.Limit 10 3 Buy (pos 98) 3 Time.Ioc (Some 5)) ∷ replay_command 11 (Cmd.Modify 10 2 (pos 100) 3)
+    ∷ replay_event 10 (Ev.Trade 18 10 10 Buy (pos 98) 2 1 1) ∷ set_paper_collar (Some 10)
+    ∷ replay_command 12 (Cmd.Limit 12 1 Sell (pos 100) 6 Time.Ioc None) ∷ replay_event 9 (Ev.Cancelled 10 3 Gone.Requested)
+    ∷ replay_event 10 (Ev.Trade 78 10 12 Buy (pos 98) 3 0 3) ∷ replay_command 13 (Cmd.Limit 12 1 Buy (pos 101) 4 Time.Gtc None)
     ∷ finish (L.Order 10 3 Buy (pos 98) 3 3 ∷ L.Order 12 1 Sell (pos 100) 6 6 ∷ []) ∷ publish 0 ∷ publish 999
     ∷ deliver_event 10 (Ev.Trade 4 10 12 Buy (pos 100) 3 0 3) 999 ∷ []
 
@@ -308,14 +304,14 @@ start_9 =
 abbrev calls_9 : List Call
 calls_9 =
     connect 1 2 ∷ receive_from 1 (In.Login 1 0 7) 5 2 ∷ connect 2 866485732 ∷ receive_from 2 (In.Login 1 1 8) 866485732 2 ∷ publish 999
-    ∷ add_account (member 3 10 9 9 F.None) ∷ wallet 0 ∷ deliver_event 1 (Ev.Replenished 0 Buy (negsuc 0) 4) 999 ∷ publish 999
-    ∷ set_paper_collar (some 0) ∷ publish 0
-    ∷ receive_from 1 (In.NewOrder (order 34 Sell 4 (Kind.Limit (pos 2305843009213693952) Time.PostOnly Qty.None))) 866485734 0
-    ∷ receive_from 1 (In.NewOrder (order 34 Sell 4 (Kind.Limit (pos 2305843009213693952) Time.PostOnly Qty.None))) 866485734 1
+    ∷ add_account (member 3 10 9 9 None) ∷ wallet 0 ∷ deliver_event 1 (Ev.Replenished 0 Buy (negsuc 0) 4) 999 ∷ publish 999
+    ∷ set_paper_collar (Some 0) ∷ publish 0
+    ∷ receive_from 1 (In.NewOrder (order 34 Sell 4 (Kind.Limit (pos 2305843009213693952) Time.PostOnly None))) 866485734 0
+    ∷ receive_from 1 (In.NewOrder (order 34 Sell 4 (Kind.Limit (pos 2305843009213693952) Time.PostOnly None))) 866485734 1
     ∷ deliver_event 1 (Ev.Trade 15 1 0 Buy (negsuc 9223372036854775807) 1 0 2) 999 ∷ receive_from 1 (In.Cancel 0) 866485735 0
     ∷ deliver_event 1 (Ev.Modified 0 (pos 1) 18446744073709551615 18446744073709551615) 0 ∷ wallet 1
     ∷ deliver_event 1 (Ev.Replenished 2 Buy (negsuc 0) 1) 999
-    ∷ receive_from 2 (In.NewOrder (order 91 Buy 18446744073709551615 (Kind.Limit (pos 0) Time.PostOnly (Qty.Some 6)))) 866485737 1 ∷ wallet 87
+    ∷ receive_from 2 (In.NewOrder (order 91 Buy 18446744073709551615 (Kind.Limit (pos 0) Time.PostOnly (Some 6)))) 866485737 1 ∷ wallet 87
     ∷ deliver_event 1 (Ev.Replenished 2 Sell (pos 98) 18446744073709551615) 999 ∷ deliver_event 1 (Ev.Modified 2 (pos 101) 1 1) 999 ∷ checkpoint 999
     ∷ deliver_event 1 (Ev.Rejected 1 Why.UnknownOrder) 999 ∷ publish 0 ∷ []
 
@@ -323,15 +319,15 @@ abbrev seen_9 : List Seen
 seen_9 =
     quietly ∷ tells (send 1 (Out.LoginAccepted 0 0) ∷ send 1 (Out.Balance (balance (pos 1243) (negsuc 9223372036854775807) (pos 0) (pos 0))) ∷ [])
     ∷ quietly ∷ tells (send 2 (Out.LoginAccepted 1 0) ∷ send 2 (Out.Balance (balance (pos 692) (pos 12) (pos 0) (pos 0))) ∷ []) ∷ quietly ∷ quietly
-    ∷ answers (wallet_is (some (balance (pos 1243) (negsuc 9223372036854775807) (pos 0) (pos 0)))) ∷ code 4 ∷ quietly ∷ quietly ∷ quietly ∷ code 6
+    ∷ answers (wallet_is (Some (balance (pos 1243) (negsuc 9223372036854775807) (pos 0) (pos 0)))) ∷ code 4 ∷ quietly ∷ quietly ∷ quietly ∷ code 6
     ∷ tells (send 1 (Out.Reject Reject.InsufficientFunds 34) ∷ []) ∷ code 4 ∷ quietly ∷ quietly
-    ∷ answers (wallet_is (some (balance (pos 692) (pos 12) (pos 0) (pos 0)))) ∷ code 8 ∷ tells (send 2 (Out.Reject Reject.Throttled 91) ∷ [])
-    ∷ answers (wallet_is none) ∷ code 8 ∷ code 8 ∷ code 10 ∷ tells (send 1 (Out.Report (report 1 1 0 (Report.Rejected Why.UnknownOrder))) ∷ [])
+    ∷ answers (wallet_is (Some (balance (pos 692) (pos 12) (pos 0) (pos 0)))) ∷ code 8 ∷ tells (send 2 (Out.Reject Reject.Throttled 91) ∷ [])
+    ∷ answers (wallet_is None) ∷ code 8 ∷ code 8 ∷ code 10 ∷ tells (send 1 (Out.Report (report 1 1 0 (Report.Rejected Why.UnknownOrder))) ∷ [])
     ∷ quietly ∷ []
 
 abbrev start_10 : Started
 start_10 =
-    set_up (pos 0) 4 5 (member 0 7 9 9 (funds (pos 962) (pos 11)) ∷ member 1 8 9 5 F.None ∷ member 2 9 9 9 F.None ∷ []) (L.Stop 4 0 Sell None 3
+    set_up (pos 0) 4 5 (member 0 7 9 9 (funds (pos 962) (pos 11)) ∷ member 1 8 9 5 None ∷ member 2 9 9 9 None ∷ []) (L.Stop 4 0 Sell None 3
     ∷ L.Order 2 3 Buy (pos 101) 4 1 ∷ L.Stop 3 0 Buy (Some (pos 100)) 5 ∷ L.Order 1 3 Sell (pos 99) 18446744073709551615 18446744073709551615
     ∷ []) (timing 1000000000 5000000000)
 
@@ -341,7 +337,7 @@ calls_10 =
     ∷ receive_from 2 (In.Login 1 1 8) 5 999 ∷ checkpoint 999 ∷ receive_from 2 (In.NewOrder (order 57 Buy 6 Kind.Market)) 8 0
     ∷ deliver_event 6 (Ev.Cancelled 1 18446744073709551615 Gone.PriceBand) 0 ∷ checkpoint 999
     ∷ deliver_event 6 (Ev.Trade 85 6 4 Buy (pos 100) 3 3 0) 999 ∷ receive_from 2 (In.Cancel 2) 11 0 ∷ publish 999 ∷ publish 999
-    ∷ receive_from 1 (In.NewOrder (order 27 Sell 6 (Kind.Limit (pos 99) Time.PostOnly Qty.None))) 0 0 ∷ publish 999 ∷ last_seq
+    ∷ receive_from 1 (In.NewOrder (order 27 Sell 6 (Kind.Limit (pos 99) Time.PostOnly None))) 0 0 ∷ publish 999 ∷ last_seq
     ∷ deliver_event 6 (Ev.Rested 6 Buy (pos 102) 3 3) 999 ∷ deliver_event 6 (Ev.Trade 51 6 2 Buy (pos 101) 4 0 0) 999
     ∷ deliver_event 7 (Ev.PhaseChanged Phase.Closed) 999 ∷ deliver_event 7 (Ev.Replenished 6 Buy (pos 98) 1) 999 ∷ take_batch 2 ∷ take_batch 999
     ∷ receive_from 1 In.MassCancel 0 0 ∷ receive_from 2 (In.Cancel 8) 1134395477 0 ∷ deliver_event 8 (Ev.Rested 8 Sell (pos 99) 5 1) 0
@@ -366,7 +362,7 @@ seen_10 =
     ∷ tells (send 1 (Out.Report (report 7 0 0 (Report.PhaseChanged Phase.Closed)))
     ∷ send 2 (Out.Report (report 7 0 0 (Report.PhaseChanged Phase.Closed))) ∷ [])
     ∷ tells (send 2 (Out.Report (report 7 6 57 (Report.Replenished Buy (pos 98) 1))) ∷ []) ∷ code 6 ∷ answers (commands (Cmd.Market 6 1 Buy 6
-    ∷ Cmd.Cancel 2 1 ∷ Cmd.Limit 8 0 Sell (pos 99) 6 Time.PostOnly Qty.None ∷ [])) ∷ quietly ∷ quietly ∷ code 6
+    ∷ Cmd.Cancel 2 1 ∷ Cmd.Limit 8 0 Sell (pos 99) 6 Time.PostOnly None ∷ [])) ∷ quietly ∷ quietly ∷ code 6
     ∷ tells (send 1 (Out.Report (report 8 8 27 (Report.Rested Sell (pos 99) 5 1))) ∷ []) ∷ quietly ∷ answers (commands (Cmd.CancelAll 0
     ∷ Cmd.Cancel 8 1 ∷ Cmd.Cancel 3 0 ∷ [])) ∷ tells (send 1 (Out.Report (report 11 0 0 (Report.PhaseChanged Phase.Closed)))
     ∷ send 2 (Out.Report (report 11 0 0 (Report.PhaseChanged Phase.Closed))) ∷ []) ∷ answers (bytes (11 ∷ 0 ∷ 0 ∷ 0 ∷ 0 ∷ 0 ∷ 0 ∷ 0 ∷ 1 ∷ 100 ∷ 0 ∷ 0
@@ -379,7 +375,7 @@ seen_10 =
 
 abbrev start_11 : Started
 start_11 =
-    set_up (pos 0) 257 0 (member 0 7 2 9 F.None ∷ member 1 8 9 9 F.None ∷ member 2 9 9 2 F.None ∷ []) [] (timing 1000000000 5000000000)
+    set_up (pos 0) 257 0 (member 0 7 2 9 None ∷ member 1 8 9 9 None ∷ member 2 9 9 2 None ∷ []) [] (timing 1000000000 5000000000)
 
 abbrev calls_11 : List Call
 calls_11 =
@@ -391,22 +387,22 @@ seen_11 =
 
 abbrev start_12 : Started
 start_12 =
-    set_up (pos 0) 4 7 (member 0 7 9 5 F.None ∷ member 1 8 3 0 (funds (pos 364) (negsuc 4)) ∷ member 2 9 9 9 (funds (pos 1219) (pos 17))
+    set_up (pos 0) 4 7 (member 0 7 9 5 None ∷ member 1 8 3 0 (funds (pos 364) (negsuc 4)) ∷ member 2 9 9 9 (funds (pos 1219) (pos 17))
     ∷ []) [] (timing 4 12)
 
 abbrev calls_12 : List Call
 calls_12 =
-    set_paper_collar (some 0) ∷ replay_command 8 (Cmd.Limit 8 2 Buy (pos 99) 5 Time.Gtc Qty.None) ∷ replay_event 8 (Ev.Rested 8 Buy (pos 99) 5 3)
-    ∷ replay_command 9 (Cmd.Limit 9 1 Buy (pos 102) 3 Time.Fok Qty.None) ∷ replay_event 8 (Ev.Rejected 8 Why.UnknownOrder)
+    set_paper_collar (Some 0) ∷ replay_command 8 (Cmd.Limit 8 2 Buy (pos 99) 5 Time.Gtc None) ∷ replay_event 8 (Ev.Rested 8 Buy (pos 99) 5 3)
+    ∷ replay_command 9 (Cmd.Limit 9 1 Buy (pos 102) 3 Time.Fok None) ∷ replay_event 8 (Ev.Rejected 8 Why.UnknownOrder)
     ∷ replay_event 9 (Ev.Rested 9 Buy (pos 102) 4611686018427387904 4611686018427387904) ∷ replay_command 10 (Cmd.Modify 9 0 (pos 98) 5)
     ∷ replay_event 10 (Ev.Modified 9 (pos 102) 1 4611686018427387903)
     ∷ replay_event 10 (Ev.Trade 50 9 9 Buy (pos 102) 5 4611686018427387898 4611686018427387898)
-    ∷ replay_command 11 (Cmd.Limit 11 2 Sell (pos 99) 6 Time.PostOnly Qty.None) ∷ connect 2 0
-    ∷ replay_command 12 (Cmd.Limit 12 0 Buy (pos 101) 4 Time.Gtc Qty.None) ∷ replay_event 10 (Ev.Rejected 11 Why.MarketClosed)
-    ∷ replay_event 11 (Ev.Rested 11 Sell (pos 99) 6 6) ∷ replay_command 12 (Cmd.Limit 12 2 Buy (pos 100) 1 Time.PostOnly (Qty.Some 2))
+    ∷ replay_command 11 (Cmd.Limit 11 2 Sell (pos 99) 6 Time.PostOnly None) ∷ connect 2 0
+    ∷ replay_command 12 (Cmd.Limit 12 0 Buy (pos 101) 4 Time.Gtc None) ∷ replay_event 10 (Ev.Rejected 11 Why.MarketClosed)
+    ∷ replay_event 11 (Ev.Rested 11 Sell (pos 99) 6 6) ∷ replay_command 12 (Cmd.Limit 12 2 Buy (pos 100) 1 Time.PostOnly (Some 2))
     ∷ replay_event 11 (Ev.Trade 76 11 9 Sell (pos 102) 6 0 4611686018427387897) ∷ replay_event 10 (Ev.Modified 9 (pos 102) 6 0)
     ∷ replay_event 11 (Ev.Rested 11 Sell (pos 99) 1 1) ∷ replay_event 10 (Ev.Trade 48 9 11 Buy (pos 102) 6 4611686018427387897 0)
-    ∷ replay_command 12 (Cmd.Limit 12 2 Sell (pos 101) 4 Time.Fok Qty.None) ∷ replay_event 10 (Ev.Trade 65 9 8 Sell (pos 99) 3 0 0)
+    ∷ replay_command 12 (Cmd.Limit 12 2 Sell (pos 101) 4 Time.Fok None) ∷ replay_event 10 (Ev.Trade 65 9 8 Sell (pos 99) 3 0 0)
     ∷ finish (L.Order 11 2 Sell (pos 99) 6 6 ∷ L.Order 9 1 Buy (pos 102) 4611686018427387903 4611686018427387903 ∷ []) ∷ connect 1 1
     ∷ receive_from 1 (In.Login 1 0 7) 2 1 ∷ connect 2 2 ∷ receive_from 2 (In.Login 1 1 8) 5 3 ∷ publish 999 ∷ []
 

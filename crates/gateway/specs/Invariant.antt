@@ -1,11 +1,9 @@
 -- The invariant of the gateway: set-up and restore begin with it, and every call keeps it (proofs/Restart.antt).
-use Rattle.std.specs.Prelude.{ℕ, ◌+◌, ◌≤◌, ◌<◌, true, ◌≡◌, List, [], ◌∷◌, length, get_or}
-use Rattle.std.proofs.Math.Option.{Option, none, some}
+use Rattle.std.specs.Prelude.{ℕ, ◌+◌, ◌≤◌, ◌<◌, true, ◌≡◌, List, [], ◌∷◌, length, get_or, Option, Some, None, is_some}
 use Rattle.protocol.specs.declared.TradeTick.{TradeTick}
 use Rattle.accounts.specs.declared.Account.{Account}
 use Rattle.accounts.specs.declared.Funds.{Funds}
 use Rattle.table.specs.Live.{Each}
-use Rattle.gateway.specs.Basics.{is_some}
 use Rattle.gateway.specs.Limits.{owner_slots, session_slots, most_orders, most_in_flight, most_in_batch, most_trades, most_notices}
 use Rattle.gateway.specs.Table.{Rises}
 use Rattle.gateway.specs.Ledger.{Order, Ledger, number_of, holds_fit}
@@ -25,8 +23,8 @@ pub record OrderFits (o : Order) : Type 0 where
   pub leaves_fit : Unsigned o.leaves
 
 abbrev pub WalletFits : Option Funds → Type 0
-WalletFits none = Unit {0}
-WalletFits (some w) = FundsFit w
+WalletFits None = Unit {0}
+WalletFits (Some w) = FundsFit w
 
 abbrev pub WalletsFit : List (Option Funds) → Type 0
 WalletsFit [] = Unit {0}
@@ -42,7 +40,7 @@ pub record LedgerFits (l : Ledger) : Type 0 where
 
 -- a wallet where the account has funds, and only there
 abbrev pub Owned : List (Option Account) → List (Option Funds) → Type 0
-Owned t ws = (i : ℕ) → is_some (get_or ws i none) ≡ is_some (funds_in (get_or t i none))
+Owned t ws = (i : ℕ) → is_some (get_or ws i None) ≡ is_some (funds_in (get_or t i None))
 
 -- an order's number is at most the last, and its account is below the owner limit
 abbrev pub Inside : ℕ → ℕ → Order → Type 0
@@ -69,18 +67,18 @@ pub record CoreOk (c : Core) : Type 0 where
 
 -- the account of the session in slot i
 abbrev pub at : List (Option Session) → ℕ → Option ℕ
-at xs i = account_of (get_or xs i none)
+at xs i = account_of (get_or xs i None)
 
 -- an account that a session is logged in for exists
 abbrev pub Known : List (Option Account) → Option ℕ → Type 0
-Known t none = Unit {0}
-Known t (some a) = is_some (get_or t a none) ≡ true
+Known t None = Unit {0}
+Known t (Some a) = is_some (get_or t a None) ≡ true
 
 -- no two sessions have one account
 pub record SessionsOk (t : List (Option Account)) (xs : List (Option Session)) : Type 0 where
   pub slots : length xs ≡ session_slots
   pub known : (i : ℕ) → Known t (at xs i)
-  pub single : (a i j : ℕ) → at xs i ≡ some a → at xs j ≡ some a → i ≡ j
+  pub single : (a i j : ℕ) → at xs i ≡ Some a → at xs j ≡ Some a → i ≡ j
 
 -- the depth and what waits to be published
 pub record FeedOk (d : Depth) (ts : List TradeTick) (ns : List ℕ) : Type 0 where
@@ -100,11 +98,11 @@ pub record RestOk (t : List (Option Account)) (last : ℕ) (r : Rest) : Type 0 w
 
 -- ---- the whole
 
-pub record Ok (g : Gateway) : Type 0 where
+pub record GatewayOk (g : Gateway) : Type 0 where
   pub core_is : CoreOk g.core
   pub rest_is : RestOk g.core.accounts g.core.ledger.last g.rest
 
 -- before each of these calls, and after the last
 abbrev pub AllOk : Gateway → List Call → Type 0
-AllOk g [] = Ok g
-AllOk g (x ∷ xs) = Ok g × AllOk (next_of g (call g x)) xs
+AllOk g [] = GatewayOk g
+AllOk g (x ∷ xs) = GatewayOk g × AllOk (next_of g (call g x)) xs

@@ -1,20 +1,16 @@
 -- The ledger: what a checkpoint holds, and what the record makes of it. It sees no gateway.
-use Rattle.std.specs.Prelude.{ℕ, suc, Bool, true, false, cond, ◌&&◌, List, [], ◌∷◌, ◌++◌, ℤ, pos, ◌+ℤ◌, get_or, set, eqb}
-use Rattle.std.proofs.Math.Option.{Option, none, some, map}
+use Rattle.std.specs.Prelude.{ℕ, suc, Bool, true, false, cond, ◌&&◌, List, [], ◌∷◌, ◌++◌, ℤ, pos, ◌+ℤ◌, get_or, set, eqb, Option, Some, None, option_map, is_some}
 use Rattle.orderbook.specs.declared.Side.{Side}
 use Rattle.orderbook.specs.declared.Side.TheVariants.{Buy, Sell}
-use Rattle.orderbook.specs.declared.MaybePrice.{MaybePrice}
-use Rattle.orderbook.specs.declared.MaybePrice.TheVariants.{None, Some}
 use Rattle.orderbook.specs.declared.Command.{Command}
 use Rattle.orderbook.specs.declared.Command.TheVariants.{Limit, Market, Cancel, Modify, Stop, CancelAll, SetPhase}
 use Rattle.orderbook.specs.declared.Event.{Event}
 use Rattle.orderbook.specs.declared.Event.TheVariants.{Accepted, Rejected, Trade, Rested, Replenished, Cancelled, Modified, StopPlaced, Triggered, MassCancelled, PhaseChanged}
 use Rattle.accounts.specs.declared.Account.{Account}
 use Rattle.accounts.specs.declared.Funds.{Funds}
-use Rattle.accounts.specs.declared.MaybeFunds as F
 use Rattle.words.specs.Words.{fit}
 use Rattle.wallet.specs.Wallet as W
-use Rattle.gateway.specs.Basics.{option, is_some}
+use Rattle.gateway.specs.Basics.{option}
 use Rattle.table.specs.Live.{look, without}
 use Rattle.gateway.specs.Table.{update}
 
@@ -24,7 +20,7 @@ pub record Order : Type 0 where
   pub account : ℕ
   pub client_ref : ℕ
   pub side : Side
-  pub price : MaybePrice
+  pub price : Option ℤ
   pub leaves : ℕ
 
 -- wallets by account; orders ascending by number; the mark is the reference price (the Rust's market_price); the fee for a seat (02, order 7) never
@@ -33,7 +29,7 @@ pub record Ledger : Type 0 where
   pub last : ℕ
   pub wallets : List (Option Funds)
   pub orders : List Order
-  pub mark : MaybePrice
+  pub mark : Option ℤ
   pub fee : ℤ
 
 -- an item of the record
@@ -47,17 +43,17 @@ pub data Item : Type 0 where
 -- the order that a command places
 pub record New : Type 0 where
   pub side : Side
-  pub price : MaybePrice
+  pub price : Option ℤ
   pub qty : ℕ
 
 unfoldable pub order_of : Command → Option New
-order_of (Limit i o s p q t d) = some (record { side = s; price = Some p; qty = q })
-order_of (Market i o s q) = some (record { side = s; price = None; qty = q })
-order_of (Stop i o s t l q) = some (record { side = s; price = l; qty = q })
-order_of (Cancel i o) = none
-order_of (Modify i o p q) = none
-order_of (CancelAll o) = none
-order_of (SetPhase p) = none
+order_of (Limit i o s p q t d) = Some (record { side = s; price = Some p; qty = q })
+order_of (Market i o s q) = Some (record { side = s; price = None; qty = q })
+order_of (Stop i o s t l q) = Some (record { side = s; price = l; qty = q })
+order_of (Cancel i o) = None
+order_of (Modify i o p q) = None
+order_of (CancelAll o) = None
+order_of (SetPhase p) = None
 
 -- whom a command acts for; a phase change, which has no owner, counts as 0's, as in replay_command
 unfoldable pub owner_of : Command → ℕ
@@ -123,11 +119,11 @@ left n f v os = cond (eqb v 0) (remove n os) (update number_of n (λ o. with_lea
 
 -- the wallet of an order's account
 abbrev pub wallet_of : List (Option Funds) → Order → Option Funds
-wallet_of ws o = get_or ws o.account none
+wallet_of ws o = get_or ws o.account None
 
 -- a fill settles with the order's own side (`traded`), a buy's price with the fee
 abbrev pub paid_to : ℤ → ℤ → ℕ → List (Option Funds) → Order → List (Option Funds)
-paid_to fee p q ws o = set ws o.account (map (W.settle o.side (W.charged fee o.side p) q) (wallet_of ws o))
+paid_to fee p q ws o = set ws o.account (option_map (W.settle o.side (W.charged fee o.side p) q) (wallet_of ws o))
 
 unfoldable pub pay : ℤ → ℤ → ℕ → Option Order → List (Option Funds) → List (Option Funds)
 pay fee p q o ws = option ws (paid_to fee p q ws) o
@@ -152,14 +148,9 @@ changed (x ∷ xs) l = changed xs (change x l)
 
 -- ---- the ledger's step
 
--- the account's wallet, if its funds name one (`AccountState::new`)
-abbrev pub funds_of : F.MaybeFunds → Option Funds
-funds_of F.TheVariants.None = none
-funds_of (F.TheVariants.Some f) = some f
-
 -- `ref` is the client reference of the order that a command places: the gateway has the client's, the ledger and a replay 0
 unfoldable pub step : ℕ → Item → Ledger → Ledger
-step ref (account a) l = record { last = l.last; wallets = set l.wallets a.id (funds_of a.funds); orders = l.orders; mark = l.mark; fee = l.fee }
+step ref (account a) l = record { last = l.last; wallets = set l.wallets a.id a.funds; orders = l.orders; mark = l.mark; fee = l.fee }
 step ref (command n k) l = record { last = n; wallets = l.wallets; orders = l.orders ++ placed ref n (owner_of k) (order_of k); mark = l.mark; fee = l.fee }
 step ref (event n e) l = changed (changes n e) l
 
@@ -175,13 +166,9 @@ same_side Buy Sell = false
 same_side Sell Buy = false
 same_side Sell Sell = true
 
-abbrev pub price_option : MaybePrice → Option ℤ
-price_option None = none
-price_option (Some p) = some p
-
 -- what an order with these fields holds: 0 without a price, or where the amount does not fit (wallet/specs)
-unfoldable pub hold : ℤ → Side → MaybePrice → ℕ → ℤ
-hold fee s p v = W.held s (map (W.charged fee s) (price_option p)) v
+unfoldable pub hold : ℤ → Side → Option ℤ → ℕ → ℤ
+hold fee s p v = W.held s (option_map (W.charged fee s) p) v
 
 -- what an order holds of its account's wallet, where it has one
 abbrev pub order_hold : ℤ → Order → ℤ
@@ -200,8 +187,8 @@ unfoldable pub fits : ℤ → Bool
 fits z = is_some (fit z)
 
 abbrev pub wallet_fits : ℤ → ℕ → Option Funds → List Order → Bool
-wallet_fits fee a none os = true
-wallet_fits fee a (some w) os = fits (held fee a Buy os) && fits (held fee a Sell os)
+wallet_fits fee a None os = true
+wallet_fits fee a (Some w) os = fits (held fee a Buy os) && fits (held fee a Sell os)
 
 abbrev pub wallets_fit : ℤ → ℕ → List (Option Funds) → List Order → Bool
 wallets_fit fee a [] os = true

@@ -1,5 +1,5 @@
 -- The limits of document 01 and the refusal codes of documents 01 and 02, each once.
-use Rattle.std.specs.Prelude.{ℕ, ◌-◌}
+use Rattle.std.specs.Prelude.{ℕ}
 
 abbrev pub owner_slots : ℕ
 owner_slots = 256

@@ -1,7 +1,5 @@
 -- A book listing: resting orders and stops, in any order. Set-up takes the live orders and the depth from it, `finish` compares and takes the depth.
-use Rattle.std.specs.Prelude.{ℕ, suc, Bool, true, false, cond, ◌&&◌, List, [], ◌∷◌, length, eqb}
-use Rattle.std.proofs.Math.Option.{Option, none, some}
-use Rattle.orderbook.specs.declared.MaybePrice.TheVariants.{Some}
+use Rattle.std.specs.Prelude.{ℕ, suc, Bool, true, false, cond, ◌&&◌, List, [], ◌∷◌, length, eqb, Option, Some, None}
 use Rattle.orderbook.specs.declared.Listed.{Listed}
 use Rattle.orderbook.specs.declared.Listed.TheVariants as L
 use Rattle.table.specs.Live.{insert}
@@ -41,9 +39,9 @@ listed_times n (x ∷ xs) = cond (eqb (listed_number x) n) (suc (listed_times n 
 
 -- `finish` compares a resting order's leaves and account, a stop's number alone
 abbrev pub entry_agrees : Listed → Option Order → Bool
-entry_agrees x none = false
-entry_agrees (L.Order i o s p v w) (some l) = eqb l.leaves v && eqb l.account o
-entry_agrees (L.Stop i o s l q) (some x) = true
+entry_agrees x None = false
+entry_agrees (L.Order i o s p v w) (Some l) = eqb l.leaves v && eqb l.account o
+entry_agrees (L.Stop i o s l q) (Some x) = true
 
 abbrev pub entries_agree : List Listed → List Listed → List Order → Bool
 entries_agree all [] os = true

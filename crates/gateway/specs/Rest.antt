@@ -1,6 +1,5 @@
 -- The rest of the gateway: what no replay needs. Sessions, buckets, the batch, the depth and what waits to be published.
-use Rattle.std.specs.Prelude.{ℕ, suc, ◌+◌, ◌-◌, Bool, true, false, cond, not, ◌&&◌, List, [], ◌∷◌, ◌++◌, get_or, set, eqb}
-use Rattle.std.proofs.Math.Option.{Option, none, some, map}
+use Rattle.std.specs.Prelude.{ℕ, suc, Bool, true, false, cond, not, ◌&&◌, List, [], ◌∷◌, ◌++◌, get_or, set, eqb, Option, Some, None, option_map, is_some}
 use Rattle.orderbook.specs.declared.Command.{Command}
 use Rattle.protocol.specs.declared.Outbound.{Outbound}
 use Rattle.protocol.specs.declared.Report as R
@@ -8,7 +7,7 @@ use Rattle.protocol.specs.declared.TradeTick.{TradeTick}
 use Rattle.protocol.specs.declared.Outbound.TheVariants as Out
 use Rattle.accounts.specs.declared.Timing.{Timing}
 use Rattle.risk.specs.declared.Bucket.{Bucket}
-use Rattle.gateway.specs.Basics.{option, is_some}
+use Rattle.gateway.specs.Basics.{option}
 use Rattle.gateway.specs.Depth.{Depth}
 
 -- a connection; one that is closing hears nothing more and is sent nothing more
@@ -76,7 +75,7 @@ with_collar p r =
 -- ---- sessions
 
 abbrev pub session_at : ℕ → Rest → Option Session
-session_at s r = get_or r.sessions s none
+session_at s r = get_or r.sessions s None
 
 -- logged in and not closing
 abbrev pub is_open : Option Session → Bool
@@ -91,26 +90,26 @@ is_subscribed x = option false (λ y. y.subscribed) x
 
 -- the account that a session is logged in for
 abbrev pub account_of : Option Session → Option ℕ
-account_of x = option none (λ y. y.account) x
+account_of x = option None (λ y. y.account) x
 
 abbrev pub logged_in : ℕ → Option Session → Bool
 logged_in a x = option false (eqb a) (account_of x)
 
 -- the session logged in for account a, closing or not, counted from s
 abbrev pub session_from : ℕ → ℕ → List (Option Session) → Option ℕ
-session_from s a [] = none
-session_from s a (x ∷ xs) = cond (logged_in a x) (some s) (session_from (suc s) a xs)
+session_from s a [] = None
+session_from s a (x ∷ xs) = cond (logged_in a x) (Some s) (session_from (suc s) a xs)
 
 abbrev pub session_of : ℕ → Rest → Option ℕ
 session_of a r = session_from 0 a r.sessions
 
 abbrev pub update_session : ℕ → (Session → Session) → Rest → Rest
-update_session s f r = with_sessions (set r.sessions s (map f (session_at s r))) r
+update_session s f r = with_sessions (set r.sessions s (option_map f (session_at s r))) r
 
 abbrev pub no_session : List (Option Session) → Bool
 no_session [] = true
-no_session (none ∷ xs) = no_session xs
-no_session (some x ∷ xs) = false
+no_session (None ∷ xs) = no_session xs
+no_session (Some x ∷ xs) = false
 
 abbrev pub set_received : ℕ → Session → Session
 set_received t x = record { account = x.account; last_received = t; last_sent = x.last_sent; closing = x.closing; subscribed = x.subscribed }
@@ -119,7 +118,7 @@ abbrev pub set_sent : ℕ → Session → Session
 set_sent t x = record { account = x.account; last_received = x.last_received; last_sent = t; closing = x.closing; subscribed = x.subscribed }
 
 abbrev pub set_account : ℕ → Session → Session
-set_account a x = record { account = some a; last_received = x.last_received; last_sent = x.last_sent; closing = x.closing; subscribed = x.subscribed }
+set_account a x = record { account = Some a; last_received = x.last_received; last_sent = x.last_sent; closing = x.closing; subscribed = x.subscribed }
 
 abbrev pub set_closing : Session → Session
 set_closing x = record { account = x.account; last_received = x.last_received; last_sent = x.last_sent; closing = true; subscribed = x.subscribed }

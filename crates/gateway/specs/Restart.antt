@@ -1,7 +1,5 @@
 -- Restart: the record of a list of calls, its replay, the ledger of a checkpoint's bytes and a record, and what demand 3 claims.
-use Rattle.std.specs.Prelude.{ℕ, ◌<◌, cond, ◌≡◌, List, [], ◌∷◌, ◌++◌, map, ℤ, leb}
-use Rattle.std.proofs.Math.Option
-use Rattle.std.proofs.Math.Option.{Option, none, some}
+use Rattle.std.specs.Prelude.{ℕ, ◌<◌, cond, ◌≡◌, List, [], ◌∷◌, ◌++◌, map, ℤ, leb, Option, Some, None, option_map}
 use Rattle.accounts.specs.declared.Account.{Account}
 use Rattle.accounts.specs.declared.Timing.{Timing}
 use Rattle.gateway.specs.Ledger.{Order, Ledger, Item, account, command, event, order_hold, open_of, replayed}
@@ -43,11 +41,11 @@ as_call (command n k) = replay_command n k
 as_call (event n e) = replay_event n e
 
 abbrev pub on_done : Outcome → (Gateway → Option Gateway) → Option Gateway
-on_done (refused k) f = none
+on_done (refused k) f = None
 on_done (done a is ms h) f = f h
 
 abbrev pub replay : List Item → Gateway → Option Gateway
-replay [] g = some g
+replay [] g = Some g
 replay (i ∷ is) g = on_done (call g (as_call i)) (replay is)
 
 -- no event of a command numbered at or before n
@@ -70,7 +68,7 @@ forgetting n l = record { last = l.last; wallets = l.wallets; orders = map (forg
 
 -- the independent ledger: the fee and a checkpoint's bytes, then the record
 unfoldable pub ledger_of : ℤ → List ℕ → List Item → Option Ledger
-ledger_of fee bs is = Option.map (λ s. replayed is (opening fee s)) (decode bs)
+ledger_of fee bs is = option_map (λ s. replayed is (opening fee s)) (decode bs)
 
 -- two gateways agree on the books: last number, reference price, fee, live orders with their holds (but for lost client references), and for every account
 -- its wallet with cash held and seats held (01's sums over live buys and live sells) and its open count
@@ -89,6 +87,6 @@ pub record Restarts (fee : ℤ) (limit : ℕ) (l : List Account) (timing : Timin
   pub begun : Gateway
   pub accepts : restore fee limit l timing bs ≡ started begun
   pub ended : Gateway
-  pub replays : replay is begun ≡ some ended
+  pub replays : replay is begun ≡ Some ended
   pub agrees : SameBooks n g.core ended.core
-  pub counted : ledger_of fee bs is ≡ some ended.core.ledger
+  pub counted : ledger_of fee bs is ≡ Some ended.core.ledger

@@ -1,7 +1,5 @@
 -- The contents of a checkpoint: what is taken from the ledger, and the ledger that starts from them.
-use Rattle.std.specs.Prelude.{ℕ, zero, suc, cond, List, [], ◌∷◌, ℤ, eqb}
-use Rattle.std.proofs.Math.Option.{Option, none, some}
-use Rattle.orderbook.specs.declared.MaybePrice.{MaybePrice}
+use Rattle.std.specs.Prelude.{ℕ, zero, suc, cond, List, [], ◌∷◌, ℤ, eqb, Option, Some, None}
 use Rattle.accounts.specs.declared.Funds.{Funds}
 use Rattle.gateway.specs.Limits.{owner_slots}
 use Rattle.gateway.specs.Ledger.{Order, Ledger}
@@ -9,21 +7,21 @@ use Rattle.gateway.specs.Ledger.{Order, Ledger}
 -- wallets ascending by account, orders ascending by number
 pub record Saved : Type 0 where
   pub last : ℕ
-  pub mark : MaybePrice
+  pub mark : Option ℤ
   pub wallets : List (ℕ × Funds)
   pub orders : List Order
 
 -- the wallets of slots that start with account a
 abbrev pub saved_from : ℕ → List (Option Funds) → List (ℕ × Funds)
 saved_from a [] = []
-saved_from a (none ∷ ws) = saved_from (suc a) ws
-saved_from a (some w ∷ ws) = (a, w) ∷ saved_from (suc a) ws
+saved_from a (None ∷ ws) = saved_from (suc a) ws
+saved_from a (Some w ∷ ws) = (a, w) ∷ saved_from (suc a) ws
 
 -- n slots that start with account a, filled from an ascending list
 abbrev pub slots : ℕ → ℕ → List (ℕ × Funds) → List (Option Funds)
 slots zero a xs = []
-slots (suc n) a [] = none ∷ slots n (suc a) []
-slots (suc n) a (x ∷ xs) = cond (eqb x.0 a) (some x.1 ∷ slots n (suc a) xs) (none ∷ slots n (suc a) (x ∷ xs))
+slots (suc n) a [] = None ∷ slots n (suc a) []
+slots (suc n) a (x ∷ xs) = cond (eqb x.0 a) (Some x.1 ∷ slots n (suc a) xs) (None ∷ slots n (suc a) (x ∷ xs))
 
 unfoldable pub contents : Ledger → Saved
 contents l = record { last = l.last; mark = l.mark; wallets = saved_from 0 l.wallets; orders = l.orders }

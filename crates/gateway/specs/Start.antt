@@ -1,17 +1,15 @@
 -- Set-up and restore: the two ways in which a list of calls begins.
-use Rattle.std.specs.Prelude.{ℕ, zero, suc, Bool, true, cond, not, ◌&&◌, List, [], ◌∷◌, ◌++◌, ℤ, pos, length, set, replicate, eqb, ltb, leb}
-use Rattle.std.proofs.Math.Option.{Option, none, some, get_or, map}
+use Rattle.std.specs.Prelude.{ℕ, zero, suc, Bool, true, cond, not, ◌&&◌, List, [], ◌∷◌, ◌++◌, ℤ, pos, length, set, replicate, eqb, ltb, leb, Option, Some, None, option_map, unwrap_or, is_some}
 use Rattle.std.specs.Int.Signed.{le_z}
-use Rattle.orderbook.specs.declared.MaybePrice.TheVariants.{None}
 use Rattle.orderbook.specs.declared.Listed.{Listed}
 use Rattle.accounts.specs.declared.Account.{Account}
 use Rattle.accounts.specs.declared.Funds.{Funds}
 use Rattle.accounts.specs.declared.Timing.{Timing}
-use Rattle.gateway.specs.Basics.{option, each, is_some}
+use Rattle.gateway.specs.Basics.{option, each}
 use Rattle.gateway.specs.Limits.{owner_slots, session_slots, most_orders, out_of_range, foreign, full, outside, inconsistent, malformed, bad_fee}
 use Rattle.risk.specs.declared.Bucket.{Bucket}
 use Rattle.risk.specs.Throttle as Throttle
-use Rattle.gateway.specs.Ledger.{Order, Ledger, funds_of, order_hold, wallet_of, holds_fit}
+use Rattle.gateway.specs.Ledger.{Order, Ledger, order_hold, wallet_of, holds_fit}
 use Rattle.gateway.specs.Core.{Tests}
 use Rattle.gateway.specs.Depth.{Depth, levels_fit, levels_few}
 use Rattle.gateway.specs.Entry.{is_zero}
@@ -37,10 +35,10 @@ charging fee s = cond (le_z (pos 0) fee) s (not_started bad_fee)
 -- a repeated account: the last entry wins
 abbrev pub entered : List (Option Account) → List Account → List (Option Account)
 entered t [] = t
-entered t (a ∷ l) = entered (set t a.id (some a)) l
+entered t (a ∷ l) = entered (set t a.id (Some a)) l
 
 abbrev pub accounts_of : ℕ → List Account → List (Option Account)
-accounts_of limit l = entered (replicate limit none) l
+accounts_of limit l = entered (replicate limit None) l
 
 abbrev pub all_below : ℕ → List Account → Bool
 all_below n [] = true
@@ -52,11 +50,11 @@ bucket_of a = Throttle.full (option 0 (λ x. x.messages_per_second) a)
 -- n slots, as many as there are accounts filled from them and the rest from nobody
 abbrev pub by_slot : {A : Type 0} → (Option Account → A) → ℕ → List (Option Account) → List A
 by_slot f zero t = []
-by_slot f (suc n) [] = f none ∷ by_slot f n []
+by_slot f (suc n) [] = f None ∷ by_slot f n []
 by_slot f (suc n) (a ∷ t) = f a ∷ by_slot f n t
 
 abbrev pub funds_in : Option Account → Option Funds
-funds_in a = option none (λ x. funds_of x.funds) a
+funds_in a = option None (λ x. x.funds) a
 
 -- ---- the gateway that begins
 
@@ -65,7 +63,7 @@ abbrev pub begin : Timing → Ledger → List (Option Account) → Depth → Lis
 begin timing l t d notices =
     record {
       core = record { ledger = l; flights = []; accounts = t };
-      rest = record { timing = timing; clock = 0; sessions = replicate session_slots none; buckets = by_slot bucket_of owner_slots t; batch = []; delivered = l.last; published = l.last; depth = d; trades = []; notices = notices; collar = none };
+      rest = record { timing = timing; clock = 0; sessions = replicate session_slots None; buckets = by_slot bucket_of owner_slots t; batch = []; delivered = l.last; published = l.last; depth = d; trades = []; notices = notices; collar = None };
     }
 
 -- ---- set-up
@@ -112,7 +110,7 @@ set_up fee limit last l xs timing =
 
 -- cash and seats are those of the bytes where the account has a wallet by its funds
 abbrev pub restored_wallet : Option Funds → Option Funds → Option Funds
-restored_wallet f w = map (get_or w) f
+restored_wallet f w = option_map (unwrap_or w) f
 
 abbrev pub restored_wallets : List (Option Funds) → List (Option Funds) → List (Option Funds)
 restored_wallets [] ws = []

@@ -1,7 +1,7 @@
 -- What is applied: the change of the ledger with its notices. Assumes nothing.
+use Rattle.std.specs.Prelude.{Option, Some, None, is_some}
 use mathlib.Core.Path.{◌≡◌, refl, sym, ap, ap₂, subst, ◌∙◌}
 use mathlib.Core.Bool.{Bool, true, false, cond}
-use mathlib.Core.Option.{none}
 use mathlib.Core.List.{List, [], ◌∷◌, ◌++◌, append-nil, append_assoc}
 use Prim.Native.Nat.{ℕ, ◌+◌, ◌≤◌, ◌<◌}
 use native.Mathlib.Omega.{arith}
@@ -10,9 +10,6 @@ use lib.ListN.{length, length-append, get_or}
 use Rattle.words.specs.Words.{int, modulus}
 use Rattle.words.proofs.Int.{int_injective}
 use Rattle.words.proofs.Wrap.{wrap_small}
-use Rattle.table.specs.declared.Found.{Found}
-use Rattle.table.specs.declared.Found.TheVariants.{At, Nothing}
-use Rattle.gateway.specs.Basics.{is_some}
 use Rattle.gateway.specs.Limits.{owner_slots, most_notices}
 use Rattle.gateway.specs.Ledger.{Order, Ledger, Change, fill, set_leaves, reprice, retire, number_of, wallet_of, change, order_hold}
 use Rattle.gateway.specs.Rest.{pending}
@@ -87,21 +84,21 @@ joined false x a ns = split (λ c. ◌≡◌ {A = List ℕ} [] (cond c [] [] ++ 
 
 -- ---- the order at a place
 
-module _ (xs : List ℕ) (st : State xs) (n : ℕ) (x : Move) (at : Found) (sees : Sees C.order_live order number_of (cell xs) n at) where
+module _ (xs : List ℕ) (st : State xs) (n : ℕ) (x : Move) (at : Option ℕ) (sees : Sees C.order_live order number_of (cell xs) n at) where
   abbrev s : Store
   s = cell xs
 
   abbrev c : Change
   c = change_of n x
 
-  pub nothing_changed : at ≡ Nothing → InPlace xs xs (with_ledger (change c) (gateway s))
+  pub nothing_changed : at ≡ None → InPlace xs xs (with_ledger (change c) (gateway s))
   nothing_changed absent =
       record {
         becomes = record { state = st; gateway_is = sym (ap (λ (l : Ledger). with_ledger (λ _. l) (gateway s)) (unchanged (of n x) (ledger s) (none_there xs st n at sees absent))) };
         stays = stays_same s;
       }
 
-  pub nothing_moved : at ≡ Nothing → InPlace xs xs (moved c (gateway s))
+  pub nothing_moved : at ≡ None → InPlace xs xs (moved c (gateway s))
   nothing_moved absent =
       let gone = none_there xs st n at sees absent in
       record {
@@ -115,8 +112,8 @@ module _ (xs : List ℕ) (st : State xs) (n : ℕ) (x : Move) (at : Found) (sees
         stays = stays_same s;
       }
 
-  module _ (i : ℕ) (found : at ≡ At i) where
-    abbrev row : Sees C.order_live order number_of s n (At i)
+  module _ (i : ℕ) (found : at ≡ Some i) where
+    abbrev row : Sees C.order_live order number_of s n (Some i)
     row = there xs st n at sees i found
 
     abbrev was : Order
@@ -160,7 +157,7 @@ module _ (xs : List ℕ) (st : State xs) (n : ℕ) (x : Move) (at : Found) (sees
         alike : (t : Store) → (ledger t).wallets ≡ (change c (ledger s)).wallets → Alike t
         alike t e =
             let small : was.account < owner_slots = (st.sound.held.rows i row.row.0 row.row.2).owner_is in
-            ap is_some (sym (wallet_at_row was.account t small)) ∙ ap (λ ws. is_some (get_or ws was.account none)) e ∙ wallets_changed c (ledger s) was.account
+            ap is_some (sym (wallet_at_row was.account t small)) ∙ ap (λ ws. is_some (get_or ws was.account None)) e ∙ wallets_changed c (ledger s) was.account
 
         module _ (room : length (change_notices c (ledger s)) + word s C.notice_rows ≤ most_notices) {ys : List ℕ} (did : InPlace xs ys (with_ledger (change (change_of (number_at i s) x)) (gateway s))) where
           b : Becomes ys (with_ledger (change c) (gateway s))

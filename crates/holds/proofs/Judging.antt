@@ -1,8 +1,9 @@
 -- Codes 7 and 5 as the code judges them are the definitions' tests. Assumes nothing.
+use Rattle.std.specs.Prelude.{is_some}
 use mathlib.Core.Path.{◌≡◌, refl, sym, ap, ap₂, ◌∙◌}
 use mathlib.Core.Bool.{Bool, true, false, cond, not, ◌&&◌, ◌||◌, and_assoc, and-eq-true_iff}
 use mathlib.Core.List.{List}
-use Prim.Native.Nat.{ℕ, ◌+◌, ◌-◌, ◌≤◌, ◌<◌}
+use Prim.Native.Nat.{ℕ, ◌+◌, ◌-◌, ◌<◌}
 use native.Mathlib.Omega.{arith}
 use borrow.Author.Tests.{ltb-true, ltb-false}
 use lib.Dec.{eqb, leb, ltb}
@@ -12,7 +13,6 @@ use Rattle.words.specs.Words.{int, ◌⊖◌, half, fit_in, fit, modulus}
 use Rattle.words.proofs.Diff.{sum3, sum5}
 use Rattle.words.proofs.Int.{low_is, high_is}
 use Rattle.words.proofs.Fit.{lies_in}
-use Rattle.gateway.specs.Basics.{is_some}
 use Rattle.gateway.specs.Limits.{most_notices}
 use Rattle.gateway.specs.Ledger.{same_side, held, fits}
 use Rattle.gateway.proofs.Base.{split}

@@ -1,7 +1,7 @@
 -- What a caller uses: what was weighed is the definitions' test, for one order and for two, also behind a new mark. Assumes nothing.
+use Rattle.std.specs.Prelude.{Option, Some, None, option_map, is_some}
 use mathlib.Core.Path.{◌≡◌, refl, sym, ap, subst, ◌∙◌}
 use mathlib.Core.Bool.{Bool, true, false, cond, ◌&&◌}
-use mathlib.Core.Option.{Option, none, some, map}
 use mathlib.Core.List.{List, [], ◌∷◌, ◌++◌}
 use Prim.Native.Nat.{ℕ, ◌+◌, ◌≤◌}
 use native.Mathlib.Omega.{arith}
@@ -10,15 +10,14 @@ use lib.Dec.{eqb, leb}
 use lib.IntN.{ℤ, ◌+ℤ◌, ◌-ℤ◌}
 use lib.ListN.{length, length-append, get_or}
 use Rattle.words.specs.Words.{int}
-use Rattle.gateway.specs.Basics.{option, is_some}
+use Rattle.gateway.specs.Basics.{option}
 use Rattle.table.specs.Live.{look}
-use Rattle.table.specs.declared.Found.{Found}
 use Rattle.gateway.specs.Limits.{most_notices}
 use Rattle.gateway.specs.Table.{update}
 use Rattle.gateway.specs.Ledger.{Order, Ledger, Change, number_of, with_leaves, mark_by, find, paper, wallet_of, change, same_side, held, fits, holds_fit}
 use Rattle.gateway.specs.Deliver.{hold_after, order_notices, change_notices, notices_of}
 use Rattle.gateway.specs.Calls.{Gateway}
-use Rattle.gateway.specs.Invariant.{Ok}
+use Rattle.gateway.specs.Invariant.{GatewayOk}
 use Rattle.gateway.proofs.Base.{split}
 use Rattle.gateway.proofs.Invariant.{fees_stay}
 use Rattle.gateway.proofs.Moves.{Of, names, find_changed, wallets_changed, marked_alike, changed_alike, holds_alike, notices_alike}
@@ -41,7 +40,7 @@ use Rattle.holds.proofs.Applying.{notices_count}
 
 shift_is : (s : Shift) (l : Ledger) → shift_fits s l ≡ part_fits (part s) l
 shift_is s l =
-    split (λ b. cond b (fits h) true ≡ part_fits (cond b (some p) none) l) s.funded (λ _. refl) (λ _. refl)
+    split (λ b. cond b (fits h) true ≡ part_fits (cond b (Some p) None) l) s.funded (λ _. refl) (λ _. refl)
   where
     p : Part
     p = record { account = s.account; side = side s.side; old = int s.old; new = int s.new }
@@ -52,9 +51,9 @@ shift_is s l =
 pair_is : (s t : Shift) (l : Ledger) → pair_fits s t l ≡ both_fit (part s) (part t) l
 pair_is s t l =
     split
-    (λ b. cond (b && (t.funded && same)) both (cond b (fits h) true && shift_fits t l) ≡ both_fit (cond b (some p) none) (part t) l)
+    (λ b. cond (b && (t.funded && same)) both (cond b (fits h) true && shift_fits t l) ≡ both_fit (cond b (Some p) None) (part t) l)
     s.funded
-    (λ _. split (λ c. cond (c && same) both (fits h && cond c (fits k) true) ≡ both_fit (some p) (cond c (some q) none) l) t.funded (λ _. refl) (λ _. refl))
+    (λ _. split (λ c. cond (c && same) both (fits h && cond c (fits k) true) ≡ both_fit (Some p) (cond c (Some q) None) l) t.funded (λ _. refl) (λ _. refl))
     (λ _. shift_is t l)
   where
     p : Part
@@ -81,29 +80,29 @@ paper_some : (n : ℕ) (l : Ledger) → paper n l ≡ is_some (paper_order n l)
 unfolding paper
 paper_some n l = go (find n l.orders)
   where
-    go : (w : Option Order) → option false (λ o. is_some (wallet_of l.wallets o)) w ≡ is_some (option none (λ o. cond (is_some (wallet_of l.wallets o)) (some o) none) w)
-    go none = refl
-    go (some o) = split (λ b. b ≡ is_some (cond b (some o) none)) (is_some (wallet_of l.wallets o)) (λ _. refl) (λ _. refl)
+    go : (w : Option Order) → option false (λ o. is_some (wallet_of l.wallets o)) w ≡ is_some (option None (λ o. cond (is_some (wallet_of l.wallets o)) (Some o) None) w)
+    go None = refl
+    go (Some o) = split (λ b. b ≡ is_some (cond b (Some o) None)) (is_some (wallet_of l.wallets o)) (λ _. refl) (λ _. refl)
 
 notices_paper : {n : ℕ} {c : Change} → Of n c → (l : Ledger) → change_notices c l ≡ option [] (order_notices l.fee c) (paper_order n l)
 notices_paper {n} {c} h l = ap (option [] (λ o. cond (is_some (wallet_of l.wallets o)) (order_notices l.fee c o) [])) (names h l.orders) ∙ go (find n l.orders)
   where
-    go : (w : Option Order) → option [] (λ o. cond (is_some (wallet_of l.wallets o)) (order_notices l.fee c o) []) w ≡ option [] (order_notices l.fee c) (option none (λ o. cond (is_some (wallet_of l.wallets o)) (some o) none) w)
-    go none = refl
-    go (some o) = split (λ b. cond b (order_notices l.fee c o) [] ≡ option [] (order_notices l.fee c) (cond b (some o) none)) (is_some (wallet_of l.wallets o)) (λ _. refl) (λ _. refl)
+    go : (w : Option Order) → option [] (λ o. cond (is_some (wallet_of l.wallets o)) (order_notices l.fee c o) []) w ≡ option [] (order_notices l.fee c) (option None (λ o. cond (is_some (wallet_of l.wallets o)) (Some o) None) w)
+    go None = refl
+    go (Some o) = split (λ b. cond b (order_notices l.fee c o) [] ≡ option [] (order_notices l.fee c) (cond b (Some o) None)) (is_some (wallet_of l.wallets o)) (λ _. refl) (λ _. refl)
 
-paper_same : (n : ℕ) (l k : Ledger) → find n k.orders ≡ find n l.orders → ((a : ℕ) → is_some (get_or k.wallets a none) ≡ is_some (get_or l.wallets a none)) → paper_order n k ≡ paper_order n l
-paper_same n l k e f = ap (option none (λ o. cond (is_some (wallet_of k.wallets o)) (some o) none)) e ∙ go (find n l.orders)
+paper_same : (n : ℕ) (l k : Ledger) → find n k.orders ≡ find n l.orders → ((a : ℕ) → is_some (get_or k.wallets a None) ≡ is_some (get_or l.wallets a None)) → paper_order n k ≡ paper_order n l
+paper_same n l k e f = ap (option None (λ o. cond (is_some (wallet_of k.wallets o)) (Some o) None)) e ∙ go (find n l.orders)
   where
-    go : (w : Option Order) → option none (λ o. cond (is_some (wallet_of k.wallets o)) (some o) none) w ≡ option none (λ o. cond (is_some (wallet_of l.wallets o)) (some o) none) w
-    go none = refl
-    go (some o) = ap (λ b. cond b (some o) none) (f o.account)
+    go : (w : Option Order) → option None (λ o. cond (is_some (wallet_of k.wallets o)) (Some o) None) w ≡ option None (λ o. cond (is_some (wallet_of l.wallets o)) (Some o) None) w
+    go None = refl
+    go (Some o) = ap (λ b. cond b (Some o) None) (f o.account)
 
 hold_same : (n : ℕ) (x : Move) (w : ℕ) (l k : Ledger) → k.fee ≡ l.fee → find n k.orders ≡ find n l.orders → NewHold n x w l → NewHold n x w k
 hold_same n x w l k q e h o f = h o (sym e ∙ f) ∙ ap (λ y. hold_after y (change_of n x) o) (sym q)
 
 weighs_same : {n : ℕ} {x : Move} {s : Shift} {g : Gateway} → Weighs n x s g → (h : Gateway) → h.core.ledger.fee ≡ g.core.ledger.fee → find n h.core.ledger.orders ≡ find n g.core.ledger.orders →
-    ((a : ℕ) → is_some (get_or h.core.ledger.wallets a none) ≡ is_some (get_or g.core.ledger.wallets a none)) → Weighs n x s h
+    ((a : ℕ) → is_some (get_or h.core.ledger.wallets a None) ≡ is_some (get_or g.core.ledger.wallets a None)) → Weighs n x s h
 weighs_same {n} {x} {s} {g} w h q d f =
     let l = g.core.ledger in
     let k = h.core.ledger in
@@ -112,7 +111,7 @@ weighs_same {n} {x} {s} {g} w h q d f =
       owned = record { inside = w.owned.inside; has_wallet = λ u. f s.account ∙ w.owned.has_wallet u };
       paper_is = paper_some n k ∙ ap is_some e ∙ sym (paper_some n l) ∙ w.paper_is;
       noticed = ap length (notices_paper (of n x) k ∙ (λ i. option [] (order_notices (q i) (change_of n x)) (e i)) ∙ sym (notices_paper (of n x) l)) ∙ w.noticed;
-      is = w.is ∙ sym (λ i. map (part_of (q i) (change_of n x)) (e i));
+      is = w.is ∙ sym (λ i. option_map (part_of (q i) (change_of n x)) (e i));
       holds = hold_same n x s.new l k q d w.holds;
     }
 
@@ -125,7 +124,7 @@ pub kept_hold_at : (n : ℕ) (x : Move) (w : ℕ) (xs : List ℕ) {ys : List ℕ
 kept_hold_at n x w xs h i y ne b = subst (λ g. NewHold n x w g.core.ledger) (sym b.gateway_is) (kept_hold n x w (ledger (cell xs)) h i y ne)
 
 -- it is found where it was
-pub kept_live : {xs ys : List ℕ} {g : Gateway} (b : InPlace xs ys g) (n : ℕ) (at : Found) (i : ℕ) (y : Move) → (i ≡ n → ⊥) → g.core.ledger.orders ≡ (change (change_of i y) (ledger (cell xs))).orders →
+pub kept_live : {xs ys : List ℕ} {g : Gateway} (b : InPlace xs ys g) (n : ℕ) (at : Option ℕ) (i : ℕ) (y : Move) → (i ≡ n → ⊥) → g.core.ledger.orders ≡ (change (change_of i y) (ledger (cell xs))).orders →
     Sees C.order_live order number_of (cell xs) n at → Sees C.order_live order number_of (cell ys) n at
 kept_live {xs} b n at i y ne e = seen_live b n at (ap is_some (ap (find n) e ∙ find_changed i n ne (of i y) (ledger (cell xs))))
 
@@ -135,13 +134,13 @@ unfolding look update
 find_updated n f h [] = refl
 find_updated n f h (o ∷ os) =
     split
-    (λ b. (eqb o.number n ≡ b) → is_some (cond (eqb (cond b (f o) o).number n) (some (cond b (f o) o)) (find n (update number_of n f os))) ≡ is_some (cond b (some o) (find n os)))
+    (λ b. (eqb o.number n ≡ b) → is_some (cond (eqb (cond b (f o) o).number n) (Some (cond b (f o) o)) (find n (update number_of n f os))) ≡ is_some (cond b (Some o) (find n os)))
     (eqb o.number n)
-    (λ _ e. ap (λ c. is_some (cond c (some (f o)) (find n (update number_of n f os)))) (ap (λ k. eqb k n) (h o) ∙ e))
-    (λ _ e. ap (λ c. is_some (cond c (some o) (find n (update number_of n f os)))) e ∙ find_updated n f h os)
+    (λ _ e. ap (λ c. is_some (cond c (Some (f o)) (find n (update number_of n f os)))) (ap (λ k. eqb k n) (h o) ∙ e))
+    (λ _ e. ap (λ c. is_some (cond c (Some o) (find n (update number_of n f os)))) e ∙ find_updated n f h os)
     refl
 
-pub left_live : {xs ys : List ℕ} (n v : ℕ) (b : InPlace xs ys (moved (change_of n (Leaves v)) (gateway (cell xs)))) (at : Found) →
+pub left_live : {xs ys : List ℕ} (n v : ℕ) (b : InPlace xs ys (moved (change_of n (Leaves v)) (gateway (cell xs)))) (at : Option ℕ) →
     Sees C.order_live order number_of (cell xs) n at → Sees C.order_live order number_of (cell ys) n at
 unfolding change
 left_live {xs} n v b at = seen_live b n at (find_updated n (with_leaves v) (λ o. refl) (ledger (cell xs)).orders)
@@ -155,8 +154,8 @@ pub weighs_few : {n : ℕ} {x : Move} {s : Shift} {g : Gateway} → Weighs n x s
 weighs_few {n} {x} {s} {g} w = let e = w.noticed in omega (arith, ap length (notices_paper (of n x) g.core.ledger), go (paper_order n g.core.ledger))
   where
     go : (o : Option Order) → length (option [] (order_notices g.core.ledger.fee (change_of n x)) o) ≤ 2
-    go none = omega arith
-    go (some o) = notices_two g.core.ledger.fee n x o
+    go None = omega arith
+    go (Some o) = notices_two g.core.ledger.fee n x o
 
 pub weighed : (xs : List ℕ) (i : ℕ) (x : Move) (h : Shift) → Weighs i x h (gateway (cell xs)) → Weighed h (ledger (cell xs))
 weighed xs i x h w = record { owned = w.owned; few = omega (arith, weighs_few w) }
@@ -184,14 +183,14 @@ noticed_room xs x l = omega (arith, notices_count (cell xs), l)
 
 -- ---- code 7
 
-pub one_fits : {n : ℕ} {x : Move} {s : Shift} {g : Gateway} → Weighs n x s g → Ok g → shift_fits s g.core.ledger ≡ holds_fit (change (change_of n x) g.core.ledger)
+pub one_fits : {n : ℕ} {x : Move} {s : Shift} {g : Gateway} → Weighs n x s g → GatewayOk g → shift_fits s g.core.ledger ≡ holds_fit (change (change_of n x) g.core.ledger)
 one_fits {n} {x} {s} {g} w ok = shift_is s g.core.ledger ∙ Totals.one_fits g.core.ledger ok.core_is.rise ok.core_is.holds (of n x) (part s) w.is
 
 module _ {i j : ℕ} {x y : Move} {s t : Shift} {g : Gateway} (w : Weighs i x s g) (v : Weighs j y t g) (ne : i ≡ j → ⊥) where
   abbrev l : Ledger
   l = g.core.ledger
 
-  pub two_fit : Ok g → pair_fits s t l ≡ holds_fit (change (change_of j y) (change (change_of i x) l))
+  pub two_fit : GatewayOk g → pair_fits s t l ≡ holds_fit (change (change_of j y) (change (change_of i x) l))
   two_fit ok = pair_is s t l ∙ Totals.two_fit l ok.core_is.rise ok.core_is.holds (of i x) (of j y) ne (part s) (part t) w.is v.is
 
   pub two_noticed : length (change_notices (change_of j y) (change (change_of i x) l)) ≡ t.notices
@@ -199,7 +198,7 @@ module _ {i j : ℕ} {x y : Move} {s t : Shift} {g : Gateway} (w : Weighs i x s 
 
   -- behind a new mark, as in a trade
   module _ (a b : ℕ) (p : ℤ) where
-    pub trade_fits : Ok g → pair_fits s t l ≡ holds_fit (change (change_of j y) (change (change_of i x) (change (mark_by a b p) l)))
+    pub trade_fits : GatewayOk g → pair_fits s t l ≡ holds_fit (change (change_of j y) (change (change_of i x) (change (mark_by a b p) l)))
     trade_fits ok = two_fit ok ∙ sym (holds_alike (changed_alike (change_of j y) (changed_alike (change_of i x) (marked_alike a b p l))))
 
     pub trade_noticed : length (notices_of (mark_by a b p ∷ change_of i x ∷ change_of j y ∷ []) l) ≡ s.notices + t.notices

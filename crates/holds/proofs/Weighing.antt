@@ -1,7 +1,8 @@
 -- What `weigh` finds: the part of the order that x would change, and its notices. Assumes nothing.
+use Rattle.std.proofs.lemmas.Option.{none-some, same_Some}
+use Rattle.std.specs.Prelude.{Option, Some, None, option_map, is_some}
 use mathlib.Core.Path.{◌≡◌, refl, sym, ap, ap₂, subst, ◌∙◌}
 use mathlib.Core.Bool.{Bool, true, false, cond, false≢true}
-use mathlib.Core.Option.{Option, none, some, map, none-ne-some, some-injective}
 use mathlib.Core.List.{List, [], ◌∷◌, ◌++◌}
 use Prim.Native.Nat.{ℕ, ◌+◌, ◌≤◌, ◌<◌}
 use native.Mathlib.Omega.{arith}
@@ -10,9 +11,7 @@ use lib.Dec.{eqb}
 use lib.ListN.{length}
 use Rattle.words.specs.Words.{int, modulus}
 use Rattle.words.proofs.Int.{int_zero}
-use Rattle.table.specs.declared.Found.{Found}
-use Rattle.table.specs.declared.Found.TheVariants.{At, Nothing}
-use Rattle.gateway.specs.Basics.{option, is_some}
+use Rattle.gateway.specs.Basics.{option}
 use Rattle.gateway.specs.Limits.{owner_slots}
 use Rattle.gateway.specs.Ledger.{Order, Ledger, number_of, find, paper, wallet_of, hold, order_hold}
 use Rattle.gateway.specs.Deliver.{hold_after, order_notices, change_notices}
@@ -22,7 +21,7 @@ use Rattle.gateway.proofs.Base.{split}
 use Rattle.gateway.proofs.Moves.{Of, fills, sets, reprices, retires, names}
 use Rattle.store.specs.Cells as C
 use Rattle.store.specs.Layout.{cell}
-use Rattle.store.specs.View.{Row, Store, word, side, order, wallet, ledger, gateway, order_room}
+use Rattle.store.specs.View.{Row, Store, word, order, wallet, ledger, gateway, order_room}
 use Rattle.clients.proofs.Views.{wallet_at_row}
 use Rattle.orders.specs.declared.Live.{Live}
 use Rattle.orders.specs.Orders.{Sees, live_row}
@@ -98,17 +97,17 @@ new_is fee n (Leaves v) r = hold_is fee (r C.order_side) (r C.order_priced) (r C
 new_is fee n (Reprice p v) r = hold_is fee (r C.order_side) 1 p v
 new_is fee n Retire r = int_zero
 
-module _ (xs : List ℕ) (st : State xs) (n : ℕ) (at : Found) (sees : Sees C.order_live order number_of (cell xs) n at) where
+module _ (xs : List ℕ) (st : State xs) (n : ℕ) (at : Option ℕ) (sees : Sees C.order_live order number_of (cell xs) n at) where
   abbrev s : Store
   s = cell xs
 
-  pub none_there : at ≡ Nothing → find n (ledger s).orders ≡ none
-  none_there absent = let u : Sees C.order_live order number_of s n Nothing = rw absent at sees in u.order
+  pub none_there : at ≡ None → find n (ledger s).orders ≡ None
+  none_there absent = let u : Sees C.order_live order number_of s n None = rw absent at sees in u.order
 
-  pub holds_nothing : (x : Move) (w : ℕ) → at ≡ Nothing → NewHold n x w (ledger s)
-  holds_nothing x w absent o q = absurd (none-ne-some o (sym (none_there absent) ∙ q))
+  pub holds_nothing : (x : Move) (w : ℕ) → at ≡ None → NewHold n x w (ledger s)
+  holds_nothing x w absent o q = absurd (none-some o (sym (none_there absent) ∙ q))
 
-  pub weighs_nothing : at ≡ Nothing → (r : Shift) → r ≡ nothing → (x : Move) → Weighs n x r (gateway s)
+  pub weighs_nothing : at ≡ None → (r : Shift) → r ≡ nothing → (x : Move) → Weighs n x r (gateway s)
   unfolding paper
   weighs_nothing absent r e x =
       let gone = none_there absent in
@@ -117,12 +116,12 @@ module _ (xs : List ℕ) (st : State xs) (n : ℕ) (at : Found) (sees : Sees C.o
         owned = record { inside = omega arith; has_wallet = λ q. absurd (false≢true q) };
         paper_is = ap (option false (λ o. is_some (wallet_of (ledger s).wallets o))) gone;
         noticed = ap length (notices_by n x (ledger s) gone);
-        is = sym (ap (λ w. map (part_of (ledger s).fee (change_of n x)) (option none (λ o. cond (is_some (wallet_of (ledger s).wallets o)) (some o) none) w)) gone);
+        is = sym (ap (λ w. option_map (part_of (ledger s).fee (change_of n x)) (option None (λ o. cond (is_some (wallet_of (ledger s).wallets o)) (Some o) None) w)) gone);
         holds = holds_nothing x 0 absent;
       })
 
-  module _ (i : ℕ) (found : at ≡ At i) where
-    pub there : Sees C.order_live order number_of s n (At i)
+  module _ (i : ℕ) (found : at ≡ Some i) where
+    pub there : Sees C.order_live order number_of s n (Some i)
     there = rw found at sees
 
     pub row_small : i < order_room
@@ -138,7 +137,7 @@ module _ (xs : List ℕ) (st : State xs) (n : ℕ) (at : Found) (sees : Sees C.o
     live_at = record { inside = there.row.0; live = there.row.2 }
 
     holds_row : (x : Move) (w : ℕ) → w ≡ hold_after_word (word s C.fee) x (s C.orders i) → NewHold n x w (ledger s)
-    holds_row x w e q f = ap int e ∙ new_is (word s C.fee) n x (s C.orders i) ∙ ap (hold_after (ledger s).fee (change_of n x)) (some-injective was q (sym there.order ∙ f))
+    holds_row x w e q f = ap int e ∙ new_is (word s C.fee) n x (s C.orders i) ∙ ap (hold_after (ledger s).fee (change_of n x)) (same_Some was q (sym there.order ∙ f))
 
     module _ (o : Live) (o_is : o ≡ live_row (s C.orders i)) where
       pub owner_small : o.account < owner_slots
@@ -156,10 +155,10 @@ module _ (xs : List ℕ) (st : State xs) (n : ℕ) (at : Found) (sees : Sees C.o
                 ∙ split (λ c. length (cond c (order_notices (ledger s).fee (change_of n x) was) []) ≡ cond c (notice_count k (s C.orders i C.order_hold) new) 0) funded
                 (λ _. counted (ledger s).fee n x was ∙ (λ j. cond (is_zero (sym after_is j -ℤ sym old_is j)) (k_is j) (k_is j + 1))) (λ _. refl);
             is =
-                split (λ c. cond c (some (record { account = was.account; side = was.side; old = int (s C.orders i C.order_hold); new = int new })) none ≡
-                map (part_of (ledger s).fee (change_of n x)) (cond c (some was) none)) funded
-                (λ _ j. some (record { account = was.account; side = was.side; old = old_is j; new = after_is j })) (λ _. refl)
-                ∙ sym (ap (map (part_of (ledger s).fee (change_of n x))) order_is);
+                split (λ c. cond c (Some (record { account = was.account; side = was.side; old = int (s C.orders i C.order_hold); new = int new })) None ≡
+                option_map (part_of (ledger s).fee (change_of n x)) (cond c (Some was) None)) funded
+                (λ _ j. Some (record { account = was.account; side = was.side; old = old_is j; new = after_is j })) (λ _. refl)
+                ∙ sym (ap (option_map (part_of (ledger s).fee (change_of n x))) order_is);
             holds = new_is;
           })
         where
@@ -169,8 +168,8 @@ module _ (xs : List ℕ) (st : State xs) (n : ℕ) (at : Found) (sees : Sees C.o
           wallet_is : is_some (wallet_of (ledger s).wallets was) ≡ funded
           wallet_is = ap is_some (wallet_at_row was.account s small)
 
-          order_is : paper_order n (ledger s) ≡ cond funded (some was) none
-          order_is = ap (option none (λ q. cond (is_some (wallet_of (ledger s).wallets q)) (some q) none)) there.order ∙ ap (λ c. cond c (some was) none) wallet_is
+          order_is : paper_order n (ledger s) ≡ cond funded (Some was) None
+          order_is = ap (option None (λ q. cond (is_some (wallet_of (ledger s).wallets q)) (Some q) None)) there.order ∙ ap (λ c. cond c (Some was) None) wallet_is
 
           old_is : int (s C.orders i C.order_hold) ≡ order_hold (ledger s).fee was
           old_is = (st.sound.held.rows i there.row.0 there.row.2).hold_is

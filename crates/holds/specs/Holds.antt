@@ -1,9 +1,8 @@
 -- What an event does to a live order that it names: what the order held and holds, the tests, and the change with its notices.
-use Rattle.std.specs.Prelude.{ℕ, ◌+◌, ◌≤◌, ◌<◌, ◌≡◌, Bool, true, false, cond, ◌&&◌, eqb, leb, ltb, ℤ, ◌+ℤ◌, ◌-ℤ◌, length, get_or}
-use Rattle.std.proofs.Math.Option.{Option, none, some, map}
+use Rattle.std.specs.Prelude.{ℕ, ◌+◌, ◌≤◌, ◌<◌, ◌≡◌, Bool, true, false, cond, ◌&&◌, eqb, leb, ltb, ℤ, ◌+ℤ◌, ◌-ℤ◌, length, get_or, Option, Some, None, option_map, is_some}
 use Rattle.orderbook.specs.declared.Side.{Side}
 use Rattle.words.specs.Words.{int}
-use Rattle.gateway.specs.Basics.{option, is_some}
+use Rattle.gateway.specs.Basics.{option}
 use Rattle.gateway.specs.Limits.{owner_slots, most_notices}
 use Rattle.gateway.specs.Ledger.{Order, Ledger, Change, fill, set_leaves, reprice, retire, find, wallet_of, paper, change, order_hold, same_side, held, fits}
 use Rattle.gateway.specs.Deliver.{hold_after, change_notices}
@@ -45,16 +44,16 @@ part_of fee x o = record { account = o.account; side = o.side; old = order_hold 
 
 -- the live order n, where its account has a wallet
 abbrev pub paper_order : ℕ → Ledger → Option Order
-paper_order n l = option none (λ o. cond (is_some (wallet_of l.wallets o)) (some o) none) (find n l.orders)
+paper_order n l = option None (λ o. cond (is_some (wallet_of l.wallets o)) (Some o) None) (find n l.orders)
 
 -- what a shift says of a wallet: nothing without one
 abbrev pub part : Shift → Option Part
-part s = cond s.funded (some (record { account = s.account; side = side s.side; old = int s.old; new = int s.new })) none
+part s = cond s.funded (Some (record { account = s.account; side = side s.side; old = int s.old; new = int s.new })) None
 
 -- its account has a row, and a wallet where it says so
 pub record Owned (s : Shift) (l : Ledger) : Type 0 where
   pub inside : s.account < owner_slots
-  pub has_wallet : s.funded ≡ true → is_some (get_or l.wallets s.account none) ≡ true
+  pub has_wallet : s.funded ≡ true → is_some (get_or l.wallets s.account None) ≡ true
 
 -- the order has v open, at the price p where b says so
 abbrev pub leaving : Bool → ℕ → ℕ → Move
@@ -63,14 +62,14 @@ leaving false p v = Leaves v
 
 -- w is what the live order n holds after x
 abbrev pub NewHold : ℕ → Move → ℕ → Ledger → Type 0
-NewHold n x w l = (o : Order) → find n l.orders ≡ some o → int w ≡ hold_after l.fee (change_of n x) o
+NewHold n x w l = (o : Order) → find n l.orders ≡ Some o → int w ≡ hold_after l.fee (change_of n x) o
 
 -- s is what x would do to the order n
 pub record Weighs (n : ℕ) (x : Move) (s : Shift) (g : Gateway) : Type 0 where
   pub owned : Owned s g.core.ledger
   pub paper_is : paper n g.core.ledger ≡ s.funded
   pub noticed : length (change_notices (change_of n x) g.core.ledger) ≡ s.notices
-  pub is : part s ≡ map (part_of g.core.ledger.fee (change_of n x)) (paper_order n g.core.ledger)
+  pub is : part s ≡ option_map (part_of g.core.ledger.fee (change_of n x)) (paper_order n g.core.ledger)
   pub holds : NewHold n x s.new g.core.ledger
 
 -- what is known of every shift that was weighed

@@ -18,7 +18,6 @@ ghost use Rattle.holds.specs.Holds as P;
 
 use orders::Live;
 use store::{cells, limits};
-use table::Found;
 
 // What happens to the order. Prices are words, in two's complement.
 #[derive(Clone, Copy)]
@@ -41,11 +40,11 @@ pub struct Shift {
 }
 
 // What the order `id`, which is at `at`, holds with this much open: where `repriced`, at this price, else at its own. Of no live order 0.
-pub fn left(m: &[u8], id: u64, at: Found, repriced: bool, price: u64, leaves: u64) -> u64
+pub fn left(m: &[u8], id: u64, at: Option<usize>, repriced: bool, price: u64, leaves: u64) -> u64
     requires { State m.now × Sees C.order_live order number_of (cell m.now) id at }
     ensures { P.NewHold id (P.leaving repriced price leaves) result (ledger (cell m.now)) }
 {
-    if let Found::At(i) = at {
+    if let Some(i) = at {
         let o = orders::live_at(m, i);
         let flag = live::choose(repriced, 1, o.priced);
         let p = live::choose(repriced, price, o.price);
@@ -55,7 +54,7 @@ pub fn left(m: &[u8], id: u64, at: Found, repriced: bool, price: u64, leaves: u6
 }
 
 // After x: a fill leaves the order its own price.
-fn after(m: &[u8], id: u64, at: Found, x: Move) -> u64
+fn after(m: &[u8], id: u64, at: Option<usize>, x: Move) -> u64
     requires { State m.now × Sees C.order_live order number_of (cell m.now) id at }
     ensures { P.NewHold id x result (ledger (cell m.now)) }
 {
@@ -118,11 +117,11 @@ fn shift_of(m: &[u8], o: Live, settles: u64, new: u64) -> Shift
 }
 
 // What a change would do to the order `id`, which is at `at`: it holds `new` then, and money moves where `settles` is 1.
-pub fn weigh(m: &[u8], id: u64, at: Found, settles: u64, new: u64) -> Shift
+pub fn weigh(m: &[u8], id: u64, at: Option<usize>, settles: u64, new: u64) -> Shift
     requires { State m.now × Sees C.order_live order number_of (cell m.now) id at × (settles ≤ 1) }
     ensures { (x : Move) → P.settles x ≡ settles → P.NewHold id x new (ledger (cell m.now)) → P.Weighs id x result (gateway (cell m.now)) }
 {
-    if let Found::At(i) = at {
+    if let Some(i) = at {
         let o = orders::live_at(m, i);
         return shift_of(m, o, settles, new);
     }
@@ -197,11 +196,11 @@ pub fn few(m: &[u8], notices: u64) -> bool
 // ---- applied
 
 // The order `id`, which is at `at`, traded `qty` at `price` and has `leaves` open: it holds `new` then. The change and its notices.
-pub fn fill(m: &mut [u8], id: u64, at: Found, new: u64, price: u64, qty: u64, leaves: u64)
+pub fn fill(m: &mut [u8], id: u64, at: Option<usize>, new: u64, price: u64, qty: u64, leaves: u64)
     requires { State m.old × Sees C.order_live order number_of (cell m.old) id at × P.NewHold id (Fill price qty leaves) new (ledger (cell m.old)) × (length (change_notices (P.change_of id (Fill price qty leaves)) (ledger (cell m.old))) + word (cell m.old) C.notice_rows ≤ most_notices) }
     ensures { InPlace m.old m.new (P.moved (P.change_of id (Fill price qty leaves)) (gateway (cell m.old))) }
 {
-    if let Found::At(i) = at {
+    if let Some(i) = at {
         let o = orders::live_at(m, i);
         live::traded(m, i, price, qty, leaves, new);
         live::notice(m, o.account);
@@ -210,11 +209,11 @@ pub fn fill(m: &mut [u8], id: u64, at: Found, new: u64, price: u64, qty: u64, le
 }
 
 // It has `leaves` open.
-pub fn set_leaves(m: &mut [u8], id: u64, at: Found, new: u64, leaves: u64)
+pub fn set_leaves(m: &mut [u8], id: u64, at: Option<usize>, new: u64, leaves: u64)
     requires { State m.old × Sees C.order_live order number_of (cell m.old) id at × P.NewHold id (Leaves leaves) new (ledger (cell m.old)) × (length (change_notices (P.change_of id (Leaves leaves)) (ledger (cell m.old))) + word (cell m.old) C.notice_rows ≤ most_notices) }
     ensures { InPlace m.old m.new (P.moved (P.change_of id (Leaves leaves)) (gateway (cell m.old))) }
 {
-    if let Found::At(i) = at {
+    if let Some(i) = at {
         let o = orders::live_at(m, i);
         live::set_leaves(m, i, leaves, new);
         live::notice_hold(m, o.account, o.hold, new);
@@ -222,11 +221,11 @@ pub fn set_leaves(m: &mut [u8], id: u64, at: Found, new: u64, leaves: u64)
 }
 
 // A modify gave it this price, and `leaves` open.
-pub fn reprice(m: &mut [u8], id: u64, at: Found, new: u64, price: u64, leaves: u64)
+pub fn reprice(m: &mut [u8], id: u64, at: Option<usize>, new: u64, price: u64, leaves: u64)
     requires { State m.old × Sees C.order_live order number_of (cell m.old) id at × P.NewHold id (Reprice price leaves) new (ledger (cell m.old)) × (length (change_notices (P.change_of id (Reprice price leaves)) (ledger (cell m.old))) + word (cell m.old) C.notice_rows ≤ most_notices) }
     ensures { InPlace m.old m.new (P.moved (P.change_of id (Reprice price leaves)) (gateway (cell m.old))) }
 {
-    if let Found::At(i) = at {
+    if let Some(i) = at {
         let o = orders::live_at(m, i);
         live::reprice(m, i, price, leaves, new);
         live::notice_hold(m, o.account, o.hold, new);
@@ -234,11 +233,11 @@ pub fn reprice(m: &mut [u8], id: u64, at: Found, new: u64, price: u64, leaves: u
 }
 
 // It has left the book.
-pub fn retire(m: &mut [u8], id: u64, at: Found)
+pub fn retire(m: &mut [u8], id: u64, at: Option<usize>)
     requires { State m.old × Sees C.order_live order number_of (cell m.old) id at × (length (change_notices (P.change_of id Retire) (ledger (cell m.old))) + word (cell m.old) C.notice_rows ≤ most_notices) }
     ensures { InPlace m.old m.new (P.moved (P.change_of id Retire) (gateway (cell m.old))) }
 {
-    if let Found::At(i) = at {
+    if let Some(i) = at {
         let o = orders::live_at(m, i);
         live::retire(m, i);
         live::notice_hold(m, o.account, o.hold, 0);
@@ -248,7 +247,7 @@ pub fn retire(m: &mut [u8], id: u64, at: Found)
 // ---- replayed
 
 // What x would do to it.
-pub fn weigh_move(m: &[u8], id: u64, at: Found, x: Move) -> Shift
+pub fn weigh_move(m: &[u8], id: u64, at: Option<usize>, x: Move) -> Shift
     requires { State m.now × Sees C.order_live order number_of (cell m.now) id at }
     ensures { P.Weighs id x result (gateway (cell m.now)) }
 {
@@ -269,12 +268,12 @@ fn change_row(m: &mut [u8], i: usize, x: Move, new: u64)
 }
 
 // The change without its notices: a replay leaves none.
-pub fn change(m: &mut [u8], id: u64, at: Found, x: Move)
+pub fn change(m: &mut [u8], id: u64, at: Option<usize>, x: Move)
     requires { State m.old × Sees C.order_live order number_of (cell m.old) id at }
     ensures { InPlace m.old m.new (with_ledger (change (P.change_of id x)) (gateway (cell m.old))) }
 {
     let new = after(m, id, at, x);
-    if let Found::At(i) = at {
+    if let Some(i) = at {
         change_row(m, i, x, new);
     }
 }

@@ -1,4 +1,5 @@
 -- An account is added where every test passes. Assumes nothing.
+use Rattle.std.specs.Prelude.{is_some, Result, Ok, Err}
 use mathlib.Core.Path.{◌≡◌, refl, sym, ap, subst, ◌∙◌}
 use mathlib.Core.Bool.{Bool, true, false, cond, not}
 use mathlib.Core.List.{List, [], ◌∷◌}
@@ -8,7 +9,6 @@ use borrow.Author.Tests.{eq-eqb, ne_eqb, lt-ltb, le-ltb, ltb-true}
 use lib.ListN.{length}
 use lib.Dec.{eqb, ltb}
 use Rattle.accounts.specs.declared.Account.{Account}
-use Rattle.gateway.specs.Basics.{is_some}
 use Rattle.gateway.specs.Fits.{AccountFits}
 use Rattle.gateway.specs.Limits.{owner_slots, out_of_range, exists, has_orders}
 use Rattle.gateway.specs.Ledger.{account, open_of}
@@ -24,7 +24,9 @@ use Rattle.clients.proofs.Views.{account_at_row}
 use Rattle.sound.specs.Sound.{State, Becomes}
 use Rattle.outcome.specs.Between.{Between}
 use Rattle.outcome.specs.Answers.{Ends, Said, Says, verdict}
-use Rattle.outcome.proofs.Calls.{judged, says_recorded}
+use Rattle.outcome.specs.declared.Refusal.{Refusal}
+use Rattle.outcome.specs.Refusals.{code_of, refusal_code}
+use Rattle.outcome.proofs.Calls.{coded, judged, says_recorded}
 use Rattle.start.specs.Start.{entering}
 
 -- ---- the tests
@@ -75,34 +77,35 @@ module _ (xs : List ℕ) (a : Account) where
 
 -- ---- the call
 
-module _ (xs : List ℕ) (a : Account) (b : Between xs) (v : ℕ) (v_is : v ≡ verdict (tests (account a) (gateway (cell xs)).core)) where
+module _ (xs : List ℕ) (a : Account) (b : Between xs) (v : Result (Unit {0}) Refusal) (v_is : code_of v ≡ verdict (tests (account a) (gateway (cell xs)).core)) where
   abbrev g : Gateway
   g = gateway (cell xs)
 
   abbrev after : Plan
   after = records system (account a) [] (joined a g.rest)
 
-  plan_is : plan g.core g.rest (add_account a) ≡ cond (eqb v 0) after (refuse v)
+  plan_is : plan g.core g.rest (add_account a) ≡ cond (eqb (code_of v) 0) after (refuse (code_of v))
   unfolding plan tests
   plan_is = judged (tests (account a) g.core) after refl ∙ ap (λ (k : ℕ). cond (eqb k 0) after (refuse k)) (sym v_is)
 
   -- a refusal asks nothing of the funds
-  pub not_added : (v ≡ 0 → ⊥) → Says nothing (call (gateway (cell xs)) (add_account a)) v xs xs
+  pub not_added : (why : Refusal) → v ≡ Err why → Says nothing (call (gateway (cell xs)) (add_account a)) (refusal_code why) xs xs
   unfolding Ends
-  not_added h =
-      let e : call g (add_account a) ≡ carry_out g.core (refuse v) = ap (carry_out g.core) (plan_is ∙ ap (λ (t : Bool). cond t after (refuse v)) (ne_eqb v 0 h)) in
-      record { ends = subst (λ (o : Outcome). Ends o (Unit {0}) (Said nothing) v xs xs) (sym e) (record { code_is = refl; state_kept = refl; rest_kept = tt }); between = b }
+  not_added why z =
+      let f : plan g.core g.rest (add_account a) ≡ refuse (refusal_code why) = plan_is ∙ ap (λ r. cond (eqb (code_of r) 0) after (refuse (code_of r))) z ∙ ap (λ (t : Bool). cond t after (refuse (refusal_code why))) (coded why) in
+      let e : call g (add_account a) ≡ carry_out g.core (refuse (refusal_code why)) = ap (carry_out g.core) f in
+      record { ends = subst (λ (o : Outcome). Ends o (Unit {0}) (Said nothing) (refusal_code why) xs xs) (sym e) (record { code_is = refl; state_kept = refl; rest_kept = tt }); between = b }
 
-  module _ (z : v ≡ 0) where
+  module _ (z : v ≡ Ok tt) where
     pub enter_slot : a.id < word (cell xs) C.owner_limit
     unfolding tests
-    enter_slot = omega (arith, limit_is xs a, ltb-true a.id (owner_limit g.core) (first (ltb a.id (owner_limit g.core)) _ (sym z ∙ v_is)))
+    enter_slot = omega (arith, limit_is xs a, ltb-true a.id (owner_limit g.core) (first (ltb a.id (owner_limit g.core)) _ (sym (ap code_of z) ∙ v_is)))
       where
         first : (t : Bool) (k : ℕ) → 0 ≡ cond t k 1 → t ≡ true
         first true k e = refl
         first false k e = absurd (omega (arith, e))
 
     pub added : {ys : List ℕ} → Becomes ys (entering a g) → AccountFits a → Says nothing (call (gateway (cell xs)) (add_account a)) 0 xs ys
-    added d f = says_recorded xs (add_account a) f b system (account a) (joined a g.rest) (plan_is ∙ ap (λ (t : Bool). cond t after (refuse v)) (eq-eqb v 0 z)) d
+    added d f = says_recorded xs (add_account a) f b system (account a) (joined a g.rest) (plan_is ∙ ap (λ r. cond (eqb (code_of r) 0) after (refuse (code_of r))) z) d
 
 pub ruleset laws = (past_limit, slot, account_exists, orders_live, all_passed, not_added, enter_slot, added, arith)

@@ -10,38 +10,36 @@ ghost use Rattle.store.specs.Layout.{cell};
 ghost use Rattle.store.specs.View.{gateway};
 ghost use Rattle.sound.specs.Sound.{State};
 ghost use Rattle.outcome.specs.Between.{Between};
+ghost use Rattle.outcome.specs.Refusals.{code_of};
 ghost use Rattle.outcome.specs.Answers.{verdict, Says};
 
 use accounts::Account;
+use outcome::Refusal;
 use store::cells;
 
-// The refusals of document 01 that this call alone makes.
-// The code of the first test that fails, or 0. Open orders are counted for every slot, also for one without an account.
-fn judge(m: &[u8], a: Account) -> u64
+// The first test that fails. Open orders are counted for every slot, also for one without an account.
+fn judge(m: &[u8], a: Account) -> Result<(), Refusal>
     requires { State m.now }
-    ensures { result ≡ verdict (tests (account a) (gateway (cell m.now)).core) }
+    ensures { code_of result ≡ verdict (tests (account a) (gateway (cell m.now)).core) }
 {
     let i = a.id as usize;
     if pending::header::word_at(m, cells::OWNER_LIMIT) <= a.id as u64 {
-        return outcome::OUT_OF_RANGE;
+        return Err(Refusal::OutOfRange);
     }
     if clients::has_account(m, i) {
-        return outcome::EXISTS;
+        return Err(Refusal::Exists);
     }
     if clients::open_orders(m, i) != 0 {
-        return outcome::HAS_ORDERS;
+        return Err(Refusal::HasOrders);
     }
-    0
+    Ok(())
 }
 
-pub fn add_account(m: &mut [u8], a: Account) -> u64
+pub fn add_account(m: &mut [u8], a: Account) -> Result<(), Refusal>
     requires { Between m.old }
-    ensures { Says nothing (call (gateway (cell m.old)) (add_account a)) result m.old m.new }
+    ensures { Says nothing (call (gateway (cell m.old)) (add_account a)) (code_of result) m.old m.new }
 {
-    let code = judge(m, a);
-    if code != 0 {
-        return code;
-    }
+    judge(m, a)?;
     start::enter(m, a);
-    0
+    Ok(())
 }

@@ -1,9 +1,7 @@
 -- What the checked loads and stores answer, refusals included.
 -- Assumes nothing.
-use Rattle.std.specs.Prelude.{◌≡◌, Bool, true, false, cond, ◌&&◌, ◌||◌, List, ℕ, ◌+◌, ◌^◌, ◌≤◌, length, eqb, leb, ltb}
+use Rattle.std.specs.Prelude.{◌≡◌, Bool, true, false, cond, ◌&&◌, ◌||◌, List, ℕ, ◌+◌, ◌^◌, ◌≤◌, length, eqb, leb, ltb, Option, Some, None}
 use Rattle.le.specs.Le.{le, put}
-use Rattle.le.specs.declared.Loaded.{Loaded}
-use Rattle.le.specs.declared.Loaded.TheVariants.{Value, Refused}
 
 -- the widths are 1, 2, 4 and 8
 abbrev pub is_width : ℕ → Bool
@@ -17,11 +15,11 @@ inside n o w = is_width w && leb (o + w) n
 unfoldable pub takes : ℕ → ℕ → ℕ → ℕ → Bool
 takes n o w v = inside n o w && ltb v (256 ^ w)
 
-abbrev pub answer : Bool → ℕ → Loaded
-answer true v = Value v
-answer false v = Refused
+abbrev pub answer : Bool → ℕ → Option ℕ
+answer true v = Some v
+answer false v = None
 
-abbrev pub loaded : List ℕ → ℕ → ℕ → Loaded
+abbrev pub loaded : List ℕ → ℕ → ℕ → Option ℕ
 loaded xs o w = answer (inside (length xs) o w) (le w xs o)
 
 abbrev pub stored : List ℕ → ℕ → ℕ → ℕ → List ℕ

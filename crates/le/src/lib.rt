@@ -5,12 +5,6 @@ ghost use Rattle.std.specs.Prelude.{◌≡◌, ◌+◌, ◌^◌, ◌≤◌, ◌<
 ghost use Rattle.le.specs.Le.{le, put};
 ghost use Rattle.le.specs.Checked.{is_width, inside, takes, loaded, stored, Place};
 
-#[derive(Clone, Copy)]
-pub enum Loaded {
-    Value(u64),
-    Refused,
-}
-
 pub fn get_u8(m: &[u8], o: usize) -> u8
     requires { o + 1 ≤ length m.now }
     ensures { result ≡ le 1 m.now o }
@@ -81,47 +75,30 @@ pub fn get(m: &[u8], o: usize, width: usize) -> u64
     requires { Place (length m.now) o width }
     ensures { result ≡ le width m.now o }
 {
-    if width == 8 {
-        return get_u64(m, o);
+    match width {
+        8 => get_u64(m, o),
+        4 => get_u32(m, o) as u64,
+        2 => get_u16(m, o) as u64,
+        _ => get_u8(m, o) as u64,
     }
-    if width == 4 {
-        return get_u32(m, o) as u64;
-    }
-    if width == 2 {
-        return get_u16(m, o) as u64;
-    }
-    get_u8(m, o) as u64
 }
 
 pub fn put(m: &mut [u8], o: usize, width: usize, v: u64)
     requires { Place (length m.old) o width × (v < 256 ^ width) }
     ensures { m.new ≡ put width m.old o v }
 {
-    if width == 8 {
-        return put_u64(m, o, v);
+    match width {
+        8 => put_u64(m, o, v),
+        4 => put_u32(m, o, v as u32),
+        2 => put_u16(m, o, v as u16),
+        _ => put_u8(m, o, v as u8),
     }
-    if width == 4 {
-        return put_u32(m, o, v as u32);
-    }
-    if width == 2 {
-        return put_u16(m, o, v as u16);
-    }
-    put_u8(m, o, v as u8);
 }
 
 pub fn is_width(width: usize) -> bool
     ensures { result ≡ is_width width }
 {
-    if width == 8 {
-        return true;
-    }
-    if width == 4 {
-        return true;
-    }
-    if width == 2 {
-        return true;
-    }
-    width == 1
+    matches!(width, 1 | 2 | 4 | 8)
 }
 
 fn is_inside(len: usize, o: usize, width: usize) -> bool
@@ -140,26 +117,22 @@ pub fn is_small(width: usize, v: u64) -> bool
     requires { is_width width ≡ true }
     ensures { result ≡ ltb v (256 ^ width) }
 {
-    if width == 8 {
-        return true;
+    match width {
+        8 => true,
+        4 => v < 4294967296,
+        2 => v < 65536,
+        _ => v < 256,
     }
-    if width == 4 {
-        return v < 4294967296;
-    }
-    if width == 2 {
-        return v < 65536;
-    }
-    v < 256
 }
 
 // Checked, for a caller that knows nothing of the place, the width or the value.
-pub fn load(m: &[u8], o: usize, width: usize) -> Loaded
+pub fn load(m: &[u8], o: usize, width: usize) -> Option<u64>
     ensures { result ≡ loaded m.now o width }
 {
-    if is_inside(m.len(), o, width) {
-        return Loaded::Value(get(m, o, width));
+    if !is_inside(m.len(), o, width) {
+        return None;
     }
-    Loaded::Refused
+    Some(get(m, o, width))
 }
 
 // Whether v was stored; where it was not, nothing has changed.

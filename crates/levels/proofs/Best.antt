@@ -1,9 +1,9 @@
 -- The stored levels are those of the definitions: the asks in their order, the bids from the last to the first. Assumes nothing.
+use Rattle.std.specs.Prelude.{Option, Some, None}
 use Prim.Native.Nat.{ℕ, suc, ◌+◌, ◌-◌, ◌<◌}
 use mathlib.Core.Path.{◌≡◌, refl, sym, ap, ap₂, ◌∙◌}
 use mathlib.Core.Logic.{⊎_elim}
 use mathlib.Core.Bool.{true, false, cond, not}
-use mathlib.Core.Option.{Option, none, some}
 use mathlib.Core.List.{List, [], ◌∷◌, ◌++◌, append_assoc, append-nil}
 use native.Mathlib.Omega.{arith}
 use borrow.Author.Tests.{lt-ltb, le-ltb, lt-leb, le-leb, eq-eqb, ne_eqb}
@@ -71,8 +71,8 @@ module _ (k v : ℕ) (r : Row) (l : List Row) (asc : Rises key (suc r.key) l) wh
     where
       go : r.key < k → (o : Option Row) → look key k l ≡ o →
           option (insert key (opened k v) (r ∷ l)) (λ x. replace key (one_more v x) (r ∷ l)) o ≡ r ∷ option (insert key (opened k v) l) (λ x. replace key (one_more v x) l) o
-      go h none e = rw (le-ltb k r.key (omega arith)) refl
-      go h (some x) e = let q = look_key key k x l e in rw (ne_eqb r.key x.key (λ w. omega arith)) refl
+      go h None e = rw (le-ltb k r.key (omega arith)) refl
+      go h (Some x) e = let q = look_key key k x l e in rw (ne_eqb r.key x.key (λ w. omega arith)) refl
 
 -- ---- levels with one more behind
 
@@ -150,13 +150,13 @@ module _ (k : ℕ) (f : List Level → List Level) (g : Level → List Level →
       (λ _. more_behind y xs (x ∷ [])) (λ _. ap (λ l. y ∷ l) u)
       ∙ ap (λ l. l ++ (x ∷ [])) (sym (step y xs))
 
-  touched : (s : Side) (x : Row) (n : ℕ) (l : List Row) → Rises key n l → look key k l ≡ some x → best s (F l) ≡ f (best s l)
+  touched : (s : Side) (x : Row) (n : ℕ) (l : List Row) → Rises key n l → look key k l ≡ Some x → best s (F l) ≡ f (best s l)
   unfolding look
   touched s x n [] t e = let z : ◌≡◌ {A = ℕ} 0 1 = cc in absurd (omega (arith, z))
   touched s x n (r ∷ l) t e =
       three k r.key (λ q. at s q)
       (λ h.
-      let w : none ≡ some x = sym (look_nowhere key k (r ∷ l) (λ q. omega arith, others k (suc r.key) (omega arith) l t.1)) ∙ e in
+      let w : None ≡ Some x = sym (look_nowhere key k (r ∷ l) (λ q. omega arith, others k (suc r.key) (omega arith) l t.1)) ∙ e in
       let z : ◌≡◌ {A = ℕ} 0 1 = cc in absurd (omega (arith, z)))
       (λ h. behind s h (λ s. touched s x (suc r.key) l t.1 (rw (ne_eqb r.key k (λ q. omega arith)) at e)))
     where
@@ -182,10 +182,10 @@ module _ (k v w : ℕ) where
   shown_after r l h = rw (ne_eqb r.key k (λ e. omega arith)) (go h (look key k l) refl)
     where
       go : r.key < k → (o : Option Row) → look key k l ≡ o → option (r ∷ l) (λ x. replace key (changed v w x) (r ∷ l)) o ≡ r ∷ option l (λ x. replace key (changed v w x) l) o
-      go h none e = refl
-      go h (some x) e = let q = look_key key k x l e in rw (ne_eqb r.key x.key (λ w. omega arith)) refl
+      go h None e = refl
+      go h (Some x) e = let q = look_key key k x l e in rw (ne_eqb r.key x.key (λ w. omega arith)) refl
 
-  pub best_shown : (s : Side) (x : Row) (n : ℕ) (l : List Row) → Rises key n l → look key k l ≡ some x → best s (shown k v w l) ≡ reshown (price k) v w (best s l)
+  pub best_shown : (s : Side) (x : Row) (n : ℕ) (l : List Row) → Rises key n l → look key k l ≡ Some x → best s (shown k v w l) ≡ reshown (price k) v w (best s l)
   best_shown =
       touched k (reshown (price k) v w) (λ m ls. record { price = m.price; qty = m.qty - v + w; orders = m.orders } ∷ ls) (λ m ls. refl) refl (λ m ls ms. refl) (shown k v w)
       (λ r l t e. ap (best Sell) (shown_at r l t e)) (λ r l t e. ap (best Buy) (shown_at r l t e)) shown_after
@@ -205,12 +205,12 @@ module _ (k v : ℕ) where
       go : r.key < k → (o : Option Row) → look key k l ≡ o →
           option (r ∷ l) (λ x. cond (eqb x.orders 1) (r ∷ without key k l) (replace key (one_less v x) (r ∷ l))) o
           ≡ r ∷ option l (λ x. cond (eqb x.orders 1) (without key k l) (replace key (one_less v x) l)) o
-      go h none e = refl
-      go h (some x) e =
+      go h None e = refl
+      go h (Some x) e =
           let q = look_key key k x l e in
           rw (ne_eqb r.key x.key (λ w. omega arith)) (sym (if_map (λ m. r ∷ m) (eqb x.orders 1) refl refl))
 
-  pub best_removed : (s : Side) (x : Row) (n : ℕ) (l : List Row) → Rises key n l → look key k l ≡ some x → best s (removed k v l) ≡ parted (price k) v (best s l)
+  pub best_removed : (s : Side) (x : Row) (n : ℕ) (l : List Row) → Rises key n l → look key k l ≡ Some x → best s (removed k v l) ≡ parted (price k) v (best s l)
   best_removed =
       touched k (parted (price k) v) (λ m ls. cond (eqb m.orders 1) ls (less m ∷ ls)) (λ m ls. refl) refl
       (λ m ls ms. sym (if_map (λ xs. xs ++ ms) (eqb m.orders 1) refl refl)) (removed k v)

@@ -1,9 +1,9 @@
 -- The stored levels follow the resting orders: where they are the definitions' levels before an operation, they are so after it.
 -- Assumes nothing.
+use Rattle.std.specs.Prelude.{Some}
 use Prim.Native.Nat.{ℕ, zero, suc, ◌<◌, ◌≤◌}
 use mathlib.Core.Path.{◌≡◌, refl, sym, ap, ◌∙◌}
 use mathlib.Core.Bool.{true}
-use mathlib.Core.Option.{some}
 use mathlib.Core.List.{List, [], ◌∷◌, ◌++◌, append-nil}
 use native.Mathlib.Omega.{arith}
 use Rattle.orderbook.specs.declared.Side.{Side}
@@ -47,7 +47,7 @@ module _ (s : Side) (k : ℕ) (o : Resting) (os : List Resting) {xs ys : List �
       ap (best s) d.list ∙ best_added s k o.visible 0 (entries s (cell xs)) (entries_rise s t) ∙ ap (joined s (price k) o.visible) f
       ∙ sym (levels_insert s o os ∙ rw (m, e) refl)
 
-  module _ (asc : Rises resting_number 0 os) (there : look resting_number o.number os ≡ some o) (x : Row) (h : look key k (entries s (cell xs)) ≡ some x) where
+  module _ (asc : Rises resting_number 0 os) (there : look resting_number o.number os ≡ Some o) (x : Row) (h : look key k (entries s (cell xs)) ≡ Some x) where
     pub remove_view : Did s xs ys (removed k o.visible (entries s (cell xs))) → Holding s ys (without resting_number o.number os)
     remove_view d =
         ap (best s) d.list ∙ best_removed k o.visible s x 0 (entries s (cell xs)) (entries_rise s t) h ∙ ap (parted (price k) o.visible) f

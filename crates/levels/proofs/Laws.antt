@@ -1,9 +1,9 @@
 -- What each operation makes of a side's levels, from the laws of `table` and of the layout. Assumes nothing.
+use Rattle.std.specs.Prelude.{Option, Some, None}
 use mathlib.Core.Path.{◌≡◌, refl, sym, ap, ap₂, subst, ◌∙◌}
 use mathlib.Core.Logic.{◌⊎◌, inl, inr, ⊎_elim}
 use mathlib.Core.Bool.{true, false, cond, not}
 use mathlib.Core.List.{List, [], ◌∷◌}
-use mathlib.Core.Option.{Option, none, some}
 use Prim.Native.Nat.{ℕ, suc, ◌+◌, ◌*◌, ◌-◌, ◌/◌, ◌%◌, ◌≤◌, ◌<◌}
 use native.Mathlib.Nat.{eq-or-lt_of_le}
 use native.Mathlib.Omega.{arith}
@@ -175,11 +175,11 @@ levels_alike f g n j h =
 -- ---- what is found
 
 module _ (s : Side) {xs : List ℕ} (t : Table s xs) {k i : ℕ} (b : Sought s xs k i) where
-  pub at_some : i < used s (cell xs) → (row s (cell xs) i).key ≡ k → 0 < (row s (cell xs) i).orders → look key k (entries s (cell xs)) ≡ some (row s (cell xs) i)
+  pub at_some : i < used s (cell xs) → (row s (cell xs) i).key ≡ k → 0 < (row s (cell xs) i).orders → look key k (entries s (cell xs)) ≡ Some (row s (cell xs) i)
   unfolding entries
   at_some h e l = look_some orders key (row s (cell xs)) k i (used s (cell xs)) t.asc h e l
 
-  pub at_none : (i < used s (cell xs) → (row s (cell xs) i).key ≡ k → (row s (cell xs) i).orders ≡ 0) → look key k (entries s (cell xs)) ≡ none
+  pub at_none : (i < used s (cell xs) → (row s (cell xs) i).key ≡ k → (row s (cell xs) i).orders ≡ 0) → look key k (entries s (cell xs)) ≡ None
   unfolding entries
   at_none d = look_none orders key (row s (cell xs)) k (used s (cell xs)) (finds_none (λ j. (row s (cell xs) j).orders) t.asc b d)
 
@@ -270,7 +270,7 @@ module _ (s : Side) {xs : List ℕ} (t : Table s xs) where
         (level_dead (row s (cell ys)) (used s (cell xs)) i gone)
         (λ j g ne. levels_alike (row s (cell xs)) (row s (cell ys)) (used s (cell xs)) j (λ l. inl (ap orders (row_only.other j l ne))))
 
-never : {r : Row} {m : Option Row} → m ≡ some r → m ≡ none → ⊥
+never : {r : Row} {m : Option Row} → m ≡ Some r → m ≡ None → ⊥
 never p q = let z : ◌≡◌ {A = ℕ} 0 1 = cc in omega (arith, z)
 
 -- a level k comes, whose place is i: where the row i is live, it and those behind it are above
@@ -557,7 +557,7 @@ module _ (s : Side) (xs : List ℕ) where
   sought_is b n k i e h p = rw (← e) (subst (λ ks. Between ks n k i i) (keys_at s xs) (rw h at p))
 
 module _ (s : Side) {xs : List ℕ} (t : Table s xs) where
-  pub past_is : (k i n : ℕ) → Sought s xs k i → n ≡ used s (cell xs) → n ≤ i → look key k (entries s (cell xs)) ≡ none
+  pub past_is : (k i n : ℕ) → Sought s xs k i → n ≡ used s (cell xs) → n ≤ i → look key k (entries s (cell xs)) ≡ None
   past_is k i n b e h = at_none s t b (λ l q. absurd (omega arith))
 
   pub here_is : (k i n : ℕ) (r : Row) → Sought s xs k i → n ≡ used s (cell xs) → i < n → r ≡ row s (cell xs) i → r.key ≡ k → IsAt s xs i k (not (eqb r.orders 0))
@@ -569,7 +569,7 @@ module _ (s : Side) {xs : List ℕ} (t : Table s xs) where
       rw (ne_eqb r.orders 0 z) (omega arith, at_some s t b (omega arith) (ap key (sym q) ∙ w) l, l))
       (same? r.orders 0)
 
-  pub not_here_is : (k i : ℕ) (r : Row) → Sought s xs k i → r ≡ row s (cell xs) i → (r.key ≡ k → ⊥) → look key k (entries s (cell xs)) ≡ none
+  pub not_here_is : (k i : ℕ) (r : Row) → Sought s xs k i → r ≡ row s (cell xs) i → (r.key ≡ k → ⊥) → look key k (entries s (cell xs)) ≡ None
   not_here_is k i r b q w = at_none s t b (λ l e. absurd (w (ap key q ∙ e)))
 
   -- whether a row is the first one whose key is not below k
@@ -616,8 +616,8 @@ module _ (s : Side) {xs : List ℕ} (t : Table s xs) where
       (replace_did s t i (one_more v r) h (f, (omega (arith, j.0), (omega (arith, j.1), tt))) w l (omega arith) (ap key e))
 
   -- the level is there, so it is in the row that was sought
-  pub there : (P : Option Row → Type 0) (k i : ℕ) → Sought s xs k i → (P none → ⊥) → P (look key k (entries s (cell xs))) →
-      (i < used s (cell xs)) × ((row s (cell xs) i).key ≡ k) × (0 < (row s (cell xs) i).orders) × P (some (row s (cell xs) i))
+  pub there : (P : Option Row → Type 0) (k i : ℕ) → Sought s xs k i → (P None → ⊥) → P (look key k (entries s (cell xs))) →
+      (i < used s (cell xs)) × ((row s (cell xs) i).key ≡ k) × (0 < (row s (cell xs) i).orders) × P (Some (row s (cell xs) i))
   there P k i b not p =
       ⊎_elim
       (λ (h : i < used s (cell xs)).
@@ -634,7 +634,7 @@ module _ (s : Side) {xs : List ℕ} (t : Table s xs) where
       (λ h. absurd (not (rw (at_none s t b (λ l e. absurd (omega arith))) at p)))
       (lt_or_le i (used s (cell xs)))
 
-  pub show_in : (k i v w : ℕ) → Sought s xs k i → CanShow v w (look key k (entries s (cell xs))) → (i < used s (cell xs)) × ((row s (cell xs) i).key ≡ k) × (0 < (row s (cell xs) i).orders) × CanShow v w (some (row s (cell xs) i))
+  pub show_in : (k i v w : ℕ) → Sought s xs k i → CanShow v w (look key k (entries s (cell xs))) → (i < used s (cell xs)) × ((row s (cell xs) i).key ≡ k) × (0 < (row s (cell xs) i).orders) × CanShow v w (Some (row s (cell xs) i))
   show_in k i v w b p = there (CanShow v w) k i b (λ x. x) p
 
   pub show_is : {ys : List ℕ} (k i v w : ℕ) (r : Row) → CanShow v w (look key k (entries s (cell xs))) → Sought s xs k i → r ≡ row s (cell xs) i → r.key < modulus → r.qty < modulus → r.orders < modulus →
@@ -646,7 +646,7 @@ module _ (s : Side) {xs : List ℕ} (t : Table s xs) where
       (subst (λ x. Did s xs ys (replace key (changed v w x) (entries s (cell xs)))) e
       (replace_did s t i (changed v w r) h.0 (f, (omega (arith, h.3.1 (rw (← q) c)), (g, tt))) u h.2 (omega (arith, h.2, ap orders e)) (ap key e)))
 
-  pub remove_in : (k i v : ℕ) → Sought s xs k i → CanRemove v (look key k (entries s (cell xs))) → (i < used s (cell xs)) × ((row s (cell xs) i).key ≡ k) × (0 < (row s (cell xs) i).orders) × CanRemove v (some (row s (cell xs) i))
+  pub remove_in : (k i v : ℕ) → Sought s xs k i → CanRemove v (look key k (entries s (cell xs))) → (i < used s (cell xs)) × ((row s (cell xs) i).key ≡ k) × (0 < (row s (cell xs) i).orders) × CanRemove v (Some (row s (cell xs) i))
   remove_in k i v b p = there (CanRemove v) k i b (λ x. x) p
 
   pub remove_last_is : {ys : List ℕ} (k i v : ℕ) (r : Row) → CanRemove v (look key k (entries s (cell xs))) → Sought s xs k i → r ≡ row s (cell xs) i → r.orders ≡ 1 →
@@ -664,11 +664,11 @@ module _ (s : Side) {xs : List ℕ} (t : Table s xs) where
       (subst (λ x. Did s xs ys (replace key (one_less v x) (entries s (cell xs)))) e
       (replace_did s t i (one_less v r) h.0 (f, (omega arith, (omega arith, tt))) u h.2 (omega (arith, more, h.2, ap orders e)) (ap key e)))
 
-  pub add_join_is : {ys : List ℕ} (k i v : ℕ) → look key k (entries s (cell xs)) ≡ some (row s (cell xs) i) → Did s xs ys (replace key (one_more v (row s (cell xs) i)) (entries s (cell xs))) →
+  pub add_join_is : {ys : List ℕ} (k i v : ℕ) → look key k (entries s (cell xs)) ≡ Some (row s (cell xs) i) → Did s xs ys (replace key (one_more v (row s (cell xs) i)) (entries s (cell xs))) →
       Did s xs ys (added k v (entries s (cell xs)))
   add_join_is k i v e d = rw e d
 
-  pub add_new_is : {ys : List ℕ} (k v : ℕ) → look key k (entries s (cell xs)) ≡ none → Did s xs ys (insert key (opened k v) (entries s (cell xs))) → Did s xs ys (added k v (entries s (cell xs)))
+  pub add_new_is : {ys : List ℕ} (k v : ℕ) → look key k (entries s (cell xs)) ≡ None → Did s xs ys (insert key (opened k v) (entries s (cell xs))) → Did s xs ys (added k v (entries s (cell xs)))
   add_new_is k v e d = rw e d
 
   pub join_in : (k i n v : ℕ) → CanAdd n v (look key k (entries s (cell xs))) → IsAt s xs i k true → Joins v (row s (cell xs) i)
@@ -689,7 +689,7 @@ module _ (s : Side) {xs : List ℕ} (t : Table s xs) where
   unfolding entries
   some_level i h l = omega (arith, t.counted, live_some orders (row s (cell xs)) i (used s (cell xs)) h l)
 
-  pub place_is : (k i v : ℕ) → CanAdd (size s (cell xs)) v (look key k (entries s (cell xs))) → Sought s xs k i → look key k (entries s (cell xs)) ≡ none → Place s xs k i
+  pub place_is : (k i v : ℕ) → CanAdd (size s (cell xs)) v (look key k (entries s (cell xs))) → Sought s xs k i → look key k (entries s (cell xs)) ≡ None → Place s xs k i
   place_is k i v p b a = record { table = t; room = rw a at p; sought = b; absent = a }
 
 -- ---- the nearest dead row, by the map

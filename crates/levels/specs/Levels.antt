@@ -1,14 +1,11 @@
 -- The stored levels of a side: rows ascending by key, and what each operation makes of their list. A row without orders is dead: it stands
 -- for no level, and is there to be taken by one.
-use Rattle.std.specs.Prelude.{◌≡◌, Bool, true, false, cond, List, [], ◌∷◌, ◌++◌, ℕ, ◌+◌, ◌-◌, ◌≤◌, ◌<◌, eqb, ltb, length, ℤ}
-use Rattle.std.proofs.Math.Option.{Option, none, some}
+use Rattle.std.specs.Prelude.{◌≡◌, Bool, true, false, cond, List, [], ◌∷◌, ◌++◌, ℕ, ◌+◌, ◌-◌, ◌≤◌, ◌<◌, eqb, ltb, length, ℤ, Option, Some, None}
 use Rattle.orderbook.specs.declared.Side.{Side}
 use Rattle.orderbook.specs.declared.Side.TheVariants.{Buy, Sell}
 use Rattle.words.specs.Words.{half, ◌⊖◌, modulus}
 use Rattle.table.specs.Live.{live, look, insert, replace, without, Ascends}
 use Rattle.table.specs.Table.{Between}
-use Rattle.table.specs.declared.Found.{Found}
-use Rattle.table.specs.declared.Found.TheVariants.{At, Nothing}
 use Rattle.gateway.specs.Basics.{option}
 use Rattle.gateway.specs.Limits.{most_levels}
 use Rattle.gateway.specs.Depth.{Level}
@@ -128,20 +125,20 @@ IsFirst s xs k i false = (Sought s xs k i → ⊥)
 
 -- what is found of the level k at i, by the answer
 abbrev pub IsAt : Side → List ℕ → ℕ → ℕ → Bool → Type 0
-IsAt s xs i k true = (i < used s (cell xs)) × (look key k (entries s (cell xs)) ≡ some (row s (cell xs) i)) × (0 < (row s (cell xs) i).orders)
-IsAt s xs i k false = look key k (entries s (cell xs)) ≡ none
+IsAt s xs i k true = (i < used s (cell xs)) × (look key k (entries s (cell xs)) ≡ Some (row s (cell xs) i)) × (0 < (row s (cell xs) i).orders)
+IsAt s xs i k false = look key k (entries s (cell xs)) ≡ None
 
 -- what is found of the level k
-abbrev pub Finds : Side → List ℕ → ℕ → Found → Type 0
-Finds s xs k (At i) = IsAt s xs i k true
-Finds s xs k Nothing = look key k (entries s (cell xs)) ≡ none
+abbrev pub Finds : Side → List ℕ → ℕ → Option ℕ → Type 0
+Finds s xs k (Some i) = IsAt s xs i k true
+Finds s xs k None = look key k (entries s (cell xs)) ≡ None
 
 -- the level k is not there, and i is its place
 pub record Place (s : Side) (xs : List ℕ) (k i : ℕ) : Type 0 where
   pub table : Table s xs
   pub room : size s (cell xs) < most_levels
   pub sought : Sought s xs k i
-  pub absent : look key k (entries s (cell xs)) ≡ none
+  pub absent : look key k (entries s (cell xs)) ≡ None
 
 -- the rows from i up to d are live
 abbrev pub Alive : Side → List ℕ → ℕ → ℕ → Type 0
@@ -189,14 +186,14 @@ abbrev pub Joins : ℕ → Row → Type 0
 Joins v r = (r.qty + v < modulus) × (r.orders + 1 < modulus)
 
 abbrev pub CanAdd : ℕ → ℕ → Option Row → Type 0
-CanAdd n v none = n < most_levels
-CanAdd n v (some r) = Joins v r
+CanAdd n v None = n < most_levels
+CanAdd n v (Some r) = Joins v r
 
 -- a stored quantity is a number of 64 bits, so that one that falls stays in range
 abbrev pub CanShow : ℕ → ℕ → Option Row → Type 0
-CanShow v w none = ⊥
-CanShow v w (some r) = (v ≤ r.qty) × (r.qty < modulus → r.qty - v + w < modulus)
+CanShow v w None = ⊥
+CanShow v w (Some r) = (v ≤ r.qty) × (r.qty < modulus → r.qty - v + w < modulus)
 
 abbrev pub CanRemove : ℕ → Option Row → Type 0
-CanRemove v none = ⊥
-CanRemove v (some r) = (v ≤ r.qty) × (0 < r.orders)
+CanRemove v None = ⊥
+CanRemove v (Some r) = (v ≤ r.qty) × (0 < r.orders)

@@ -15,7 +15,6 @@ ghost use Rattle.levels.specs.Rows.{widths, values};
 
 use orderbook::Side;
 use store::{cells, limits};
-use table::Found;
 
 // A level: its price raised by 2^63, what its orders show, and how many there are.
 #[derive(Clone, Copy)]
@@ -182,15 +181,15 @@ pub fn is_at(m: &[u8], side: Side, i: usize, key: u64) -> bool
 }
 
 // The level of that key.
-pub fn find(m: &[u8], side: Side, key: u64) -> Found
+pub fn find(m: &[u8], side: Side, key: u64) -> Option<usize>
     requires { L.Table side m.now }
     ensures { L.Finds side m.now key result }
 {
     let i = seek(m, side, key);
     if is_at(m, side, i, key) {
-        return Found::At(i);
+        return Some(i);
     }
-    Found::Nothing
+    None
 }
 
 // One order more at the level in the row i.

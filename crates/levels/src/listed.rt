@@ -56,11 +56,9 @@ fn best_first(m: &[u8], side: Side) -> [Level; 512]
         qty: 0,
         orders: 0,
     }; 512];
-    let mut i: usize = 0;
     let mut k: usize = 0;
-    while i < n {
+    for i in 0..n {
         let r = crate::read_row(m, side, nth(side, n, i));
-        i += 1;
         if r.orders != 0 {
             row[k] = level_of(r);
             k += 1;

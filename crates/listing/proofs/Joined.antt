@@ -14,7 +14,7 @@ use Rattle.gateway.specs.Depth.{Level, same_price, joined, level_in, quantities_
 use Rattle.gateway.proofs.Base.{split}
 use Rattle.gateway.specs.Claims.{Best}
 use Rattle.gateway.proofs.Counted.{same_is, better_trans, joins}
-use Rattle.gateway.proofs.Levels.{same_itself, better_apart, better_differs, one, more, at_level, before_level, after_level, compared}
+use Rattle.gateway.proofs.Levels.{same_itself, better_apart, better_differs, at_level, before_level, after_level, compared}
 use Rattle.gateway.proofs.AtPrice.{worse_none, joined_at}
 use Rattle.table.proofs.Lists.{each_map}
 

@@ -1,6 +1,6 @@
 -- The laws by which the functions on levels and on the depth meet their contracts. Assumes nothing.
 use mathlib.Core.Path.{◌≡◌, refl, sym, ap, ap₂, subst, ◌∙◌}
-use mathlib.Core.Bool.{Bool, true, false, cond, ◌&&◌, not, true≢false, and-true, and-false}
+use mathlib.Core.Bool.{Bool, true, false, cond, ◌&&◌, true≢false, and-true, and-false}
 use mathlib.Core.Logic.{⊎_elim}
 use mathlib.Core.List.{List, ◌∷◌}
 use Prim.Native.Nat.{ℕ, ◌+◌, ◌-◌, ◌^◌, ◌≤◌, ◌<◌}
@@ -35,15 +35,10 @@ use Rattle.orders.specs.Orders.{resting_of}
 use Rattle.sound.specs.Sound.{State, Becomes}
 use Rattle.marketdata.specs.Marketdata.{with_depth, with_resting, Judged, CanAdd}
 use Rattle.listing.specs.declared.Entry.{Entry}
-use Rattle.listing.specs.Rows.{word_at, entry, listed_as, rows, row, listing, from}
+use Rattle.listing.specs.Rows.{entry, listed_as, rows, row, listing, from}
 use Rattle.listing.specs.Rests.{rests_at, level_from, levels_from, rested, CanJoin, CanRest}
 use Rattle.listing.proofs.Listings.{order_is, stop_is, from_none, from_length, from_row, later, drop_tail, bears_it, bears_another}
 use Rattle.listing.proofs.Tails.{order_in, shown_by, level_more, opens_one, opens_none, other_side, levels_most, fit_tail, order_fits, Fine, fine_tail, unlisted}
-
-pub entry_is : (xs : List ℕ) (j a b c d e f g h : ℕ) → a ≡ word_at xs j 0 → b ≡ word_at xs j 1 → c ≡ word_at xs j 2 → d ≡ word_at xs j 3 → e ≡ word_at xs j 4 → f ≡ word_at xs j 5 → g ≡ word_at xs j 6 →
-    h ≡ word_at xs j 7 → record { kind = a; number = b; owner = c; side = d; priced = e; price = f; leaves = g; visible = h } ≡ entry xs j
-entry_is xs j a b c d e f g h p₀ p₁ p₂ p₃ p₄ p₅ p₆ p₇ =
-    λ i. record { kind = p₀ i; number = p₁ i; owner = p₂ i; side = p₃ i; priced = p₄ i; price = p₅ i; leaves = p₆ i; visible = p₇ i }
 
 -- ---- whether an entry rests at a level
 
@@ -252,4 +247,4 @@ module _ (list xs : List ℕ) (c : CanRest (listing list) (gateway (cell xs))) w
               ∙ ap (λ d. with_depth (λ _. d) g) (rested_is x (from j list) ∙ ap listed_depth (sym rows_is));
         }
 
-pub ruleset laws = (entry_is, stop_not_at, at_price, at_another, counts_it, counts_not, shows_it, shows_not, opens_level, joins_level, no_level, stop_fits, joining_fits, few_is, many_bids, stop_rests, order_can, order_rests, bears_it, bears_another, arith)
+pub ruleset laws = (stop_not_at, at_price, at_another, counts_it, counts_not, shows_it, shows_not, opens_level, joins_level, no_level, stop_fits, joining_fits, few_is, many_bids, stop_rests, order_can, order_rests, bears_it, bears_another, arith)

@@ -1,8 +1,8 @@
 -- A listing with an entry more: its levels, codes 5 and 7, and that what can rest can rest without its first entry. Assumes nothing.
+use Rattle.std.specs.Prelude.{None}
 use mathlib.Core.Path.{◌≡◌, refl, sym, ap, ◌∙◌}
 use mathlib.Core.Bool.{Bool, true, false, cond, ◌&&◌, and-true, and-eq-true_iff, true≢false}
 use mathlib.Core.List.{List, [], ◌∷◌}
-use mathlib.Core.Option.{none}
 use Prim.Native.Nat.{ℕ, suc, ◌+◌, ◌≤◌, ◌<◌}
 use native.Mathlib.Omega.{arith}
 use borrow.Author.Tests.{le-leb, eqb-false}
@@ -165,7 +165,7 @@ other_number n x xs h =
     split (λ b. (eqb (listed_number x) n ≡ b) → cond b (suc (listed_times n xs)) (listed_times n xs) ≡ 0 → (listed_number x ≡ n → ⊥) × (listed_times n xs ≡ 0))
     (eqb (listed_number x) n) (λ _ e v. absurd (omega (arith, v))) (λ _ e v. (eqb-false (listed_number x) n e, v)) refl h
 
-pub unlisted : (n : ℕ) (xs : List Listed) → listed_times n xs ≡ 0 → find_resting n (resting_in xs) ≡ none
+pub unlisted : (n : ℕ) (xs : List Listed) → listed_times n xs ≡ 0 → find_resting n (resting_in xs) ≡ None
 unfolding look
 unlisted n [] h = refl
 unlisted n (L.Stop i o s l q ∷ xs) h = unlisted n xs (other_number n (L.Stop i o s l q) xs h).1

@@ -80,9 +80,7 @@ pub fn times(list: &[u8], number: u64) -> usize
     ensures { result ≡ listed_times number (listing list.now) }
 {
     let mut n: usize = 0;
-    let mut j = rows(list);
-    while 0 < j {
-        j -= 1;
+    for j in (0..rows(list)).rev() {
         n += bears(list, j, number);
     }
     n
@@ -117,9 +115,7 @@ fn orders_from(list: &[u8], i: usize, side: u64, price: u64) -> usize
     ensures { result ≡ (R.level_from (key side price) i list.now).orders }
 {
     let mut n: usize = 0;
-    let mut j = rows(list);
-    while i < j {
-        j -= 1;
+    for j in (i..rows(list)).rev() {
         n += counts(list, j, side, price);
     }
     n
@@ -144,9 +140,7 @@ fn count_levels(list: &[u8], side: u64) -> usize
     ensures { result ≡ length (R.levels_from (View.side side) 0 list.now) }
 {
     let mut n: usize = 0;
-    let mut j = rows(list);
-    while 0 < j {
-        j -= 1;
+    for j in (0..rows(list)).rev() {
         n += opens(list, j, side);
     }
     n
@@ -177,9 +171,7 @@ fn shown_from(list: &[u8], i: usize, side: u64, price: u64) -> u64
     ensures { result ≡ (R.level_from (key side price) i list.now).qty }
 {
     let mut q: u64 = 0;
-    let mut j = rows(list);
-    while i < j {
-        j -= 1;
+    for j in (i..rows(list)).rev() {
         q += shows(list, j, side, price);
     }
     q
@@ -201,9 +193,7 @@ fn row_fits(list: &[u8], j: usize) -> bool
 pub fn levels_fit(list: &[u8]) -> bool
     ensures { result ≡ levels_fit (resting_in (listing list.now)) }
 {
-    let mut j = rows(list);
-    while 0 < j {
-        j -= 1;
+    for j in (0..rows(list)).rev() {
         if !row_fits(list, j) {
             return false;
         }
@@ -230,9 +220,7 @@ pub fn rest_all(m: &mut [u8], list: &[u8])
     requires { State m.old × R.CanRest (listing list.now) (gateway (cell m.old)) }
     ensures { Becomes m.new (with_depth (λ _. listed_depth (listing list.now)) (gateway (cell m.old))) }
 {
-    let mut j = rows(list);
-    while 0 < j {
-        j -= 1;
+    for j in (0..rows(list)).rev() {
         rest_row(m, list, j);
     }
 }

@@ -8,7 +8,7 @@ use lib.ListN.{length}
 use Rattle.accounts.specs.declared.Account.{Account}
 use Rattle.listing.specs.Rows.{rows}
 use Rattle.script.specs.Strict.{all_fit}
-use Rattle.script.proofs.Tests.{both, both_no, no_row, a_row}
+use Rattle.script.proofs.Tests.{no_row, a_row}
 use Rattle.store.specs.View.{listed}
 use Rattle.store.proofs.Listed.{listed_more}
 use Rattle.roster.specs.declared.Roster.{Roster}
@@ -37,4 +37,4 @@ module _ (limit : ℕ) (row : ℕ → Account) (r : Roster) where
       g ∙ ap (enter limit r) f ∙ ap (λ (x : Roster). enter limit x (row j)) e
       ∙ entered_more limit nobody (listed row j) (row j) ∙ ap (entered limit nobody) (sym (listed_more row j))
 
-pub ruleset laws = (rules, both, both_no, listing_yes, listing_no)
+pub ruleset laws = (rules, listing_yes, listing_no)

@@ -50,9 +50,7 @@ fn entry_fits(e: Entry) -> bool
 fn entries_fit(list: &[u8]) -> bool
     ensures { result ≡ all_fit (P.entry_fits_at list.now) (rows list.now) }
 {
-    let mut j = listing::rows(list);
-    while 0 < j {
-        j -= 1;
+    for j in (0..listing::rows(list)).rev() {
         let e = listing::entry_at(list, j);
         if !entry_fits(e) {
             return false;
@@ -78,11 +76,9 @@ pub fn gather(limit: u64, accounts: &[u8]) -> Roster
 {
     let n = records::account_rows(accounts);
     let mut r = roster::nobody();
-    let mut j: usize = 0;
-    while j < n {
+    for j in 0..n {
         let a = records::account_at(accounts, j);
         r = roster::enter(r, limit, a);
-        j += 1;
     }
     r
 }

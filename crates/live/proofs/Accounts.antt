@@ -1,8 +1,8 @@
 -- Writes to an account's row: what the gateway sees of them, the tables that they leave alone, and the cells that follow a live order. Assumes nothing.
+use Rattle.std.specs.Prelude.{Option, Some, None, option_map}
 use mathlib.Core.Path.{◌≡◌, refl, ap, ◌∙◌}
 use mathlib.Core.Bool.{true, false, true≢false}
 use mathlib.Core.List.{[], ◌∷◌}
-use mathlib.Core.Option.{Option, none, some, map}
 use Prim.Native.Nat.{ℕ, ◌+◌, ◌-◌, ◌<◌}
 use native.Mathlib.Omega.{arith}
 use borrow.Author.Tests.{eq-eqb, ne_eqb}
@@ -12,7 +12,7 @@ use Rattle.orderbook.specs.declared.Side.TheVariants.{Buy, Sell}
 use Rattle.words.specs.Words.{int, wrap}
 use Rattle.words.proofs.Wrap.{int_zero_wraps, fit_wraps}
 use Rattle.wallet.specs.Wallet as W
-use Rattle.gateway.specs.Ledger.{Order, hold, order_hold, same_side, held, open_of, price_option}
+use Rattle.gateway.specs.Ledger.{Order, hold, order_hold, same_side, held, open_of}
 use Rattle.store.specs.Cells as C
 use Rattle.store.specs.View.{Store, write, side, maybe_price, account, gateway}
 use Rattle.orders.proofs.Views.{bounds_from}
@@ -103,13 +103,13 @@ open_counts c v s t w x y m n q e =
 -- ---- holds
 
 held_price : (z : Side) (p : Option ℤ) (v : ℕ) → int (wrap (W.held z p v)) ≡ W.held z p v
-held_price z none v = int_zero_wraps
-held_price Buy (some p) v = fit_wraps (p *ℤ pos v) (pos 0) int_zero_wraps
-held_price Sell (some p) v = fit_wraps (pos v) (pos 0) int_zero_wraps
+held_price z None v = int_zero_wraps
+held_price Buy (Some p) v = fit_wraps (p *ℤ pos v) (pos 0) int_zero_wraps
+held_price Sell (Some p) v = fit_wraps (pos v) (pos 0) int_zero_wraps
 
 pub hold_is : (fee z c p v : ℕ) → int (hold_word fee z c p v) ≡ hold (int fee) (side z) (maybe_price c p) v
 unfolding hold_word hold
-hold_is fee z c p v = held_price (side z) (map (W.charged (int fee) (side z)) (price_option (maybe_price c p))) v
+hold_is fee z c p v = held_price (side z) (option_map (W.charged (int fee) (side z)) ((maybe_price c p))) v
 
 itself : (z : Side) → same_side z z ≡ true
 itself Buy = refl

@@ -1,8 +1,8 @@
 -- Code 7 for the ledger: where every wallet fits, a change of one account's orders of a side is judged by that one total. Assumes nothing.
+use Rattle.std.specs.Prelude.{None, is_some}
 use mathlib.Core.Path.{◌≡◌, refl, sym, ap, subst, ◌∙◌}
 use mathlib.Core.Bool.{true, false, cond, ◌&&◌, and-true, false≢true}
 use mathlib.Core.Logic.{⊎_elim}
-use mathlib.Core.Option.{none}
 use mathlib.Core.List.{List, [], ◌∷◌, ◌++◌}
 use Prim.Native.Nat.{ℕ, ◌<◌}
 use borrow.Author.Tests.{eq-eqb}
@@ -13,7 +13,6 @@ use Rattle.table.specs.Live.{Each}
 use Rattle.table.proofs.Lists.{each_map}
 use Rattle.table.proofs.Live.{same?}
 use Rattle.words.specs.Words.{int}
-use Rattle.gateway.specs.Basics.{is_some}
 use Rattle.gateway.specs.Limits.{owner_slots}
 use Rattle.gateway.specs.Ledger.{Order, Ledger, with_orders, same_side, held, fits, holds_fit}
 use Rattle.gateway.proofs.Base.{split}
@@ -54,11 +53,11 @@ module _ {a : ℕ} {z : Side} {old new os ps : List Order} (fee : ℤ) (s : Swap
 
 -- an account without a wallet always passes
 pub holds_swap : (l : Ledger) {a : ℕ} {z : Side} {old new ps : List Order} → Swap a z old new l.orders ps → holds_fit l ≡ true →
-    holds_fit (with_orders ps l) ≡ cond (is_some (get_or l.wallets a none)) (fits (held l.fee a z l.orders -ℤ held l.fee a z old +ℤ held l.fee a z new)) true
+    holds_fit (with_orders ps l) ≡ cond (is_some (get_or l.wallets a None)) (fits (held l.fee a z l.orders -ℤ held l.fee a z old +ℤ held l.fee a z new)) true
 holds_swap l {a} {z} {old} {new} {ps} s h =
-    split (λ b. (is_some (get_or l.wallets a none) ≡ b) → holds_fit (with_orders ps l) ≡ cond b (fits (held l.fee a z l.orders -ℤ held l.fee a z old +ℤ held l.fee a z new)) true) (is_some (get_or l.wallets a none))
+    split (λ b. (is_some (get_or l.wallets a None) ≡ b) → holds_fit (with_orders ps l) ≡ cond b (fits (held l.fee a z l.orders -ℤ held l.fee a z old +ℤ held l.fee a z new)) true) (is_some (get_or l.wallets a None))
     (λ _ e. holds_listed l (with_orders ps l) ((a, z) ∷ []) h (λ b. refl) (e, tt) (λ b y _ o. other b y o.0) ∙ and-true _ ∙ ap fits (swap_held l.fee s a z))
-    (λ _ e. holds_listed l (with_orders ps l) [] h (λ b. refl) tt (λ b y w _. others_stay l.fee s b (λ q. false≢true (sym e ∙ ap (λ c. is_some (get_or l.wallets c none)) (sym q) ∙ w)) y)) refl
+    (λ _ e. holds_listed l (with_orders ps l) [] h (λ b. refl) tt (λ b y w _. others_stay l.fee s b (λ q. false≢true (sym e ∙ ap (λ c. is_some (get_or l.wallets c None)) (sym q) ∙ w)) y)) refl
   where
     other : (b : ℕ) (y : Side) → Other b y (a, z) → held l.fee b y ps ≡ held l.fee b y l.orders
     other b y o =
@@ -67,6 +66,6 @@ holds_swap l {a} {z} {old} {new} {ps} s h =
 
 -- ---- the stored total is exact
 
-pub held_exact : (s : Store) (a : ℕ) → Held s → holds_fit (ledger s) ≡ true → a < owner_slots → is_some (get_or (ledger s).wallets a none) ≡ true → (z : Side) →
+pub held_exact : (s : Store) (a : ℕ) → Held s → holds_fit (ledger s) ≡ true → a < owner_slots → is_some (get_or (ledger s).wallets a None) ≡ true → (z : Side) →
     int (s C.accounts a (held_cell z)) ≡ held (ledger s).fee a z (ledger s).orders
-held_exact s a d h l w z = total_exact s a z d l (side_fits (ledger s).fee a (get_or (ledger s).wallets a none) (ledger s).orders w (holds_each (ledger s) h a) z)
+held_exact s a d h l w z = total_exact s a z d l (side_fits (ledger s).fee a (get_or (ledger s).wallets a None) (ledger s).orders w (holds_each (ledger s) h a) z)

@@ -1,7 +1,7 @@
 -- What the functions write: one law for each way through the code. Assumes nothing.
+use Rattle.std.specs.Prelude.{Option, Some, None, option_map, is_some}
 use mathlib.Core.Path.{◌≡◌, refl, sym, ap, ap₂, subst, ◌∙◌}
 use mathlib.Core.Bool.{Bool, true, false, cond, not}
-use mathlib.Core.Option.{none, some, map}
 use mathlib.Core.List.{List}
 use Prim.Native.Nat.{ℕ, ◌+◌, ◌-◌, ◌<◌}
 use native.Mathlib.Omega.{arith}
@@ -11,16 +11,13 @@ use lib.IntN.{ℤ, ◌+ℤ◌, ◌-ℤ◌}
 use Rattle.accounts.specs.declared.Funds.{Funds}
 use Rattle.orderbook.specs.declared.Side.{Side}
 use Rattle.orderbook.specs.declared.Side.TheVariants.{Buy, Sell}
-use Rattle.orderbook.specs.declared.MaybePrice.TheVariants.{None, Some}
 use Rattle.protocol.specs.declared.Balance.{Balance}
-use Rattle.words.specs.declared.Amount.{Amount}
 use Rattle.words.specs.Words.{int, fit, amount, wrap, modulus}
 use Rattle.words.proofs.Wrap.{wrap_int}
 use Rattle.wallet.specs.declared.Wallet.{Wallet}
 use Rattle.wallet.specs.Wallet as W
-use Rattle.gateway.specs.Basics.{is_some}
 use Rattle.gateway.specs.Limits.{owner_slots}
-use Rattle.gateway.specs.Ledger.{hold, price_option, fits}
+use Rattle.gateway.specs.Ledger.{hold, fits}
 use Rattle.gateway.proofs.Base.{split}
 use Rattle.store.specs.Cells as C
 use Rattle.store.specs.Layout.{cell, Holds, Set}
@@ -34,13 +31,13 @@ use Rattle.clients.specs.Clients as Clients
 use Rattle.sound.specs.Sound.{held_cell}
 use Rattle.live.specs.Live.{hold_word, shift, revise, retire, left, place, funds, settle, pay}
 
-price_is : (b : Bool) (p : ℕ) → W.price_of b (int p) ≡ price_option (cond b (Some (int p)) None)
+price_is : (b : Bool) (p : ℕ) → W.price_of b (int p) ≡ (cond b (Some (int p)) None)
 price_is true p = refl
 price_is false p = refl
 
-pub hold_of_is : (fee z c p v r : ℕ) (w : Side) → r < modulus → w ≡ side z → int r ≡ W.held w (map (W.charged (int fee) w) (W.price_of (not (eqb c 0)) (int p))) v → r ≡ hold_word fee z c p v
+pub hold_of_is : (fee z c p v r : ℕ) (w : Side) → r < modulus → w ≡ side z → int r ≡ W.held w (option_map (W.charged (int fee) w) (W.price_of (not (eqb c 0)) (int p))) v → r ≡ hold_word fee z c p v
 unfolding hold_word hold
-hold_of_is fee z c p v r w f e h = sym (wrap_int r f) ∙ ap wrap (h ∙ ap₂ (λ x y. W.held x (map (W.charged (int fee) x) y) v) e (price_is (not (eqb c 0)) p))
+hold_of_is fee z c p v r w f e h = sym (wrap_int r f) ∙ ap wrap (h ∙ ap₂ (λ x y. W.held x (option_map (W.charged (int fee) x) y) v) e (price_is (not (eqb c 0)) p))
 
 held_small : (z : Side) → held_cell z < 16
 held_small Buy = omega arith
@@ -87,7 +84,7 @@ left_open s i o c p v e h = rw (ne_eqb v 0 e) h
 funded_is : (r : Row) → is_some (wallet r) ≡ flag (r C.account_funded)
 funded_is r =
     let f : Funds = record { cash = int (r C.account_cash); position = int (r C.account_position) } in
-    split (λ b. is_some (cond b (some f) none) ≡ b) (flag (r C.account_funded)) (λ e. refl) (λ e. refl)
+    split (λ b. is_some (cond b (Some f) None) ≡ b) (flag (r C.account_funded)) (λ e. refl) (λ e. refl)
 
 -- what is written is the settled wallet or, where there is none, what the cells have
 module _ (xs : List ℕ) (a : ℕ) (z : Side) (fee p q : ℕ) (w r : Wallet) (fee_is : fee ≡ word (cell xs) C.fee) (w_is : w ≡ Clients.wallet_words (cell xs C.accounts a)) where
@@ -135,14 +132,18 @@ place_is xs n o fee h c w l k e f g m p q r t =
 pub held_at_is : (s : Store) (a : ℕ) (z : Side) (k r : ℕ) → k ≡ held_cell z → r ≡ s C.accounts a k → r ≡ s C.accounts a (held_cell z)
 held_at_is s a z k r e h = h ∙ ap (s C.accounts a) e
 
-module _ (s : Store) (a : ℕ) (z : Side) (t : ℕ) (t_is : t ≡ s C.accounts a (held_cell z)) (m : Amount) (r : Bool) (r_is : r ≡ is_some (amount m)) where
+there : (m : Option ℕ) → is_some m ≡ is_some (amount m)
+there None = refl
+there (Some w) = refl
+
+module _ (s : Store) (a : ℕ) (z : Side) (t : ℕ) (t_is : t ≡ s C.accounts a (held_cell z)) (m : Option ℕ) (r : Bool) (r_is : r ≡ is_some m) where
   pub one_fits : (old new : ℕ) → amount m ≡ fit (int t -ℤ int old +ℤ int new) → r ≡ fits (int (s C.accounts a (held_cell z)) -ℤ int old +ℤ int new)
   unfolding fits
-  one_fits old new e = r_is ∙ ap is_some e ∙ ap (λ h. is_some (fit (int h -ℤ int old +ℤ int new))) t_is
+  one_fits old new e = r_is ∙ there m ∙ ap is_some e ∙ ap (λ h. is_some (fit (int h -ℤ int old +ℤ int new))) t_is
 
   pub both_fit : (old new old2 new2 : ℕ) → amount m ≡ fit (int t -ℤ int old +ℤ int new -ℤ int old2 +ℤ int new2) →
       r ≡ fits (int (s C.accounts a (held_cell z)) -ℤ int old +ℤ int new -ℤ int old2 +ℤ int new2)
   unfolding fits
-  both_fit old new old2 new2 e = r_is ∙ ap is_some e ∙ ap (λ h. is_some (fit (int h -ℤ int old +ℤ int new -ℤ int old2 +ℤ int new2))) t_is
+  both_fit old new old2 new2 e = r_is ∙ there m ∙ ap is_some e ∙ ap (λ h. is_some (fit (int h -ℤ int old +ℤ int new -ℤ int old2 +ℤ int new2))) t_is
 
 pub ruleset laws = (hold_of_is, shift_is, revise_is, retire_is, left_done, left_open, pay_is, arith)

@@ -1,8 +1,8 @@
 -- A trade moves the wallet of the order's account, where it has one, and nothing else. Assumes nothing.
+use Rattle.std.specs.Prelude.{Option, Some, None, option_map}
 use mathlib.Core.Path.{◌≡◌, refl, sym, ap, ◌∙◌}
 use mathlib.Core.Bool.{true, cond}
 use mathlib.Core.List.{List}
-use mathlib.Core.Option.{Option, none, some, map}
 use Prim.Native.Nat.{ℕ, ◌<◌}
 use borrow.Author.Tests.{ne_eqb}
 use lib.ListN.{get_or, set}
@@ -48,28 +48,28 @@ module _ (a : ℕ) (z : Side) (p q : ℕ) (s : Store) (l : a < owner_slots) wher
   wallets = (gateway s).core.ledger.wallets
 
   -- the wallet of the account moves, where there is one
-  paid_view : flag (s C.accounts a C.account_funded) ≡ true → gateway paid ≡ with_ledger (with_wallets (set wallets a (some after))) (gateway s)
+  paid_view : flag (s C.accounts a C.account_funded) ≡ true → gateway paid ≡ with_ledger (with_wallets (set wallets a (Some after))) (gateway s)
   paid_view e =
       money_view a (wrap after.cash) (wrap after.position) s l e
-      ∙ ap (λ f. with_ledger (with_wallets (set wallets a (some f))) (gateway s)) (settled_wraps z (W.charged fee z (int p)) q (funds a s))
+      ∙ ap (λ f. with_ledger (with_wallets (set wallets a (Some f))) (gateway s)) (settled_wraps z (W.charged fee z (int p)) q (funds a s))
 
   module _ (o : Order) (at : o.account ≡ a) (on : o.side ≡ z) where
     wallet_is : wallet_of wallets o ≡ wallet (s C.accounts a)
-    wallet_is = ap (λ k. get_or wallets k none) at ∙ listed_at (λ i. wallet (s C.accounts i)) owner_slots a none l
+    wallet_is = ap (λ k. get_or wallets k None) at ∙ listed_at (λ i. wallet (s C.accounts i)) owner_slots a None l
 
-    paid_is : (w : Option Funds) → wallet (s C.accounts a) ≡ w → set wallets a (map (W.settle z (W.charged fee z (int p)) q) w) ≡ paid_to fee (int p) q wallets o
-    paid_is w e = sym (λ i. set wallets (at i) (map (W.settle (on i) (W.charged fee (on i) (int p)) q) ((wallet_is ∙ e) i)))
+    paid_is : (w : Option Funds) → wallet (s C.accounts a) ≡ w → set wallets a (option_map (W.settle z (W.charged fee z (int p)) q) w) ≡ paid_to fee (int p) q wallets o
+    paid_is w e = sym (λ i. set wallets (at i) (option_map (W.settle (on i) (W.charged fee (on i) (int p)) q) ((wallet_is ∙ e) i)))
 
     pub pay_view : gateway (pay a z p q s) ≡ with_ledger (λ l. with_wallets (paid_to l.fee (int p) q l.wallets o) l) (gateway s)
     unfolding pay settle
     pay_view =
         split (λ b. (flag (s C.accounts a C.account_funded) ≡ b) → gateway (cond b paid s) ≡ with_ledger (λ l. with_wallets (paid_to l.fee (int p) q l.wallets o) l) (gateway s))
         (flag (s C.accounts a C.account_funded))
-        (λ _ e. paid_view e ∙ ap (λ ws. with_ledger (with_wallets ws) (gateway s)) (paid_is (some (funds a s)) (ap (λ b. cond b (some (funds a s)) none) e)))
+        (λ _ e. paid_view e ∙ ap (λ ws. with_ledger (with_wallets ws) (gateway s)) (paid_is (Some (funds a s)) (ap (λ b. cond b (Some (funds a s)) None) e)))
         (λ _ e.
         ap (λ ws. with_ledger (with_wallets ws) (gateway s))
-        (listed_set (λ i. wallet (s C.accounts i)) (λ i. wallet (s C.accounts i)) owner_slots a none l (ap (λ b. cond b (some (funds a s)) none) e) (λ j m n. refl)
-        ∙ paid_is none (ap (λ b. cond b (some (funds a s)) none) e)))
+        (listed_set (λ i. wallet (s C.accounts i)) (λ i. wallet (s C.accounts i)) owner_slots a None l (ap (λ b. cond b (Some (funds a s)) None) e) (λ j m n. refl)
+        ∙ paid_is None (ap (λ b. cond b (Some (funds a s)) None) e)))
         refl
 
   pub pay_sound : Sound s → Sound (pay a z p q s)

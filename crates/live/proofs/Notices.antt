@@ -1,4 +1,5 @@
 -- A notice is pushed, or none: the list of notices grows as the definitions say, and the state stays sound. Assumes nothing.
+use Rattle.std.specs.Prelude.{is_some}
 use mathlib.Core.Path.{◌≡◌, refl, sym, ap, ◌∙◌}
 use mathlib.Core.Logic.{⊎_elim}
 use mathlib.Core.Bool.{Bool, true, false, cond, not, ◌&&◌, and-true}
@@ -13,7 +14,6 @@ use Rattle.words.specs.Words.{int, modulus}
 use Rattle.words.proofs.Int.{int_injective}
 use Rattle.table.proofs.Live.{same?}
 use Rattle.gateway.specs.Limits.{most_notices}
-use Rattle.gateway.specs.Basics.{is_some}
 use Rattle.gateway.specs.Entry.{is_zero}
 use Rattle.gateway.proofs.Base.{split}
 use Rattle.gateway.proofs.Counted.{same_is}

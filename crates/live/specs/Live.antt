@@ -1,10 +1,9 @@
 -- Live orders and what they hold: what each operation writes, as a store. A row's words are as in docs/STATE.md.
-use Rattle.std.specs.Prelude.{ℕ, ◌+◌, ◌-◌, ◌≤◌, ◌<◌, ◌≡◌, Bool, cond, List, [], ◌∷◌, ◌++◌, eqb, ℤ, ◌+ℤ◌, ◌-ℤ◌}
+use Rattle.std.specs.Prelude.{ℕ, ◌+◌, ◌-◌, ◌≤◌, ◌<◌, ◌≡◌, Bool, cond, List, [], ◌∷◌, ◌++◌, eqb, ℤ, ◌+ℤ◌, ◌-ℤ◌, is_some}
 use Rattle.accounts.specs.declared.Funds.{Funds}
 use Rattle.orderbook.specs.declared.Side.{Side}
 use Rattle.words.specs.Words.{int, wrap}
 use Rattle.wallet.specs.Wallet as W
-use Rattle.gateway.specs.Basics.{is_some}
 use Rattle.gateway.specs.Limits.{owner_slots, most_orders}
 use Rattle.gateway.specs.Ledger.{Ledger, hold, with_orders}
 use Rattle.gateway.specs.Deliver as Deliver

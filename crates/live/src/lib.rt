@@ -2,9 +2,8 @@
 // A row is read where it is changed: handed on in memory, it would be read again right after it was written, which makes the processor wait.
 #![tactic(auto)]
 
-ghost use Rattle.std.specs.Prelude.{◌≡◌, cond, ◌+◌, ◌≤◌, ◌<◌, length, ◌+ℤ◌, ◌-ℤ◌};
+ghost use Rattle.std.specs.Prelude.{◌≡◌, cond, ◌+◌, ◌≤◌, ◌<◌, length, ◌+ℤ◌, ◌-ℤ◌, is_some};
 ghost use Rattle.words.specs.Words.{int, amount};
-ghost use Rattle.gateway.specs.Basics.{is_some};
 ghost use Rattle.gateway.specs.Limits.{owner_slots, most_notices};
 ghost use Rattle.gateway.specs.Ledger as Ledger;
 ghost use Rattle.store.specs.Cells as C;
@@ -17,7 +16,6 @@ ghost use Rattle.live.specs.Live as P;
 use orderbook::Side;
 use orders::Live;
 use store::cells;
-use words::Amount;
 
 // The cell of an account's row with what its orders of a side hold.
 fn held_cell(side: Side) -> usize
@@ -59,23 +57,13 @@ pub fn held_at(m: &[u8], account: usize, side: Side) -> u64
     store::get(m, store::ACCOUNTS, account, held_cell(side))
 }
 
-fn is_fit(a: Amount) -> bool
-    ensures { result ≡ is_some (amount a) }
-{
-    match a {
-        Amount::Fits(_) => true,
-        Amount::TooBig => false,
-    }
-}
-
 // Code 7 for what the account's orders of a side hold, where a part of it goes from `old` to `new`.
 pub fn total_fits(m: &[u8], account: usize, side: Side, old: u64, new: u64) -> bool
     requires { Holds m.now × (account < owner_slots) }
     ensures { result ≡ Ledger.fits (int (cell m.now C.accounts account (held_cell side)) -ℤ int old +ℤ int new) }
 {
     let held = held_at(m, account, side);
-    let total = words::total(held, old, new);
-    is_fit(total)
+    words::total(held, old, new).is_some()
 }
 
 // And where two parts of it change.
@@ -92,8 +80,7 @@ pub fn two_fit(
     ensures { result ≡ Ledger.fits (int (cell m.now C.accounts account (held_cell side)) -ℤ int old +ℤ int new -ℤ int old2 +ℤ int new2) }
 {
     let held = held_at(m, account, side);
-    let total = words::total_of_two(held, old, new, old2, new2);
-    is_fit(total)
+    words::total_of_two(held, old, new, old2, new2).is_some()
 }
 
 fn shift(m: &mut [u8], account: usize, side: Side, old: u64, new: u64)

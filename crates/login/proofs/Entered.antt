@@ -1,7 +1,8 @@
 -- An accepted login: what is sent, what the session becomes, and the whole call. Assumes nothing.
+use Rattle.outcome.specs.declared.Refusal.TheVariants.{TooShort}
+use Rattle.std.specs.Prelude.{Option, Some, None, option_map, is_some, Ok, Err, Result}
 use mathlib.Core.Path.{◌≡◌, refl, sym, ap, ◌∙◌}
 use mathlib.Core.Bool.{Bool, true, false, cond, not, false≢true}
-use mathlib.Core.Option.{Option, none, some, map}
 use mathlib.Core.List.{List, [], ◌∷◌, ◌++◌}
 use Prim.Native.Nat.{ℕ, ◌+◌, ◌-◌, ◌≤◌, ◌<◌}
 use native.Mathlib.Omega.{arith}
@@ -15,7 +16,7 @@ use Rattle.protocol.specs.declared.Outbound.TheVariants as Out
 use Rattle.protocol.specs.declared.LoginError.{LoginError}
 use Rattle.protocol.specs.declared.LoginError.TheVariants.{UnsupportedVersion, BadCredentials, AlreadyLoggedIn}
 use Rattle.table.specs.Live.{Each}
-use Rattle.gateway.specs.Basics.{option, is_some}
+use Rattle.gateway.specs.Basics.{option}
 use Rattle.gateway.specs.Limits.{owner_slots, session_slots, protocol_version}
 use Rattle.gateway.specs.Core.{Core, account_at}
 use Rattle.gateway.specs.Rest.{Session, send, close, Rest, at_time, with_sessions, session_at, session_of, account_of, is_present, update_session, set_account, set_received, set_sent, stamped}
@@ -33,18 +34,15 @@ use Rattle.sound.proofs.Kept.{becomes}
 use Rattle.sound.proofs.Clients.{log_in_sound}
 use Rattle.mailbox.specs.Mailbox.{places, put_mail, mailed}
 use Rattle.mailbox.proofs.Rows.{mailed_one}
-use Rattle.balances.specs.declared.MaybeBalance as B
-use Rattle.balances.specs.Balances.{maybe_balance}
 use Rattle.balances.proofs.Laws.{exact_between}
-use Rattle.outcome.specs.declared.Reply.{Reply}
+use Rattle.outcome.specs.declared.Refusal.{Refusal}
 use Rattle.outcome.specs.Parts.{with_rest, rest_of, heard, heard_last, Sends, Posts, Tries, short, sent, Speaks}
 use Rattle.outcome.specs.Answers.{Gives, failed}
 use Rattle.outcome.proofs.Laws.{then_becomes}
 use Rattle.outcome.proofs.Calls.{unless_failed, gives_tried}
 use Rattle.outcome.proofs.Heard.{session_of_heard, greet_plan}
 use Rattle.outcome.proofs.Walk.{To, slots, posts_none, posts_more, update_twice, stamped_to}
-use Rattle.login.specs.declared.MaybeLoginError as E
-use Rattle.login.specs.Login.{maybe_error, open_mail, login_mail, logged, balance_rows, login_rows, Free}
+use Rattle.login.specs.Login.{open_mail, login_mail, logged, balance_rows, login_rows, Free}
 use Rattle.login.proofs.Judging.{known_small, judging}
 use Rattle.login.proofs.Told.{told_length, told_to, told}
 
@@ -52,16 +50,16 @@ use Rattle.login.proofs.Told.{told_length, told_to, told}
 
 module _ (s a : ℕ) (g : Gateway) where
   balance_length : (b : Option Balance) → length (balance_to s b) ≡ cond (is_some b) 1 0
-  balance_length none = refl
-  balance_length (some x) = refl
+  balance_length None = refl
+  balance_length (Some x) = refl
 
   -- as many balances as wallets
   pub wallet_rows : length (balance_to s (balance a g.core)) ≡ balance_rows a g.core
   wallet_rows = balance_length (balance a g.core) ∙ ap (λ (b : Bool). cond b 1 0) (mapped (wallet_at a g.core))
     where
-      mapped : (o : Option Funds) → is_some (map (balance_with g.core.ledger.fee a g.core.ledger.orders) o) ≡ is_some o
-      mapped none = refl
-      mapped (some x) = refl
+      mapped : (o : Option Funds) → is_some (option_map (balance_with g.core.ledger.fee a g.core.ledger.orders) o) ≡ is_some o
+      mapped None = refl
+      mapped (Some x) = refl
 
   pub login_length : length (login_mail s a g) ≡ login_rows a g
   login_length =
@@ -78,8 +76,8 @@ module _ (s a : ℕ) (g : Gateway) where
   rest_to = both (balance a g.core)
     where
       both : (b : Option Balance) → Each (To s) (balance_to s b ++ open_mail s a g)
-      both none = told_to s a g.core.ledger.last g.rest.delivered g.core.ledger.orders
-      both (some x) = (refl, told_to s a g.core.ledger.last g.rest.delivered g.core.ledger.orders)
+      both None = told_to s a g.core.ledger.last g.rest.delivered g.core.ledger.orders
+      both (Some x) = (refl, told_to s a g.core.ledger.last g.rest.delivered g.core.ledger.orders)
 
   -- so the session is stamped once
   pub login_stamped : (r : Rest) → s < length r.sessions → stamped (login_mail s a g) r ≡ update_session s (set_sent r.clock) r
@@ -92,24 +90,24 @@ link_becomes {xs} s a f h =
     becomes h (log_in_sound (cell xs) f.state.sound s a f.slot f.owner there nobody alone) (log_in_view s a (cell xs) f.slot)
   where
     in_slot : session_at s (rest_of xs) ≡ session (cell xs C.sessions s)
-    in_slot = listed_at (λ i. session (cell xs C.sessions i)) session_slots s none f.slot
+    in_slot = listed_at (λ i. session (cell xs C.sessions i)) session_slots s None f.slot
 
     present_there : (o : Option Session) → is_present o ≡ true → is_some o ≡ true
-    present_there none e = absurd (false≢true e)
-    present_there (some x) e = refl
+    present_there None e = absurd (false≢true e)
+    present_there (Some x) e = refl
 
     there : is_some (session (cell xs C.sessions s)) ≡ true
     there = sym (ap is_some in_slot) ∙ present_there (session_at s (rest_of xs)) f.present
 
-    nobody : account_of (session (cell xs C.sessions s)) ≡ none
+    nobody : account_of (session (cell xs C.sessions s)) ≡ None
     nobody = sym (ap account_of in_slot) ∙ f.nobody
 
-    no_cell : (n : ℕ) → optional n ≡ none → n ≡ 0
+    no_cell : (n : ℕ) → optional n ≡ None → n ≡ 0
     no_cell n e = go (eqb n 0) refl
       where
         go : (b : Bool) → eqb n 0 ≡ b → n ≡ 0
         go true q = eqb-true n 0 q
-        go false q = absurd (let z : ◌≡◌ {A = Bool} true false = ap is_some (sym (ap (λ (c : Bool). cond (not c) (some (n - 1)) none) q) ∙ e) in false≢true (sym z))
+        go false q = absurd (let z : ◌≡◌ {A = Bool} true false = ap is_some (sym (ap (λ (c : Bool). cond (not c) (Some (n - 1)) None) q) ∙ e) in false≢true (sym z))
 
     alone : cell xs C.accounts a C.account_session ≡ 0
     alone = no_cell _ (sym (session_of_cell (cell xs) a f.state.sound.clients.linked f.owner) ∙ f.alone)
@@ -133,9 +131,9 @@ module _ (xs out : List ℕ) (s a t : ℕ) where
       ∙ ap (λ o. with_sessions (set (rest_of xs).sessions s o) (at_time t (rest_of xs))) (swap (session_at s (rest_of xs)))
       ∙ sym (update_twice (set_received t) (set_account a) s (at_time t (rest_of xs)) n))
     where
-      swap : (o : Option Session) → map (set_received t) (map (set_account a) o) ≡ map (set_account a) (map (set_received t) o)
-      swap none = refl
-      swap (some x) = refl
+      swap : (o : Option Session) → option_map (set_received t) (option_map (set_account a) o) ≡ option_map (set_account a) (option_map (set_received t) o)
+      swap None = refl
+      swap (Some x) = refl
 
   pub heard_linked : {ys zs : List ℕ} → s < session_slots → Becomes ys (with_rest (update_session s (set_account a)) g) → Becomes zs (with_rest (heard s t) (gateway (cell ys))) → Becomes zs (with_rest (logged s a t) g)
   unfolding linked
@@ -171,22 +169,22 @@ module _ (xs out : List ℕ) (s a : ℕ) where
       (posts_more 0 1 n (send s (Out.LoginAccepted a (word (cell xs) C.last)) ∷ []) (balance_to s (balance a (gateway (cell xs)).core)) out first q) r).posted
 
   -- a balance, or none
-  module _ (i : ℕ) (b : B.MaybeBalance) (e : maybe_balance b ≡ balance a (gateway (cell xs)).core) where
-    pub no_balance : b ≡ B.TheVariants.None → Posts i (balance_to s (balance a (gateway (cell xs)).core)) i out out
-    no_balance q = let n : balance a (gateway (cell xs)).core ≡ none = sym e ∙ ap maybe_balance q in rw n (posts_none i out)
+  module _ (i : ℕ) (b : Option Balance) (e : b ≡ balance a (gateway (cell xs)).core) where
+    pub no_balance : b ≡ None → Posts i (balance_to s (balance a (gateway (cell xs)).core)) i out out
+    no_balance q = let n : balance a (gateway (cell xs)).core ≡ None = sym e ∙ q in rw n (posts_none i out)
 
-    pub one_balance : (x : Balance) {end : List ℕ} → b ≡ B.TheVariants.Some x → end ≡ put_mail i (send s (Out.Balance x)) out → Posts i (balance_to s (balance a (gateway (cell xs)).core)) (i + 1) out end
+    pub one_balance : (x : Balance) {end : List ℕ} → b ≡ Some x → end ≡ put_mail i (send s (Out.Balance x)) out → Posts i (balance_to s (balance a (gateway (cell xs)).core)) (i + 1) out end
     one_balance x q p =
-        let n : balance a (gateway (cell xs)).core ≡ some x = sym e ∙ ap maybe_balance q in
+        let n : balance a (gateway (cell xs)).core ≡ Some x = sym e ∙ q in
         rw n (record { next_is = refl; posted = p ∙ sym (mailed_one i (send s (Out.Balance x)) out) })
 
-    pub balance_room : (x : Balance) (room : ℕ) → b ≡ B.TheVariants.Some x → i + length (balance_to s (balance a (gateway (cell xs)).core)) ≤ room → i < room
-    balance_room x room q l = omega (arith, ap (λ o. length (balance_to s o)) (sym e ∙ ap maybe_balance q))
+    pub balance_room : (x : Balance) (room : ℕ) → b ≡ Some x → i + length (balance_to s (balance a (gateway (cell xs)).core)) ≤ room → i < room
+    balance_room x room q l = omega (arith, ap (λ o. length (balance_to s o)) (sym e ∙ q))
 
 -- ---- the call
 
-module _ (xs out : List ℕ) (s version a token t : ℕ) (h : Speaks s none xs) (why : E.MaybeLoginError)
-    (e : maybe_error why ≡ failed (login_tests version a token (gateway (cell xs)).core (rest_of xs))) where
+module _ (xs out : List ℕ) (s version a token t : ℕ) (h : Speaks s None xs) (why : Option LoginError)
+    (e : why ≡ failed (login_tests version a token (gateway (cell xs)).core (rest_of xs))) where
   abbrev c : Core
   c = (gateway (cell xs)).core
 
@@ -194,7 +192,7 @@ module _ (xs out : List ℕ) (s version a token t : ℕ) (h : Speaks s none xs) 
   after = heard s t (rest_of xs)
 
   -- the tests see the session's message no more than the clock
-  plan_is : (o : Option LoginError) → maybe_error why ≡ o →
+  plan_is : (o : Option LoginError) → why ≡ o →
       plan c (rest_of xs) (receive_from s (In.Login version a token) t (places (length out)))
       ≡ within (places (length out)) (option (logged_in s a c after) (λ q. ended s (Out.LoginRejected q) after) o)
   unfolding greet
@@ -205,23 +203,23 @@ module _ (xs out : List ℕ) (s version a token t : ℕ) (h : Speaks s none xs) 
       ∙ ap (option (logged_in s a c after) (λ q. ended s (Out.LoginRejected q) after))
       (ap (λ u. failed ((UnsupportedVersion, eqb version protocol_version) ∷ (BadCredentials, token_is token (account_at a c)) ∷ (AlreadyLoggedIn, not (is_some u)) ∷ [])) (session_of_heard a s t (rest_of xs)) ∙ sym e ∙ q))
 
-  pub login_refused : (q : LoginError) {r : Reply} {ys end : List ℕ} → why ≡ E.TheVariants.Some q → Tries (send s (Out.LoginRejected q) ∷ close s ∷ []) (heard_last s t) r xs ys out end →
+  pub login_refused : (q : LoginError) {r : Result ℕ Refusal} {ys end : List ℕ} → why ≡ Some q → Tries (send s (Out.LoginRejected q) ∷ close s ∷ []) (heard_last s t) r xs ys out end →
       Gives (call (gateway (cell xs)) (receive_from s (In.Login version a token) t (places (length out)))) r xs ys out end
-  login_refused q w d = gives_tried xs out (receive_from s (In.Login version a token) t (places (length out))) tt h.between (send s (Out.LoginRejected q) ∷ close s ∷ []) (heard_last s t) (plan_is (some q) (ap maybe_error w)) d
+  login_refused q w d = gives_tried xs out (receive_from s (In.Login version a token) t (places (length out))) tt h.between (send s (Out.LoginRejected q) ∷ close s ∷ []) (heard_last s t) (plan_is (Some q) w) d
 
-  module _ (w : why ≡ E.TheVariants.None) where
-    passed : (u v x : Bool) → cond u (cond v (cond x none (some AlreadyLoggedIn)) (some BadCredentials)) (some UnsupportedVersion) ≡ none → (v ≡ true) × (x ≡ true)
+  module _ (w : why ≡ None) where
+    passed : (u v x : Bool) → cond u (cond v (cond x None (Some AlreadyLoggedIn)) (Some BadCredentials)) (Some UnsupportedVersion) ≡ None → (v ≡ true) × (x ≡ true)
     passed true true true q = (refl, refl)
     passed true true false q = absurd (false≢true (sym (ap is_some q)))
     passed true false x q = absurd (false≢true (sym (ap is_some q)))
     passed false v x q = absurd (false≢true (sym (ap is_some q)))
 
     both : (token_is token (account_at a c) ≡ true) × (not (is_some (session_of a (rest_of xs))) ≡ true)
-    both = passed (eqb version protocol_version) (token_is token (account_at a c)) (not (is_some (session_of a (rest_of xs)))) (sym e ∙ ap maybe_error w)
+    both = passed (eqb version protocol_version) (token_is token (account_at a c)) (not (is_some (session_of a (rest_of xs)))) (sym e ∙ w)
 
-    nobody : (o : Option ℕ) → not (is_some o) ≡ true → o ≡ none
-    nobody none q = refl
-    nobody (some x) q = absurd (false≢true q)
+    nobody : (o : Option ℕ) → not (is_some o) ≡ true → o ≡ None
+    nobody None q = refl
+    nobody (Some x) q = absurd (false≢true q)
 
     pub login_free : Free s a xs
     login_free =
@@ -234,21 +232,21 @@ module _ (xs out : List ℕ) (s version a token t : ℕ) (h : Speaks s none xs) 
           alone = nobody (session_of a (rest_of xs)) both.1;
         }
 
-    pub login_accepted : {r : Reply} {ys end : List ℕ} → Tries (login_mail s a (gateway (cell xs))) (logged s a t) r xs ys out end →
+    pub login_accepted : {r : Result ℕ Refusal} {ys end : List ℕ} → Tries (login_mail s a (gateway (cell xs))) (logged s a t) r xs ys out end →
         Gives (call (gateway (cell xs)) (receive_from s (In.Login version a token) t (places (length out)))) r xs ys out end
-    login_accepted d = gives_tried xs out (receive_from s (In.Login version a token) t (places (length out))) tt h.between (login_mail s a (gateway (cell xs))) (logged s a t) (plan_is none (ap maybe_error w)) d
+    login_accepted d = gives_tried xs out (receive_from s (In.Login version a token) t (places (length out))) tt h.between (login_mail s a (gateway (cell xs))) (logged s a t) (plan_is None w) d
 
 module _ (xs out : List ℕ) (s a t n p : ℕ) (e : n ≡ login_rows a (gateway (cell xs))) (room : p ≡ places (length out)) where
-  pub accept_short : p < n → Tries (login_mail s a (gateway (cell xs))) (logged s a t) (record { code = 6; count = 0 }) xs xs out out
+  pub accept_short : p < n → Tries (login_mail s a (gateway (cell xs))) (logged s a t) (Err TooShort) xs xs out out
   accept_short l = short (omega (arith, login_length s a (gateway (cell xs)))) refl refl refl
 
-  pub accept_done : {ys end : List ℕ} → n ≤ p → Sends 0 (login_mail s a (gateway (cell xs))) (logged s a t) xs ys out end → Tries (login_mail s a (gateway (cell xs))) (logged s a t) (record { code = 0; count = n }) xs ys out end
+  pub accept_done : {ys end : List ℕ} → n ≤ p → Sends 0 (login_mail s a (gateway (cell xs))) (logged s a t) xs ys out end → Tries (login_mail s a (gateway (cell xs))) (logged s a t) (Ok n) xs ys out end
   accept_done l d =
-      sent (omega (arith, login_length s a (gateway (cell xs)))) (ap (λ k. record { code = 0; count = k }) (e ∙ sym (login_length s a (gateway (cell xs))))) d
+      sent (omega (arith, login_length s a (gateway (cell xs)))) (ap (λ k. Ok k) (e ∙ sym (login_length s a (gateway (cell xs))))) d
 
 -- whether an account has a wallet
 funded_rows : (xs : List ℕ) (a : ℕ) (b : Bool) → a < owner_slots → b ≡ is_some (wallet (cell xs C.accounts a)) → b ≡ is_some (wallet_at a (gateway (cell xs)).core)
-funded_rows xs a b l e = e ∙ ap is_some (sym (listed_at (λ i. wallet (cell xs C.accounts i)) owner_slots a none l))
+funded_rows xs a b l e = e ∙ ap is_some (sym (listed_at (λ i. wallet (cell xs C.accounts i)) owner_slots a None l))
 
 pub one_row : (xs : List ℕ) (a : ℕ) (b : Bool) → a < owner_slots → b ≡ is_some (wallet (cell xs C.accounts a)) → b ≡ true → 1 ≡ balance_rows a (gateway (cell xs)).core
 one_row xs a b l e t = ap (λ (c : Bool). cond c 1 0) (sym t ∙ funded_rows xs a b l e)

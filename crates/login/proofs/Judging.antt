@@ -1,17 +1,18 @@
 -- Whether a login is accepted. Assumes nothing.
+use Rattle.std.specs.Bool.{then_some}
+use Rattle.std.specs.Prelude.{Option, Some, None, is_some}
+use Rattle.protocol.specs.declared.LoginError.{LoginError}
 use mathlib.Core.Path.{◌≡◌, refl, sym, ap, ◌∙◌}
 use mathlib.Core.Bool.{Bool, true, false, cond, not, false≢true}
 use mathlib.Core.Logic.{⊎_elim}
-use mathlib.Core.Option.{Option, none, some}
 use mathlib.Core.List.{List}
-use Prim.Native.Nat.{ℕ, ◌-◌, ◌≤◌, ◌<◌}
+use Prim.Native.Nat.{ℕ, ◌≤◌, ◌<◌}
 use native.Mathlib.Omega.{arith}
 use borrow.Author.Tests.{eq-eqb, ne_eqb}
-use lib.ListN.{length, get_or-eq_default}
+use lib.ListN.{get_or-eq_default}
 use lib.Dec.{eqb}
 use Rattle.protocol.specs.declared.LoginError.TheVariants.{UnsupportedVersion, BadCredentials, AlreadyLoggedIn}
 use Rattle.le.proofs.Laws.{lt_or_le}
-use Rattle.gateway.specs.Basics.{is_some}
 use Rattle.gateway.specs.Limits.{owner_slots}
 use Rattle.gateway.specs.Core.{Core, account_at}
 use Rattle.gateway.specs.Rest.{session_of}
@@ -25,8 +26,7 @@ use Rattle.clients.proofs.Links.{session_of_cell}
 use Rattle.sound.specs.Sound.{State}
 use Rattle.outcome.specs.Parts.{rest_of}
 use Rattle.outcome.specs.Answers.{failed}
-use Rattle.login.specs.declared.MaybeLoginError as E
-use Rattle.login.specs.Login.{maybe_error, session_error}
+use Rattle.login.specs.Login.{session_error}
 
 -- ---- the account
 
@@ -39,7 +39,7 @@ module _ (xs : List ℕ) (a token : ℕ) where
 
   -- below the limit, an account is the one of its row
   account_is : a < limit → account_at a core ≡ account a (cell xs C.accounts a)
-  account_is l = listed_at (λ i. account i (cell xs C.accounts i)) limit a none l
+  account_is l = listed_at (λ i. account i (cell xs C.accounts i)) limit a None l
 
   module _ (l : a < limit) (b : Bool) (e : b ≡ is_some (account a (cell xs C.accounts a))) where
     exists_is : b ≡ flag (cell xs C.accounts a C.account_exists)
@@ -55,7 +55,7 @@ module _ (xs : List ℕ) (a token : ℕ) where
 
   pub token_past : limit ≤ a → false ≡ token_is token (account_at a core)
   token_past l =
-      sym (ap (token_is token) (get_or-eq_default core.accounts none {n = a} (rw (listed_length (λ i. account i (cell xs C.accounts i)) limit) l)))
+      sym (ap (token_is token) (get_or-eq_default core.accounts None {n = a} (rw (listed_length (λ i. account i (cell xs C.accounts i)) limit) l)))
 
   -- who is known has a row
   pub known_small : State xs → (b : Bool) → b ≡ token_is token (account_at a core) → b ≡ true → a < owner_slots
@@ -64,41 +64,33 @@ module _ (xs : List ℕ) (a token : ℕ) where
 
 -- ---- its session
 
-module _ (xs : List ℕ) (a s : ℕ) (st : State xs) (l : a < owner_slots) (s_is : s ≡ cell xs C.accounts a C.account_session) where
-  session_is : session_of a (rest_of xs) ≡ optional s
-  session_is = session_of_cell (cell xs) a st.sound.clients.linked l ∙ ap optional (sym s_is)
-
-  error_is : (b : Bool) → eqb s 0 ≡ b → session_error (is_some (session_of a (rest_of xs))) ≡ session_error (not b)
-  error_is b e = ap (λ o. session_error (is_some o)) session_is ∙ go (eqb s 0) e
-    where
-      go : (c : Bool) → c ≡ b → session_error (is_some (cond (not c) (some (s - 1)) none)) ≡ session_error (not b)
-      go true f = ap (λ d. session_error (not d)) f
-      go false f = ap (λ d. session_error (not d)) f
-
-  pub session_free : s ≡ 0 → E.TheVariants.None ≡ session_error (is_some (session_of a (rest_of xs)))
-  session_free e = sym (error_is true (eq-eqb s 0 e))
-
-  pub session_taken : (s ≡ 0 → ⊥) → E.TheVariants.Some AlreadyLoggedIn ≡ session_error (is_some (session_of a (rest_of xs)))
-  session_taken e = sym (error_is false (ne_eqb s 0 e))
+pub session_judged : (xs : List ℕ) (a : ℕ) → State xs → a < owner_slots → (o : Option ℕ) → o ≡ optional (cell xs C.accounts a C.account_session) → (r : Option LoginError) → r ≡ then_some (is_some o) AlreadyLoggedIn →
+    r ≡ session_error (is_some (session_of a (rest_of xs)))
+session_judged xs a st l o e r f =
+    f ∙ ap (λ p. then_some (is_some p) AlreadyLoggedIn) (e ∙ sym (session_of_cell (cell xs) a st.sound.clients.linked l)) ∙ go (is_some (session_of a (rest_of xs)))
+  where
+    go : (b : Bool) → then_some b AlreadyLoggedIn ≡ session_error b
+    go true = refl
+    go false = refl
 
 -- ---- the tests in their order
 
 module _ (xs : List ℕ) (version a token : ℕ) where
-  abbrev pub Judged : E.MaybeLoginError → Type 0
-  Judged r = maybe_error r ≡ failed (login_tests version a token (gateway (cell xs)).core (rest_of xs))
+  abbrev pub Judged : Option LoginError → Type 0
+  Judged r = r ≡ failed (login_tests version a token (gateway (cell xs)).core (rest_of xs))
 
-  pub judged_version : (version ≡ 1 → ⊥) → Judged (E.TheVariants.Some UnsupportedVersion)
+  pub judged_version : (version ≡ 1 → ⊥) → Judged (Some UnsupportedVersion)
   judged_version e = rw (ne_eqb version 1 e) refl
 
   module _ (v : version ≡ 1) (b : Bool) (e : b ≡ token_is token (account_at a (gateway (cell xs)).core)) where
-    pub judged_unknown : b ≡ false → Judged (E.TheVariants.Some BadCredentials)
+    pub judged_unknown : b ≡ false → Judged (Some BadCredentials)
     judged_unknown t = rw (eq-eqb version 1 v, ← e, t) refl
 
-    pub judged_known : (r : E.MaybeLoginError) → b ≡ true → r ≡ session_error (is_some (session_of a (rest_of xs))) → Judged r
+    pub judged_known : (r : Option LoginError) → b ≡ true → r ≡ session_error (is_some (session_of a (rest_of xs))) → Judged r
     judged_known r t q = rw (eq-eqb version 1 v, ← e, t, q) (by_session (is_some (session_of a (rest_of xs))))
       where
-        by_session : (c : Bool) → maybe_error (session_error c) ≡ cond (not c) none (some AlreadyLoggedIn)
+        by_session : (c : Bool) → session_error c ≡ cond (not c) None (Some AlreadyLoggedIn)
         by_session true = refl
         by_session false = refl
 
-pub ruleset judging = (token_there, token_absent, token_past, known_small, session_free, session_taken, judged_version, judged_unknown, judged_known, arith)
+pub ruleset judging = (token_there, token_absent, token_past, known_small, session_judged, judged_version, judged_unknown, judged_known, arith)

@@ -1,34 +1,29 @@
 -- The open orders that a login is told: row by row they are the definitions' list. Assumes nothing.
+use Rattle.std.specs.Prelude.{Option, Some, None, is_some}
 use mathlib.Core.Path.{◌≡◌, refl, sym, ap, ap₂, ◌∙◌}
 use mathlib.Core.Bool.{Bool, true, false, cond, ◌&&◌}
 use mathlib.Core.Logic.{⊎_elim}
-use mathlib.Core.Option.{Option, none, some}
 use mathlib.Core.List.{List, [], ◌∷◌, ◌++◌, map, append-nil}
 use Prim.Native.Nat.{ℕ, zero, suc, ◌+◌, ◌≤◌, ◌<◌}
 use native.Mathlib.Numerals.{add-one}
 use native.Mathlib.Nat.{not-suc-le-zero}
 use native.Mathlib.Omega.{arith}
-use borrow.Author.Tests.{eq-eqb, ne_eqb, le-leb, lt-leb}
+use borrow.Author.Tests.{ne_eqb}
 use lib.Dec.{eqb, leb}
 use lib.ListN.{length, length-append}
-use Rattle.orderbook.specs.declared.MaybePrice.{MaybePrice}
-use Rattle.orderbook.specs.declared.MaybePrice.TheVariants.{None, Some}
 use Rattle.protocol.specs.declared.Outbound.TheVariants as Out
 use Rattle.protocol.specs.declared.Report.{Report}
-use Rattle.protocol.specs.declared.ReportKind.TheVariants.{Rested}
 use Rattle.words.specs.Words.{int}
 use Rattle.le.proofs.Laws.{lt_or_le}
 use Rattle.table.specs.Live.{Each, live, pick}
-use Rattle.gateway.specs.Basics.{option, each, is_some}
-use Rattle.gateway.specs.Ledger.{Order, price_option}
+use Rattle.gateway.specs.Basics.{option, each}
+use Rattle.gateway.specs.Ledger.{Order}
 use Rattle.gateway.specs.Rest.{Mail, send}
 use Rattle.gateway.specs.Entry.{rested, open_order}
 use Rattle.gateway.specs.Calls.{Gateway}
 use Rattle.store.specs.Cells as C
 use Rattle.store.specs.Layout.{cell}
-use Rattle.store.specs.View.{Row, Store, word, flag, side, order, order_room, gateway}
-use Rattle.orders.specs.declared.Live as Words
-use Rattle.orders.specs.Orders.{live_row}
+use Rattle.store.specs.View.{Row, Store, word, flag, order, order_room, gateway}
 use Rattle.sound.specs.Sound.{State}
 use Rattle.mailbox.specs.Mailbox.{put_mail, mailed}
 use Rattle.mailbox.proofs.Rows.{mailed_one}
@@ -37,48 +32,7 @@ use Rattle.outcome.proofs.Walk.{To, posts_none, posts_more}
 use Rattle.outcome.proofs.Steps.{each_append}
 use Rattle.login.specs.Login.{open_mail, is_told, told_rows, first_orders, row_told, report_of, row_mail}
 
--- ---- one row, as the code reads it
-
-module _ (o : Words.Live) (number a delivered : ℕ) where
-  abbrev seen : Bool
-  seen = (eqb o.account a && leb number delivered) && flag o.priced
-
-  pub open_other : (o.account ≡ a → ⊥) → false ≡ seen
-  open_other e = rw (ne_eqb o.account a e) refl
-
-  pub open_later : o.account ≡ a → delivered < number → false ≡ seen
-  open_later e l = rw (eq-eqb o.account a e, lt-leb number delivered l) refl
-
-  pub open_priced : (b : Bool) → o.account ≡ a → number ≤ delivered → b ≡ flag o.priced → b ≡ seen
-  open_priced b e l q = rw (eq-eqb o.account a e, le-leb number delivered l) q
-
-module _ (xs : List ℕ) (j a delivered : ℕ) where
-  abbrev row : Row
-  row = cell xs C.orders j
-
-  pub told_dead : (w : ℕ) → w ≡ row C.order_live → w ≡ 0 → false ≡ row_told a delivered row
-  told_dead w e z = let f : row C.order_live ≡ 0 = sym e ∙ z in rw (eq-eqb (row C.order_live) 0 f) refl
-
-  price_there : (n w : ℕ) → is_some (price_option (cond (flag n) (Some (int w)) None)) ≡ flag n
-  price_there n w = go (flag n)
-    where
-      go : (b : Bool) → is_some (price_option (cond b (Some (int w)) None)) ≡ b
-      go true = refl
-      go false = refl
-
-  pub told_live : (w n : ℕ) (o : Words.Live) (b : Bool) → w ≡ row C.order_live → (w ≡ 0 → ⊥) → o ≡ live_row row → n ≡ row C.order_number →
-      b ≡ (eqb o.account a && leb n delivered) && flag o.priced → b ≡ row_told a delivered row
-  told_live w n o b e z q k h =
-      let f : row C.order_live ≡ 0 → ⊥ = λ y. z (e ∙ y) in
-      rw (ne_eqb (row C.order_live) 0 f, price_there (row C.order_priced) (row C.order_price), ← k, ← ap (λ (x : Words.Live). x.account) q, ← ap (λ (x : Words.Live). x.priced) q) h
-
 -- ---- counting
-
-pub rows_told : (b c : Bool) → b ≡ c → b ≡ true → ◌≡◌ {A = ℕ} 1 (cond c 1 0)
-rows_told b c e t = rw (← e, t) refl
-
-pub rows_untold : (b c : Bool) → b ≡ c → b ≡ false → ◌≡◌ {A = ℕ} 0 (cond c 1 0)
-rows_untold b c e t = rw (← e, t) refl
 
 module _ (s : Store) where
   map_append : (ps qs : List (ℕ × Order)) → map (λ (p : ℕ × Order). p.1) (ps ++ qs) ≡ map (λ (p : ℕ × Order). p.1) ps ++ map (λ (p : ℕ × Order). p.1) qs
@@ -138,13 +92,13 @@ module _ (s a : ℕ) (last delivered : ℕ) where
   abbrev F : Order → List Mail
   F = open_order s a last delivered
 
-  order_mail : (o : Order) (b : Bool) → length (cond b (option [] (λ p. rested s last o p ∷ []) (price_option o.price)) []) ≡ cond (b && is_some (price_option o.price)) 1 0
+  order_mail : (o : Order) (b : Bool) → length (cond b (option [] (λ p. rested s last o p ∷ []) o.price) []) ≡ cond (b && is_some o.price) 1 0
   order_mail o false = refl
-  order_mail o true = go (price_option o.price)
+  order_mail o true = go o.price
     where
       go : (p : Option _) → length (option [] (λ p. rested s last o p ∷ []) p) ≡ cond (is_some p) 1 0
-      go none = refl
-      go (some p) = refl
+      go None = refl
+      go (Some p) = refl
 
   -- as many messages as orders that are told
   pub told_length : (os : List Order) → length (each F os) ≡ told_rows a delivered os
@@ -159,12 +113,12 @@ module _ (s a : ℕ) (last delivered : ℕ) where
   -- each goes to the session
   pub told_to : (os : List Order) → Each (To s) (each F os)
   told_to [] = tt
-  told_to (o ∷ os) = both (told_to os) (F o) (one (eqb o.account a && leb o.number delivered) (price_option o.price))
+  told_to (o ∷ os) = both (told_to os) (F o) (one (eqb o.account a && leb o.number delivered) o.price)
     where
       one : (b : Bool) (p : Option _) → Each (To s) (cond b (option [] (λ p. rested s last o p ∷ []) p) [])
       one false p = tt
-      one true none = tt
-      one true (some p) = (refl, tt)
+      one true None = tt
+      one true (Some p) = (refl, tt)
 
       both : Each (To s) (each F os) → (ms : List Mail) → Each (To s) ms → Each (To s) (ms ++ each F os)
       both t [] h = t
@@ -174,7 +128,7 @@ module _ (s a : ℕ) (last delivered : ℕ) where
   row_mail_is : (r : Row) → cond (row_told a delivered r) (send s (Out.Report (report_of last r)) ∷ []) [] ≡ each F (cond (flag (r C.order_live)) (order r ∷ []) [])
   row_mail_is r = go (flag (r C.order_live))
     where
-      one : (b p : Bool) → cond (b && is_some (price_option (cond p (Some (int (r C.order_price))) None))) (send s (Out.Report (report_of last r)) ∷ []) [] ≡ cond b (option [] (λ q. rested s last (order r) q ∷ []) (price_option (cond p (Some (int (r C.order_price))) None))) []
+      one : (b p : Bool) → cond (b && is_some ((cond p (Some (int (r C.order_price))) None))) (send s (Out.Report (report_of last r)) ∷ []) [] ≡ cond b (option [] (λ q. rested s last (order r) q ∷ []) ((cond p (Some (int (r C.order_price))) None))) []
       one false p = refl
       one true true = refl
       one true false = refl
@@ -247,12 +201,7 @@ module _ (xs : List ℕ) (s a i j last delivered : ℕ) (l : last ≡ word (cell
   pub row_passed : (out : List ℕ) → b ≡ false → Posts i m i out out
   row_passed out t = rw (told_is false t) (posts_none i out)
 
--- its report, as the code makes it
-pub report_is : (xs : List ℕ) (j last : ℕ) (o : Words.Live) (n : ℕ) (r : Report) → o ≡ live_row (cell xs C.orders j) → n ≡ cell xs C.orders j C.order_number →
-    r ≡ record { seq = last; order_id = n; client_ref = o.client_ref; kind = Rested (side o.side) (int o.price) o.leaves o.leaves } → r ≡ report_of last (cell xs C.orders j)
-report_is xs j last o n r e k q = q ∙ rw (k, e) refl
-
 pub small_row : {xs : List ℕ} → State xs → (j n : ℕ) → n ≡ word (cell xs) C.order_rows → j < n → j < order_room
 small_row st j n e l = omega (arith, st.sound.tables.ordered.bounds.orders_fit)
 
-pub ruleset told = (open_other, open_later, open_priced, told_dead, told_live, rows_told, rows_untold, row_posted, row_passed, report_is, arith)
+pub ruleset told = (row_posted, row_passed, arith)

@@ -1,6 +1,5 @@
 -- A login: why it is refused, and what it is told.
-use Rattle.std.specs.Prelude.{ℕ, suc, ◌+◌, ◌<◌, ◌≡◌, Bool, true, cond, ◌&&◌, List, [], ◌∷◌, ◌++◌, map, eqb, leb}
-use Rattle.std.proofs.Math.Option.{Option, none, some}
+use Rattle.std.specs.Prelude.{ℕ, suc, ◌+◌, ◌<◌, ◌≡◌, Bool, true, cond, ◌&&◌, List, [], ◌∷◌, ◌++◌, map, eqb, leb, Option, Some, None, is_some}
 use Rattle.protocol.specs.declared.LoginError.{LoginError}
 use Rattle.protocol.specs.declared.LoginError.TheVariants.{AlreadyLoggedIn}
 use Rattle.protocol.specs.declared.Outbound.TheVariants as Out
@@ -8,9 +7,9 @@ use Rattle.protocol.specs.declared.Report.{Report}
 use Rattle.protocol.specs.declared.ReportKind.TheVariants.{Rested}
 use Rattle.words.specs.Words.{int}
 use Rattle.table.specs.Live.{live}
-use Rattle.gateway.specs.Basics.{each, is_some}
+use Rattle.gateway.specs.Basics.{each}
 use Rattle.gateway.specs.Limits.{owner_slots, session_slots}
-use Rattle.gateway.specs.Ledger.{Order, price_option}
+use Rattle.gateway.specs.Ledger.{Order}
 use Rattle.gateway.specs.Rest.{Mail, send, Rest, session_at, session_of, account_of, is_present, update_session, set_account}
 use Rattle.gateway.specs.Core.{Core}
 use Rattle.gateway.specs.Entry.{wallet_at, balance, balance_to, open_order}
@@ -19,15 +18,10 @@ use Rattle.store.specs.Cells as C
 use Rattle.store.specs.View.{Row, Store, flag, side, order}
 use Rattle.sound.specs.Sound.{State}
 use Rattle.outcome.specs.Parts.{rest_of, heard}
-use Rattle.login.specs.declared.MaybeLoginError as E
-
-abbrev pub maybe_error : E.MaybeLoginError → Option LoginError
-maybe_error E.TheVariants.None = none
-maybe_error (E.TheVariants.Some why) = some why
 
 -- of an account that is known: whether a session is logged in for it
-abbrev pub session_error : Bool → E.MaybeLoginError
-session_error taken = cond taken (E.TheVariants.Some AlreadyLoggedIn) E.TheVariants.None
+abbrev pub session_error : Bool → Option LoginError
+session_error taken = cond taken (Some AlreadyLoggedIn) None
 
 -- ---- what an accepted login is told
 
@@ -45,7 +39,7 @@ logged s a t r = update_session s (set_account a) (heard s t r)
 
 -- an order of account a that is told: it has a price, and its command was delivered
 abbrev pub is_told : ℕ → ℕ → Order → Bool
-is_told a delivered o = (eqb o.account a && leb o.number delivered) && is_some (price_option o.price)
+is_told a delivered o = (eqb o.account a && leb o.number delivered) && is_some o.price
 
 abbrev pub told_rows : ℕ → ℕ → List Order → ℕ
 told_rows a delivered [] = 0
@@ -88,5 +82,5 @@ pub record Free (s a : ℕ) (xs : List ℕ) : Type 0 where
   pub slot : s < session_slots
   pub owner : a < owner_slots
   pub present : is_present (session_at s (rest_of xs)) ≡ true
-  pub nobody : account_of (session_at s (rest_of xs)) ≡ none
-  pub alone : session_of a (rest_of xs) ≡ none
+  pub nobody : account_of (session_at s (rest_of xs)) ≡ None
+  pub alone : session_of a (rest_of xs) ≡ None

@@ -3,10 +3,8 @@
 
 mod reports;
 
-ghost use Rattle.std.specs.Prelude.{◌≡◌, ◌+◌, ◌≤◌, ◌<◌, length};
-ghost use Rattle.std.proofs.Math.Option.{none};
+ghost use Rattle.std.specs.Prelude.{◌≡◌, ◌+◌, ◌≤◌, ◌<◌, length, is_some};
 ghost use Rattle.protocol.specs.declared.Inbound.TheVariants as In;
-ghost use Rattle.gateway.specs.Basics.{is_some};
 ghost use Rattle.gateway.specs.Limits.{owner_slots};
 ghost use Rattle.gateway.specs.Core.{account_at};
 ghost use Rattle.gateway.specs.Rest.{session_of, update_session, set_account};
@@ -22,18 +20,9 @@ ghost use Rattle.outcome.specs.Parts.{with_rest, rest_of, Sends, Posts, Tries, S
 ghost use Rattle.outcome.specs.Answers.{Gives, failed};
 ghost use Rattle.login.specs.Login as P;
 
-use balances::MaybeBalance;
-use outcome::Reply;
+use outcome::Refusal;
 use protocol::{LoginError, Outbound};
 use store::cells;
-
-// The protocol's version (VERSION).
-// Why a login is refused, if it is.
-#[derive(Clone, Copy)]
-pub enum MaybeLoginError {
-    None,
-    Some(LoginError),
-}
 
 // ---- judging
 
@@ -42,43 +31,37 @@ fn has_token(m: &[u8], a: usize, token: u64) -> bool
     requires { State m.now × (a < word (cell m.now) C.owner_limit) }
     ensures { result ≡ token_is token (account_at a (gateway (cell m.now)).core) }
 {
-    if clients::has_account(m, a) {
-        return store::get(m, store::ACCOUNTS, a, cells::ACCOUNT_TOKEN) == token;
-    }
-    false
+    clients::has_account(m, a) && store::get(m, store::ACCOUNTS, a, cells::ACCOUNT_TOKEN) == token
 }
 
 fn is_known(m: &[u8], account: u32, token: u64) -> bool
     requires { State m.now }
     ensures { result ≡ token_is token (account_at account (gateway (cell m.now)).core) }
 {
-    if (account as u64) < pending::header::word_at(m, cells::OWNER_LIMIT) {
-        return has_token(m, account as usize, token);
-    }
-    false
+    (account as u64) < pending::header::word_at(m, cells::OWNER_LIMIT)
+        && has_token(m, account as usize, token)
 }
 
-fn judge_session(m: &[u8], a: usize) -> MaybeLoginError
+fn judge_session(m: &[u8], a: usize) -> Option<LoginError>
     requires { State m.now × (a < owner_slots) }
     ensures { result ≡ P.session_error (is_some (session_of a (rest_of m.now))) }
 {
-    if clients::session_of(m, a) == 0 {
-        return MaybeLoginError::None;
-    }
-    MaybeLoginError::Some(LoginError::AlreadyLoggedIn)
+    clients::session_of(m, a)
+        .is_some()
+        .then_some(LoginError::AlreadyLoggedIn)
 }
 
-fn judge(m: &[u8], version: u16, account: u32, token: u64) -> MaybeLoginError
+fn judge(m: &[u8], version: u16, account: u32, token: u64) -> Option<LoginError>
     requires { State m.now }
-    ensures { P.maybe_error result ≡ failed (login_tests version account token (gateway (cell m.now)).core (rest_of m.now)) }
+    ensures { result ≡ failed (login_tests version account token (gateway (cell m.now)).core (rest_of m.now)) }
 {
     if version != protocol::VERSION {
-        return MaybeLoginError::Some(LoginError::UnsupportedVersion);
+        return Some(LoginError::UnsupportedVersion);
     }
     if is_known(m, account, token) {
         return judge_session(m, account as usize);
     }
-    MaybeLoginError::Some(LoginError::BadCredentials)
+    Some(LoginError::BadCredentials)
 }
 
 // ---- what a login is told
@@ -90,8 +73,8 @@ fn post_balance(m: &[u8], out: &mut [u8], i: usize, s: usize, a: usize) -> usize
 {
     let b = balances::balance_at(m, a);
     match b {
-        MaybeBalance::None => i,
-        MaybeBalance::Some(x) => {
+        None => i,
+        Some(x) => {
             mailbox::send(out, i, s, Outbound::Balance(x));
             i + 1
         }
@@ -147,19 +130,16 @@ fn enter(m: &mut [u8], s: usize, a: usize, time: u64, out: &mut [u8])
     outcome::stamp(m, s);
 }
 
-fn accept(m: &mut [u8], s: usize, a: usize, time: u64, out: &mut [u8]) -> Reply
+fn accept(m: &mut [u8], s: usize, a: usize, time: u64, out: &mut [u8]) -> Result<usize, Refusal>
     requires { Exact m.old × P.Free s a m.old }
     ensures { Tries (P.login_mail s a (gateway (cell m.old))) (P.logged s a time) result m.old m.new out.old out.new }
 {
     let n = count(m, a);
     if mailbox::room(out) < n {
-        return Reply {
-            code: outcome::TOO_SHORT,
-            count: 0,
-        };
+        return Err(Refusal::TooShort);
     }
     enter(m, s, a, time, out);
-    Reply { code: 0, count: n }
+    Ok(n)
 }
 
 pub fn login(
@@ -170,14 +150,14 @@ pub fn login(
     token: u64,
     time: u64,
     out: &mut [u8],
-) -> Reply
-    requires { Speaks s none m.old }
+) -> Result<usize, Refusal>
+    requires { Speaks s None m.old }
     ensures { Gives (call (gateway (cell m.old)) (receive_from s (In.Login version account token) time (places (length out.old)))) result m.old m.new out.old out.new }
 {
     let why = judge(m, version, account, token);
     match why {
-        MaybeLoginError::None => accept(m, s, account as usize, time, out),
-        MaybeLoginError::Some(reason) => {
+        None => accept(m, s, account as usize, time, out),
+        Some(reason) => {
             outcome::answer_last(m, s, time, Outbound::LoginRejected { reason }, out)
         }
     }

@@ -18,13 +18,7 @@ use store::cells;
 fn is_open(o: Live, number: u64, a: u64, delivered: u64) -> bool
     ensures { result ≡ (eqb o.account a && leb number delivered) && flag o.priced }
 {
-    if o.account != a {
-        return false;
-    }
-    if delivered < number {
-        return false;
-    }
-    o.priced != 0
+    o.account == a && number <= delivered && o.priced != 0
 }
 
 // Whether the row j holds a live order of account a that is told.
@@ -58,10 +52,8 @@ pub fn count(m: &[u8], a: u64) -> usize
     let size = pending::header::word_at(m, cells::ORDER_ROWS) as usize;
     let delivered = pending::header::word_at(m, cells::DELIVERED);
     let mut n: usize = 0;
-    let mut j: usize = 0;
-    while j < size {
+    for j in 0..size {
         n += rows(m, j, a, delivered);
-        j += 1;
     }
     n
 }
@@ -116,10 +108,8 @@ pub fn post(m: &[u8], out: &mut [u8], i: usize, s: usize, a: u64) -> usize
 {
     let size = pending::header::word_at(m, cells::ORDER_ROWS) as usize;
     let mut n = i;
-    let mut j: usize = 0;
-    while j < size {
+    for j in 0..size {
         n = post_row(m, out, n, s, a, j);
-        j += 1;
     }
     n
 }

@@ -1,4 +1,5 @@
 -- A row of mail read back: two pieces of mail with the same row are the same. Assumes nothing.
+use Rattle.std.specs.Prelude.{Option, Some, None}
 use Prim.Native.Nat.{ℕ}
 use mathlib.Core.Path.{◌≡◌, refl, sym, ap, ◌∙◌}
 use mathlib.Core.Bool.{cond}
@@ -12,8 +13,6 @@ use Rattle.orderbook.specs.declared.Side.{Side}
 use Rattle.orderbook.specs.declared.Side.TheVariants.{Buy}
 use Rattle.orderbook.specs.declared.Phase.{Phase}
 use Rattle.orderbook.specs.declared.Phase.TheVariants.{Continuous}
-use Rattle.orderbook.specs.declared.MaybePrice.{MaybePrice}
-use Rattle.orderbook.specs.declared.MaybePrice.TheVariants as P
 use Rattle.orderbook.specs.declared.RejectReason.{RejectReason}
 use Rattle.orderbook.specs.declared.RejectReason.TheVariants.{InvalidQuantity}
 use Rattle.orderbook.specs.declared.CancelReason.{CancelReason}
@@ -24,13 +23,6 @@ use Rattle.protocol.specs.declared.LogoutReason.{LogoutReason}
 use Rattle.protocol.specs.declared.LogoutReason.TheVariants.{Requested}
 use Rattle.protocol.specs.declared.RejectCode.{RejectCode}
 use Rattle.protocol.specs.declared.RejectCode.TheVariants.{Throttled}
-use Rattle.protocol.specs.declared.codes.MaybeSide as MSide
-use Rattle.protocol.specs.declared.codes.MaybePhase as MPhase
-use Rattle.protocol.specs.declared.codes.MaybeLoginError as MLogin
-use Rattle.protocol.specs.declared.codes.MaybeLogoutReason as MLogout
-use Rattle.protocol.specs.declared.codes.MaybeRejectCode as MReject
-use Rattle.protocol.specs.declared.codes.MaybeRejectReason as MReason
-use Rattle.protocol.specs.declared.codes.MaybeCancelReason as MCancel
 use Rattle.protocol.specs.declared.Outbound.{Outbound}
 use Rattle.protocol.specs.declared.Outbound.TheVariants as Out
 use Rattle.protocol.specs.declared.ReportKind.{ReportKind}
@@ -45,33 +37,33 @@ use Rattle.mailbox.specs.Mailbox.{report_cells, message_cells, mail_row, KindFit
 
 -- ---- fields: the case of a code, or some case for a number that is none's
 
-abbrev side_in : MSide.MaybeSide → Side
-side_in (MSide.TheVariants.Some a) = a
-side_in MSide.TheVariants.None = Buy
+abbrev side_in : Option Side → Side
+side_in (Some a) = a
+side_in None = Buy
 
-abbrev phase_in : MPhase.MaybePhase → Phase
-phase_in (MPhase.TheVariants.Some a) = a
-phase_in MPhase.TheVariants.None = Continuous
+abbrev phase_in : Option Phase → Phase
+phase_in (Some a) = a
+phase_in None = Continuous
 
-abbrev login_in : MLogin.MaybeLoginError → LoginError
-login_in (MLogin.TheVariants.Some a) = a
-login_in MLogin.TheVariants.None = BadCredentials
+abbrev login_in : Option LoginError → LoginError
+login_in (Some a) = a
+login_in None = BadCredentials
 
-abbrev logout_in : MLogout.MaybeLogoutReason → LogoutReason
-logout_in (MLogout.TheVariants.Some a) = a
-logout_in MLogout.TheVariants.None = Requested
+abbrev logout_in : Option LogoutReason → LogoutReason
+logout_in (Some a) = a
+logout_in None = Requested
 
-abbrev reject_in : MReject.MaybeRejectCode → RejectCode
-reject_in (MReject.TheVariants.Some a) = a
-reject_in MReject.TheVariants.None = Throttled
+abbrev reject_in : Option RejectCode → RejectCode
+reject_in (Some a) = a
+reject_in None = Throttled
 
-abbrev reason_in : MReason.MaybeRejectReason → RejectReason
-reason_in (MReason.TheVariants.Some a) = a
-reason_in MReason.TheVariants.None = InvalidQuantity
+abbrev reason_in : Option RejectReason → RejectReason
+reason_in (Some a) = a
+reason_in None = InvalidQuantity
 
-abbrev cancel_in : MCancel.MaybeCancelReason → CancelReason
-cancel_in (MCancel.TheVariants.Some a) = a
-cancel_in MCancel.TheVariants.None = NoLiquidity
+abbrev cancel_in : Option CancelReason → CancelReason
+cancel_in (Some a) = a
+cancel_in None = NoLiquidity
 
 -- ---- a report's kind from its cells, and mail from its row
 
@@ -115,9 +107,9 @@ mail_of r = cond (eqb (get_or r 1 0) 0) (close (get_or r 0 0)) (send (get_or r 0
 
 -- ---- what was written is read back
 
-price_back : (l : MaybePrice) → PriceFits l → price_from (price_flag l) (price_word l) ≡ l
-price_back P.None f = refl
-price_back (P.Some p) f = ap P.Some (word_back p f)
+price_back : (l : Option ℤ) → PriceFits l → price_from (price_flag l) (price_word l) ≡ l
+price_back None f = refl
+price_back (Some p) f = ap Some (word_back p f)
 
 report_back : (s n i ref : ℕ) (k : ReportKind) → KindFits k →
     mail_of (mail_row (send s (Out.Report (record { seq = n; order_id = i; client_ref = ref; kind = k })))) ≡ send s (Out.Report (record { seq = n; order_id = i; client_ref = ref; kind = k }))

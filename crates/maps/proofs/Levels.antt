@@ -1,15 +1,13 @@
 -- What the calls of levels answer, from what the functions below them ensure. Assumes nothing.
+use Rattle.std.specs.Prelude.{Option, Some, None}
 use mathlib.Core.Path.{◌≡◌, refl, sym, ap, ◌∙◌}
 use mathlib.Core.Bool.{Bool, true, false, and-false, and-eq-true_iff}
 use mathlib.Core.List.{List}
-use mathlib.Core.Option.{Option, none, some}
 use Prim.Native.Nat.{ℕ, ◌+◌, ◌-◌, ◌≤◌, ◌<◌}
 use native.Mathlib.Omega.{arith}
 use borrow.Author.Rules.{rules}
 use borrow.Author.Tests.{lt-ltb, le-ltb, le-leb, lt-leb, ltb-true, leb-true}
 use lib.Dec.{leb, ltb}
-use Rattle.table.specs.declared.Found.{Found}
-use Rattle.table.specs.declared.Found.TheVariants.{At, Nothing}
 use Rattle.orderbook.specs.declared.Side.{Side}
 use Rattle.words.specs.Words.{modulus}
 use Rattle.gateway.specs.Basics.{option}
@@ -23,22 +21,22 @@ use Rattle.maps.proofs.Entering.{does, refuses, zero_then, table_of}
 
 -- ---- a level
 
-pub qty_is : (xs : List ℕ) (s : Side) (k : ℕ) (f : Found) (i : ℕ) (r : Row) → L.Finds s xs k f → f ≡ At i → r ≡ L.row s (cell xs) i →
+pub qty_is : (xs : List ℕ) (s : Side) (k : ℕ) (f : Option ℕ) (i : ℕ) (r : Row) → L.Finds s xs k f → f ≡ Some i → r ≡ L.row s (cell xs) i →
     r.qty ≡ option 0 (λ l. l.qty) (level_of s k xs)
-qty_is xs s k f i r h e q = let g : L.Finds s xs k (At i) = rw e at h in rw g.1 (ap (λ (x : Row). x.qty) q)
+qty_is xs s k f i r h e q = let g : L.Finds s xs k (Some i) = rw e at h in rw g.1 (ap (λ (x : Row). x.qty) q)
 
-pub qty_none : (xs : List ℕ) (s : Side) (k : ℕ) (f : Found) → L.Finds s xs k f → f ≡ Nothing → 0 ≡ option 0 (λ l. l.qty) (level_of s k xs)
-qty_none xs s k f h e = let g : L.Finds s xs k Nothing = rw e at h in rw g refl
+pub qty_none : (xs : List ℕ) (s : Side) (k : ℕ) (f : Option ℕ) → L.Finds s xs k f → f ≡ None → 0 ≡ option 0 (λ l. l.qty) (level_of s k xs)
+qty_none xs s k f h e = let g : L.Finds s xs k None = rw e at h in rw g refl
 
-pub level_inside : (xs : List ℕ) (s : Side) (k : ℕ) (f : Found) (i : ℕ) → L.Table s xs → L.Finds s xs k f → f ≡ At i → i < 512
-level_inside xs s k f i t h e = let g : L.Finds s xs k (At i) = rw e at h in omega (arith, g.0, t.few)
+pub level_inside : (xs : List ℕ) (s : Side) (k : ℕ) (f : Option ℕ) (i : ℕ) → L.Table s xs → L.Finds s xs k f → f ≡ Some i → i < 512
+level_inside xs s k f i t h e = let g : L.Finds s xs k (Some i) = rw e at h in omega (arith, g.0, t.few)
 
 module _ (xs : List ℕ) (s : Side) (i k : ℕ) (b : Bool) (h : L.IsAt s xs i k b) where
   pub place_inside : L.Table s xs → b ≡ true → i < 512
   place_inside t e = let g : L.IsAt s xs i k true = rw e at h in omega (arith, g.0, t.few)
 
   module _ (e : b ≡ false) where
-    none_is : level_of s k xs ≡ none
+    none_is : level_of s k xs ≡ None
     none_is = rw e at h
 
     pub join_new : {n : ℕ} (v : ℕ) → n ≡ L.size s (cell xs) → n < most_levels → 0 ≡ join_code (L.size s (cell xs)) v (level_of s k xs)
@@ -58,8 +56,8 @@ module _ (xs : List ℕ) (s : Side) (i k : ℕ) (b : Bool) (h : L.IsAt s xs i k 
     leave_none v = (rw none_is refl, λ z. absurd (omega arith))
 
   module _ (e : b ≡ true) (r : Row) (q : r ≡ L.row s (cell xs) i) where
-    some_is : level_of s k xs ≡ some r
-    some_is = let g : L.IsAt s xs i k true = rw e at h in g.1 ∙ ap some (sym q)
+    some_is : level_of s k xs ≡ Some r
+    some_is = let g : L.IsAt s xs i k true = rw e at h in g.1 ∙ ap Some (sym q)
 
     module _ (n v : ℕ) where
       pub join_fits : r.qty + v < modulus → r.orders + 1 < modulus → 0 ≡ join_code n v (level_of s k xs)
@@ -100,15 +98,15 @@ module _ (xs : List ℕ) (s : Side) (i k : ℕ) (b : Bool) (h : L.IsAt s xs i k 
 
 pub can_join : (n v : ℕ) (o : Option Row) {c : ℕ} → c ≡ join_code n v o → c ≡ 0 → L.CanAdd n v o
 unfolding join_code
-can_join n v none e z = ltb-true n most_levels (zero_then (ltb n most_levels) 0 4 (sym e ∙ z)).0
-can_join n v (some r) e z =
+can_join n v None e z = ltb-true n most_levels (zero_then (ltb n most_levels) 0 4 (sym e ∙ z)).0
+can_join n v (Some r) e z =
     let t = (and-eq-true_iff (ltb (r.qty + v) modulus) (ltb (r.orders + 1) modulus)).0 (zero_then _ 0 6 (sym e ∙ z)).0 in
     (ltb-true (r.qty + v) modulus t.0, ltb-true (r.orders + 1) modulus t.1)
 
 pub can_show : (v w : ℕ) (o : Option Row) {c : ℕ} → c ≡ show_code v w o → c ≡ 0 → L.CanShow v w o
 unfolding show_code
-can_show v w none e z = absurd (omega (arith, e, z))
-can_show v w (some r) e z =
+can_show v w None e z = absurd (omega (arith, e, z))
+can_show v w (Some r) e z =
     let t = zero_then (leb v r.qty) _ 7 (sym e ∙ z) in
     (leb-true v r.qty t.0, λ _. ltb-true (r.qty - v + w) modulus (zero_then (ltb (r.qty - v + w) modulus) 0 6 t.1).0)
 

@@ -1,4 +1,5 @@
 -- What the calls of orders answer, from what the functions below them ensure. Assumes nothing.
+use Rattle.std.specs.Prelude.{Option, Some, None}
 use mathlib.Core.Path.{◌≡◌, refl, sym, ap, ◌∙◌}
 use mathlib.Core.Bool.{Bool, true, false}
 use mathlib.Core.List.{List}
@@ -12,8 +13,6 @@ use borrow.Author.Tests.{lt-ltb, le-ltb, ltb-true}
 use lib.Dec.{ltb}
 use lib.ListN.{length}
 use Rattle.table.specs.Live.{look}
-use Rattle.table.specs.declared.Found.{Found}
-use Rattle.table.specs.declared.Found.TheVariants.{At, Nothing}
 use Rattle.gateway.specs.Basics.{option}
 use Rattle.gateway.specs.Ledger.{number_of}
 use Rattle.store.specs.Cells as C
@@ -32,11 +31,11 @@ use Rattle.maps.proofs.Entering.{does, refuses, zero_then}
 
 -- ---- a live order
 
-abbrev Live_at : List ℕ → ℕ → Found → Type 0
+abbrev Live_at : List ℕ → ℕ → Option ℕ → Type 0
 Live_at xs n f = Sees C.order_live order number_of (cell xs) n f
 
-module _ (xs : List ℕ) (n : ℕ) (f : Found) (i : ℕ) (s : Live_at xs n f) (e : f ≡ At i) where
-  at_i : Live_at xs n (At i)
+module _ (xs : List ℕ) (n : ℕ) (f : Option ℕ) (i : ℕ) (s : Live_at xs n f) (e : f ≡ Some i) where
+  at_i : Live_at xs n (Some i)
   at_i = rw e at s
 
   pub row_inside : Stands xs → i < order_room
@@ -57,8 +56,8 @@ module _ (xs : List ℕ) (n : ℕ) (f : Found) (i : ℕ) (s : Live_at xs n f) (e
   pub removed_at : {ys : List ℕ} → Stands xs → Is ys (retire i (cell xs)) → Done retire xs ys n (i + 1) × Lent ys
   removed_at r q = (rw (add-one i) (record { sees = at_i; is = q }), record { stands = λ _. remove_stands r i at_i.row.0 at_i.row.2 q })
 
-module _ (xs : List ℕ) (n : ℕ) (f : Found) (s : Live_at xs n f) (e : f ≡ Nothing) where
-  at_none : Live_at xs n Nothing
+module _ (xs : List ℕ) (n : ℕ) (f : Option ℕ) (s : Live_at xs n f) (e : f ≡ None) where
+  at_none : Live_at xs n None
   at_none = rw e at s
 
   pub leaves_none : 0 ≡ option 0 (λ o. o.leaves) (look number_of n (ledger (cell xs)).orders)

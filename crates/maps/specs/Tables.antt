@@ -1,11 +1,8 @@
 -- What stands in the bytes between the calls, and what a call gives: its code, and what is done where that is 0. A refusal changes nothing.
-use Rattle.std.specs.Prelude.{ℕ, zero, suc, ◌+◌, ◌*◌, ◌-◌, ◌≡◌, Bool, true, cond, ◌&&◌, List, eqb, leb, ltb, length}
-use Rattle.std.proofs.Math.Option.{Option, none, some}
+use Rattle.std.specs.Prelude.{ℕ, zero, suc, ◌+◌, ◌*◌, ◌-◌, ◌≡◌, Bool, true, cond, ◌&&◌, List, eqb, leb, ltb, length, Option, Some, None}
 use Rattle.orderbook.specs.declared.Side.{Side}
 use Rattle.words.specs.Words.{modulus}
 use Rattle.table.specs.Live.{look}
-use Rattle.table.specs.declared.Found.{Found}
-use Rattle.table.specs.declared.Found.TheVariants.{At, Nothing}
 use Rattle.gateway.specs.Limits.{most_levels, sequence, full, outside, inconsistent, malformed}
 use Rattle.gateway.specs.Ledger.{number_of}
 use Rattle.store.specs.Cells as C
@@ -58,18 +55,18 @@ level_of z k xs = look L.key k (L.entries z (cell xs))
 
 -- an order that shows v comes to the level that was found, where there are n: 5 for one level more than fits, 7 for a sum that does not
 unfoldable pub join_code : ℕ → ℕ → Option Row → ℕ
-join_code n v none = cond (ltb n most_levels) 0 full
-join_code n v (some r) = cond (ltb (r.qty + v) modulus && ltb (r.orders + 1) modulus) 0 outside
+join_code n v None = cond (ltb n most_levels) 0 full
+join_code n v (Some r) = cond (ltb (r.qty + v) modulus && ltb (r.orders + 1) modulus) 0 outside
 
 -- an order there that showed v shows w: 8 where no such order can be there, 7 for a sum that does not fit
 unfoldable pub show_code : ℕ → ℕ → Option Row → ℕ
-show_code v w none = inconsistent
-show_code v w (some r) = cond (leb v r.qty) (cond (ltb (r.qty - v + w) modulus) 0 outside) inconsistent
+show_code v w None = inconsistent
+show_code v w (Some r) = cond (leb v r.qty) (cond (ltb (r.qty - v + w) modulus) 0 outside) inconsistent
 
 -- an order there that showed v goes
 unfoldable pub leave_code : ℕ → Option Row → ℕ
-leave_code v none = inconsistent
-leave_code v (some r) = cond (leb v r.qty) 0 inconsistent
+leave_code v None = inconsistent
+leave_code v (Some r) = cond (leb v r.qty) 0 inconsistent
 
 -- ---- answers
 
@@ -88,14 +85,14 @@ abbrev pub answer : ℕ → ℕ → Answer
 answer code n = record { code = code; number = cond (eqb code 0) n 0 }
 
 -- a row that was found, or none, goes out as a number: one more than the row, or 0
-abbrev pub row_of : ℕ → Found
-row_of zero = Nothing
-row_of (suc i) = At i
+abbrev pub row_of : ℕ → Option ℕ
+row_of zero = None
+row_of (suc i) = Some i
 
 -- f of the row that was found
-abbrev pub at_row : (ℕ → Store → Store) → Found → Store → Store
-at_row f (At i) s = f i s
-at_row f Nothing s = s
+abbrev pub at_row : (ℕ → Store → Store) → Option ℕ → Store → Store
+at_row f (Some i) s = f i s
+at_row f None s = s
 
 -- r is the row of the live order n, and f was done to it
 pub record Done (f : ℕ → Store → Store) (xs ys : List ℕ) (n r : ℕ) : Type 0 where

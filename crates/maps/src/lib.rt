@@ -16,7 +16,6 @@ ghost use Rattle.maps.specs.Tables as P;
 use orderbook::Side;
 use orders::Live;
 use store::{cells, limits};
-use table::Found;
 
 const SEQUENCE: u64 = 4;
 
@@ -68,8 +67,8 @@ fn leaves_of(m: &[u8], number: u64) -> u64
     ensures { result ≡ option 0 (λ o. o.leaves) (look number_of number (ledger (cell m.now)).orders) }
 {
     match orders::find_live(m, number) {
-        Found::At(i) => orders::live_at(m, i).leaves,
-        Found::Nothing => 0,
+        Some(i) => orders::live_at(m, i).leaves,
+        None => 0,
     }
 }
 
@@ -173,11 +172,11 @@ fn change(m: &mut [u8], number: u64, leaves: u64, hold: u64) -> u64
     ensures { P.Done (λ i. set_leaves i leaves hold) m.old m.new number result × P.Lent m.new }
 {
     match orders::find_live(m, number) {
-        Found::At(i) => {
+        Some(i) => {
             orders::set_leaves(m, i, leaves, hold);
             i as u64 + 1
         }
-        Found::Nothing => 0,
+        None => 0,
     }
 }
 
@@ -203,11 +202,11 @@ fn remove(m: &mut [u8], number: u64) -> u64
     ensures { P.Done retire m.old m.new number result × P.Lent m.new }
 {
     match orders::find_live(m, number) {
-        Found::At(i) => {
+        Some(i) => {
             orders::retire(m, i);
             i as u64 + 1
         }
-        Found::Nothing => 0,
+        None => 0,
     }
 }
 
@@ -236,8 +235,8 @@ fn shown(m: &[u8], s: Side, key: u64) -> u64
     ensures { result ≡ option 0 (λ l. l.qty) (P.level_of s key m.now) }
 {
     match levels::find(m, s, key) {
-        Found::At(i) => levels::read_row(m, s, i).qty,
-        Found::Nothing => 0,
+        Some(i) => levels::read_row(m, s, i).qty,
+        None => 0,
     }
 }
 

@@ -1,16 +1,14 @@
 -- Events: what happens to an order where it rests. Assumes nothing.
+use Rattle.std.specs.Prelude.{Option, Some, None, is_some}
 use mathlib.Core.Path.{◌≡◌, refl, sym, ap, subst, ◌∙◌}
 use mathlib.Core.Bool.{true, cond}
 use mathlib.Core.List.{List, [], ◌∷◌, ◌++◌}
-use mathlib.Core.Option.{Option, none, some}
 use Prim.Native.Nat.{ℕ, ◌-◌, ◌≤◌, ◌<◌}
 use native.Mathlib.Omega.{arith}
 use borrow.Author.Tests.{leb-true}
 use lib.Dec.{eqb, leb}
 use lib.ListN.{length, length-append}
-use Rattle.table.specs.declared.Found.{Found}
-use Rattle.table.specs.declared.Found.TheVariants.{At, Nothing}
-use Rattle.gateway.specs.Basics.{option, is_some}
+use Rattle.gateway.specs.Basics.{option}
 use Rattle.gateway.specs.Depth as D
 use Rattle.gateway.proofs.Base.{split}
 use Rattle.gateway.proofs.Sorted.{look_key, look_without, look_replace}
@@ -28,11 +26,11 @@ use Rattle.marketdata.specs.Marketdata.{with_depth, resting_at, Roomy, Judged, C
 -- ---- where the order rests
 
 -- what a lookup sees
-abbrev pub Seen : List ℕ → ℕ → Found → Type 0
+abbrev pub Seen : List ℕ → ℕ → Option ℕ → Type 0
 Seen xs n r = Sees C.order_resting resting D.resting_number (cell xs) n r
 
-module _ (xs : List ℕ) (n i : ℕ) (s : State xs) (r : Found) (seen : Seen xs n r) (found : r ≡ At i) where
-  e : Seen xs n (At i)
+module _ (xs : List ℕ) (n i : ℕ) (s : State xs) (r : Option ℕ) (seen : Seen xs n r) (found : r ≡ Some i) where
+  e : Seen xs n (Some i)
   e = rw found at seen
 
   pub read_asks : Holds xs × (i < order_room)
@@ -59,10 +57,10 @@ module _ (xs : List ℕ) (n i : ℕ) (s : State xs) (r : Found) (seen : Seen xs 
       rw w (leb-true q (resting_at i (cell xs)).visible t)
 
 -- where it does not, nothing happens
-pub nothing_becomes : (xs : List ℕ) (n : ℕ) → State xs → (r : Found) → Seen xs n r → r ≡ Nothing → (f : D.Resting → D.Depth → D.Depth) →
+pub nothing_becomes : (xs : List ℕ) (n : ℕ) → State xs → (r : Option ℕ) → Seen xs n r → r ≡ None → (f : D.Resting → D.Depth → D.Depth) →
     InPlace xs xs (with_depth (D.where_resting n f) (gateway (cell xs)))
 nothing_becomes xs n s r seen absent f =
-    let e : Seen xs n Nothing = rw absent at seen in
+    let e : Seen xs n None = rw absent at seen in
     subst (λ (d : D.Depth). InPlace xs xs (with_depth (λ _. d) (gateway (cell xs)))) (sym (ap (option (depth (cell xs)) (λ o. f o (depth (cell xs)))) e.order))
     (record { becomes = record { state = s; gateway_is = refl }; stays = stays_same (cell xs) })
 
@@ -88,8 +86,8 @@ fill_where : (n q v : ℕ) (d : D.Depth) → Fill n d (D.where_resting n (D.fill
 fill_where n q v d = go (D.find_resting n d.resting) refl
   where
     go : (x : Option D.Resting) → D.find_resting n d.resting ≡ x → Fill n d (option d (λ o. D.filled q v o d) x)
-    go none e = record { others = λ k h. refl; grows = omega arith }
-    go (some o) e = fill_is n q v o d (look_key D.resting_number n o d.resting e)
+    go None e = record { others = λ k h. refl; grows = omega arith }
+    go (Some o) e = fill_is n q v o d (look_key D.resting_number n o d.resting e)
 
 module _ {d : D.Depth} (taker maker q tl ml : ℕ) (c : CanTrade taker maker q tl ml d) where
   abbrev half : D.Depth
@@ -107,7 +105,7 @@ module _ {d : D.Depth} (taker maker q tl ml : ℕ) (c : CanTrade taker maker q t
 
 module _ (xs : List ℕ) (taker maker q tl ml : ℕ) (c : CanTrade taker maker q tl ml (depth (cell xs))) {ys : List ℕ} (b : InPlace xs ys (with_depth (D.where_resting maker (D.filled q ml)) (gateway (cell xs)))) where
   -- the maker's fill leaves the taker where it is
-  pub taker_asks : (at : Found) → Seen xs taker at → State ys × Seen ys taker at × CanFill taker q tl (depth (cell ys))
+  pub taker_asks : (at : Option ℕ) → Seen xs taker at → State ys × Seen ys taker at × CanFill taker q tl (depth (cell ys))
   taker_asks at h = (
     b.becomes.state,
     seen_resting b taker at (ap is_some ((fill_where maker q ml (depth (cell xs))).others taker c.two)) h,

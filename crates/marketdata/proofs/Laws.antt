@@ -1,8 +1,9 @@
 -- The laws by which the functions meet their contracts, in the order of their calls. Assumes nothing.
+use Rattle.std.proofs.Math.Nat.{min-le_left}
 use mathlib.Core.Path.{◌≡◌, refl, sym, ap, ap₂, subst, ◌∙◌}
 use mathlib.Core.Bool.{Bool, true, false, cond}
 use mathlib.Core.List.{List}
-use Prim.Native.Nat.{ℕ, ◌-◌, ◌≤◌, ◌<◌}
+use Prim.Native.Nat.{ℕ, ◌-◌, ◌≤◌, ◌<◌, min}
 use native.Mathlib.Omega.{arith}
 use borrow.Author.Tests.{eq-eqb, ne_eqb, lt-ltb, le-leb, lt-leb}
 use lib.Dec.{leb}
@@ -32,7 +33,6 @@ use Rattle.orders.specs.Orders.{Stays, number_at, resting_of}
 use Rattle.orders.proofs.Kept.{stays_same, stays_then}
 use Rattle.pending.specs.Pending.{key}
 use Rattle.gateway.proofs.AtPrice.{level_fits, few_parts}
-use Rattle.gateway.proofs.Depths.{lesser_le}
 use Rattle.marketdata.proofs.Steps.{remember_sound}
 use Rattle.sound.proofs.Listed.{side_table}
 use Rattle.marketdata.proofs.Resting.{level_can, gone_can, gone_done, show_can, showed_can, showed_done}
@@ -149,12 +149,6 @@ module _ (p v x n : ℕ) where
     pub other_left : p < modulus → x < modulus → (p ≡ x → ⊥) → false ≡ stays (int p) v (int x) n
     other_left h k ne = sym (rw (lt-ltb 0 v (omega (arith, some)), ← same_price_is p x h k, ne_eqb p x ne) refl)
 
-pub lesser_first : (a b : ℕ) → a ≤ b → a ≡ D.lesser a b
-lesser_first a b h = sym (rw (le-leb a b h) refl)
-
-pub lesser_second : (a b : ℕ) → b < a → b ≡ D.lesser a b
-lesser_second a b h = sym (rw (lt-leb a b h) refl)
-
 -- ---- what happens to it
 
 module _ (xs : List ℕ) (i : ℕ) (o : Resting) (a : At i o (cell xs)) where
@@ -198,15 +192,15 @@ module _ (xs : List ℕ) (i : ℕ) (o : Resting) (a : At i o (cell xs)) where
     abbrev stay : Bool
     stay = stays (int p) v (int o.price) o.leaves
 
-    modified_is : (b : Bool) → b ≡ stay → (x : D.Depth) → D.modified (int p) v it x ≡ cond b (D.show (D.showing (D.lesser o.visible v) v it) x) (D.take_off it x)
+    modified_is : (b : Bool) → b ≡ stay → (x : D.Depth) → D.modified (int p) v it x ≡ cond b (D.show (D.showing (min o.visible v) v it) x) (D.take_off it x)
     modified_is b e x =
-        ap (λ (y : Resting). cond (stays (int p) v (int y.price) y.leaves) (D.show (D.showing (D.lesser y.visible v) v it) x) (D.take_off it x)) (sym a.is)
-        ∙ ap (λ c. cond c (D.show (D.showing (D.lesser o.visible v) v it) x) (D.take_off it x)) (sym e)
+        ap (λ (y : Resting). cond (stays (int p) v (int y.price) y.leaves) (D.show (D.showing (min y.visible v) v it) x) (D.take_off it x)) (sym a.is)
+        ∙ ap (λ c. cond c (D.show (D.showing (min o.visible v) v it) x) (D.take_off it x)) (sym e)
 
-    pub modify_show_asks : (w : ℕ) (b : Bool) → b ≡ stay → b ≡ true → w ≡ D.lesser o.visible v → Roomy (D.modified (int p) v it d) → CanShow o.visible (D.showing w v it) d
-    modify_show_asks w b e t q h = rw q (record { fits = λ l. absurd (omega (arith, lesser_le o.visible v)); room = rw (modified_is true (sym t ∙ e) d) at h })
+    pub modify_show_asks : (w : ℕ) (b : Bool) → b ≡ stay → b ≡ true → w ≡ min o.visible v → Roomy (D.modified (int p) v it d) → CanShow o.visible (D.showing w v it) d
+    modify_show_asks w b e t q h = rw q (record { fits = λ l. absurd (omega (arith, min-le_left o.visible v)); room = rw (modified_is true (sym t ∙ e) d) at h })
 
-    pub modify_show_done : {ys : List ℕ} (w : ℕ) (b : Bool) → b ≡ stay → b ≡ true → w ≡ D.lesser o.visible v → InPlace xs ys (with_depth (D.show (D.showing w v it)) (gateway (cell xs))) →
+    pub modify_show_done : {ys : List ℕ} (w : ℕ) (b : Bool) → b ≡ stay → b ≡ true → w ≡ min o.visible v → InPlace xs ys (with_depth (D.show (D.showing w v it)) (gateway (cell xs))) →
         InPlace xs ys (with_depth (D.modified (int p) v it) (gateway (cell xs)))
     modify_show_done {ys} w b e t q h =
         subst (λ (x : D.Depth). InPlace xs ys (with_depth (λ _. x) (gateway (cell xs)))) (ap (λ w. D.show (D.showing w v it) d) q ∙ sym (modified_is true (sym t ∙ e) d)) h
@@ -273,4 +267,4 @@ module _ {xs : List ℕ} (s : State xs) (n : ℕ) (o : Resting) (c : CanAdd (res
     unfolding D.add
     add_done e = remembered xs (insert D.resting_number r'') b (key o.side o.price) e
 
-pub ruleset laws = (remember_done, levels_remove_asks, take_off_asks, strike_done, levels_show_asks, show_asks, reshow_done, off_asks, remove_done, shown_asks, show_done, fill_off_asks, fill_off_done, fill_show_asks, fill_show_done, replenish_asks, replenish_done, modify_show_asks, modify_show_done, modify_off_asks, modify_off_done, none_left, same_left, other_left, lesser_first, lesser_second, arith)
+pub ruleset laws = (remember_done, levels_remove_asks, take_off_asks, strike_done, levels_show_asks, show_asks, reshow_done, off_asks, remove_done, shown_asks, show_done, fill_off_asks, fill_off_done, fill_show_asks, fill_show_done, replenish_asks, replenish_done, modify_show_asks, modify_show_done, modify_off_asks, modify_off_done, none_left, same_left, other_left, arith)

@@ -1,15 +1,13 @@
 -- A row for an order that comes: one that bears its number, or a new one between the others. The gateway stays. Assumes nothing.
+use Rattle.std.specs.Prelude.{Option, Some, None}
 use mathlib.Core.Path.{◌≡◌, refl, sym, ap, ◌∙◌, subst}
 use mathlib.Core.Logic.{⊎_elim}
 use mathlib.Core.Bool.{Bool, true, false}
 use mathlib.Core.List.{List}
-use mathlib.Core.Option.{none, some}
 use Prim.Native.Nat.{ℕ, ◌+◌, ◌≤◌, ◌<◌}
 use native.Mathlib.Omega.{arith}
 use Rattle.le.proofs.Laws.{lt_or_le}
 use Rattle.table.proofs.Live.{same?}
-use Rattle.table.specs.declared.Found.{Found}
-use Rattle.table.specs.declared.Found.TheVariants.{At}
 use Rattle.gateway.specs.Depth as D
 use Rattle.gateway.specs.Ledger.{number_of}
 use Rattle.words.specs.Words.{int}
@@ -29,7 +27,7 @@ use Rattle.marketdata.proofs.Steps.{beyond_same, Beyond, Rows, follows_itself, o
 -- ---- a row that bears the number
 
 -- no order rests there where none of the number rests
-pub free_row : {xs : List ℕ} (s : State xs) (n i : ℕ) → D.find_resting n (depth (cell xs)).resting ≡ none → i < word (cell xs) C.order_rows → cell xs C.orders i C.order_number ≡ n →
+pub free_row : {xs : List ℕ} (s : State xs) (n i : ℕ) → D.find_resting n (depth (cell xs)).resting ≡ None → i < word (cell xs) C.order_rows → cell xs C.orders i C.order_number ≡ n →
     Free i n (cell xs)
 free_row {xs} s n i a h e =
     record {
@@ -39,7 +37,7 @@ free_row {xs} s n i a h e =
           ⊎_elim (λ (q : cell xs C.orders i C.order_resting ≡ 0). q)
           (λ ne.
           let t = resting_at (cell xs) i s.sound.tables.ordered h (omega (arith, ne)) in
-          let b : none ≡ some _ = sym a ∙ ap (λ m. D.find_resting m (depth (cell xs)).resting) (sym e) ∙ t in
+          let b : None ≡ Some _ = sym a ∙ ap (λ m. D.find_resting m (depth (cell xs)).resting) (sym e) ∙ t in
           let z : ◌≡◌ {A = ℕ} 0 1 = cc in absurd (omega (arith, z)))
           (same? (cell xs C.orders i C.order_resting) 0);
     }
@@ -49,8 +47,8 @@ module _ (xs : List ℕ) (n i : ℕ) (s : State xs) (c : CanOpen n (cell xs)) wh
   bearing h e = record { same = record { state = s; gateway_is = refl }; free = free_row s n i c.absent h e }
 
   -- that of a live order, or a tombstone
-  pub live_opens : (r : Found) → Sees C.order_live order number_of (cell xs) n r → r ≡ At i → Opens xs xs n i
-  live_opens r e q = let f : Sees C.order_live order number_of (cell xs) n (At i) = rw q at e in bearing f.row.0 f.row.1
+  pub live_opens : (r : Option ℕ) → Sees C.order_live order number_of (cell xs) n r → r ≡ Some i → Opens xs xs n i
+  live_opens r e q = let f : Sees C.order_live order number_of (cell xs) n (Some i) = rw q at e in bearing f.row.0 f.row.1
 
   pub dead_opens : (r : Bool) → Bears i n (cell xs) r → r ≡ true → Opens xs xs n i
   dead_opens r e q = let f : Bears i n (cell xs) true = rw q at e in bearing f.0 f.1

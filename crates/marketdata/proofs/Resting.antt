@@ -1,9 +1,9 @@
 -- A resting order goes, or shows something else: its level and its row follow, and the state stays sound. Assumes nothing.
+use Rattle.std.specs.Prelude.{Option, Some, None}
 use mathlib.Core.Path.{◌≡◌, refl, sym, ap, ap₂, subst, ◌∙◌}
 use mathlib.Core.Logic.{⊎_elim}
 use mathlib.Core.Bool.{false, cond}
 use mathlib.Core.List.{List}
-use mathlib.Core.Option.{Option, none, some}
 use Prim.Native.Nat.{ℕ, ◌-◌, ◌≤◌, ◌<◌}
 use native.Mathlib.Omega.{arith}
 use Rattle.orderbook.specs.declared.Side.{Side}
@@ -89,7 +89,7 @@ module _ {xs : List ℕ} (s : State xs) (i : ℕ) (inside : i < word (cell xs) C
   asc : Rises D.resting_number 0 os
   asc = resting_rises (cell xs) ordered.sorted
 
-  there : look D.resting_number r.number os ≡ some r
+  there : look D.resting_number r.number os ≡ Some r
   there = resting_at (cell xs) i ordered inside rests
 
   module _ (k : ℕ) (e : r.price ≡ price k) where
@@ -107,15 +107,15 @@ module _ {xs : List ℕ} (s : State xs) (i : ℕ) (inside : i < word (cell xs) C
     level_can = go found (let h = level_shows z r os asc there (same_mine z) in rw level_is at h)
       where
         go : (x : Option LRow.Row) → (r.visible ≤ (level_of k x).qty) × (0 < (level_of k x).orders) → CanRemove r.visible x
-        go none h = omega (arith, h.1)
-        go (some x) h = h
+        go None h = omega (arith, h.1)
+        go (Some x) h = h
 
-    level_row : (x : LRow.Row) × (found ≡ some x)
+    level_row : (x : LRow.Row) × (found ≡ Some x)
     level_row = go found refl level_can
       where
-        go : (y : Option LRow.Row) → found ≡ y → CanRemove r.visible y → (x : LRow.Row) × (found ≡ some x)
-        go none q h = absurd h
-        go (some x) q h = (x, q)
+        go : (y : Option LRow.Row) → found ≡ y → CanRemove r.visible y → (x : LRow.Row) × (found ≡ Some x)
+        go None q h = absurd h
+        go (Some x) q h = (x, q)
 
     -- what its row is after its level has changed
     module _ {ys : List ℕ} {l : List LRow.Row} (d : L.Did z xs ys l) where
@@ -181,8 +181,8 @@ module _ {xs : List ℕ} (s : State xs) (i : ℕ) (inside : i < word (cell xs) C
       show_can h = go found level_is level_can
         where
           go : (x : Option LRow.Row) → D.level_in r.price (D.levels z os) ≡ level_of k x → CanRemove r.visible x → CanShow r.visible w x
-          go none q c = c
-          go (some x) q c = (
+          go None q c = c
+          go (Some x) q c = (
             c.0,
             λ b. ⊎_elim
                 (λ (m : r.visible < w).

@@ -1,8 +1,8 @@
 -- An order comes to rest in a row of the table: its level and its row follow, and the state stays sound. Assumes nothing.
+use Rattle.std.specs.Prelude.{Option, Some, None}
 use mathlib.Core.Path.{◌≡◌, refl, sym, ap, ap₂, subst, ◌∙◌}
 use mathlib.Core.Bool.{cond}
 use mathlib.Core.List.{List}
-use mathlib.Core.Option.{Option, none, some}
 use Prim.Native.Nat.{ℕ, ◌≤◌, ◌<◌}
 use native.Mathlib.Omega.{arith}
 use lib.ListN.{length}
@@ -71,7 +71,7 @@ module _ {xs : List ℕ} (s : State xs) (n : ℕ) (o : Resting) (judged : Judged
   add_can = go found level_is
     where
       go : (x : Option LRow.Row) → D.level_in r.price (D.levels z os) ≡ level_of k x → CanAdd (size z (cell xs)) r.visible x
-      go none q =
+      go None q =
           omega (
             arith,
             few.1,
@@ -79,7 +79,7 @@ module _ {xs : List ℕ} (s : State xs) (n : ℕ) (o : Resting) (judged : Judged
             joined_length z r.price r.visible (D.levels z os) (levels_peopled z os) (ap (λ y. y.orders) q),
             size_levels s.sound z,
           )
-      go (some x) q = (
+      go (Some x) q = (
         omega (
           arith,
           fits,

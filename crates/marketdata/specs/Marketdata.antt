@@ -1,6 +1,5 @@
 -- Resting orders and their levels: the rows that the operations speak of, and what they ask. An order's words are as in docs/STATE.md.
-use Rattle.std.specs.Prelude.{ℕ, ◌≤◌, ◌<◌, ◌≡◌, Bool, true, false, ◌&&◌, List, ltb, leb, ℤ, length}
-use Rattle.std.proofs.Math.Option.{none}
+use Rattle.std.specs.Prelude.{ℕ, ◌≤◌, ◌<◌, ◌≡◌, Bool, true, false, ◌&&◌, List, ltb, leb, ℤ, length, None}
 use Rattle.orderbook.specs.declared.Side.{Side}
 use Rattle.table.specs.Table.{Between}
 use Rattle.gateway.specs.Limits.{most_orders, most_changed}
@@ -83,7 +82,7 @@ pub record Judged (d : Depth) : Type 0 where
 
 -- an order that comes: code 8, that it does not rest yet; no order has a later number than the last
 pub record CanAdd (r : D.Resting) (s : Store) : Type 0 where
-  pub absent : find_resting r.number (depth s).resting ≡ none
+  pub absent : find_resting r.number (depth s).resting ≡ None
   pub at_most_last : r.number ≤ View.word s C.last
   pub judged : Judged (D.add r (depth s))
 
@@ -91,7 +90,7 @@ pub record CanAdd (r : D.Resting) (s : Store) : Type 0 where
 
 -- what it asks of the number
 pub record CanOpen (n : ℕ) (s : Store) : Type 0 where
-  pub absent : find_resting n (depth s).resting ≡ none
+  pub absent : find_resting n (depth s).resting ≡ None
   pub at_most_last : n ≤ View.word s C.last
   pub room : View.word s C.resting_orders < most_orders
 

@@ -19,7 +19,6 @@ ghost use Rattle.marketdata.specs.Marketdata as P;
 use levels::Row;
 use orders::Resting;
 use store::cells;
-use table::Found;
 
 // The place of the level of a side, a code, and a price, a word.
 pub fn place_of(m: &[u8], side: u64, price: u64) -> usize
@@ -151,11 +150,11 @@ fn dead_row(m: &mut [u8], number: u64) -> usize
 }
 
 // A row in which that order can rest, which is at `at` where it is live.
-fn row_for(m: &mut [u8], number: u64, at: Found) -> usize
+fn row_for(m: &mut [u8], number: u64, at: Option<usize>) -> usize
     requires { State m.old × Sees C.order_live order number_of (cell m.old) number at × P.CanOpen number (cell m.old) }
     ensures { P.Opens m.old m.new number result }
 {
-    if let Found::At(i) = at {
+    if let Some(i) = at {
         return i;
     }
     dead_row(m, number)
@@ -184,7 +183,7 @@ pub fn rest(
     price: u64,
     visible: u64,
     leaves: u64,
-    at: Found,
+    at: Option<usize>,
     place: usize,
 )
     requires { State m.old × Sees C.order_live order number_of (cell m.old) number at × P.CanAdd (resting_of number (P.words side price visible leaves)) (cell m.old) }
@@ -205,7 +204,7 @@ pub fn rest(
 }
 
 // The order of that number rests, and its level has changed.
-pub fn add(m: &mut [u8], number: u64, o: Resting, at: Found, place: usize)
+pub fn add(m: &mut [u8], number: u64, o: Resting, at: Option<usize>, place: usize)
     requires { State m.old × Sees C.order_live order number_of (cell m.old) number at × P.CanAdd (resting_of number o) (cell m.old) }
     ensures { Becomes m.new (P.with_depth (D.add (resting_of number o)) (gateway (cell m.old))) }
 {
@@ -233,12 +232,6 @@ pub fn replenished(m: &mut [u8], i: usize, o: Resting, visible: u64)
     show(m, i, o, visible, o.leaves);
 }
 
-fn lesser(a: u64, b: u64) -> u64
-    ensures { result ≡ D.lesser a b }
-{
-    if a <= b { a } else { b }
-}
-
 // Whether a modify to that price and open quantity leaves the order in place.
 fn stays(o: Resting, price: u64, leaves: u64) -> bool
     ensures { result ≡ P.stays (int price) leaves (int o.price) o.leaves }
@@ -258,51 +251,51 @@ pub fn modified(m: &mut [u8], i: usize, o: Resting, price: u64, leaves: u64)
     ensures { InPlace m.old m.new (P.with_depth (D.modified (int price) leaves (P.resting_at i (cell m.old))) (gateway (cell m.old))) }
 {
     if stays(o, price, leaves) {
-        show(m, i, o, lesser(o.visible, leaves), leaves);
+        show(m, i, o, o.visible.min(leaves), leaves);
         return;
     }
     remove(m, i, o);
 }
 
 // The order has left the book, where it rests.
-pub fn on_cancelled(m: &mut [u8], number: u64, at: Found)
+pub fn on_cancelled(m: &mut [u8], number: u64, at: Option<usize>)
     requires { State m.old × Sees C.order_resting resting D.resting_number (cell m.old) number at × P.Roomy (D.where_resting number D.take_off (depth (cell m.old))) }
     ensures { InPlace m.old m.new (P.with_depth (D.where_resting number D.take_off) (gateway (cell m.old))) }
 {
-    if let Found::At(i) = at {
+    if let Some(i) = at {
         let o = orders::resting_at(m, i);
         remove(m, i, o);
     }
 }
 
 // The order shows its next part, where it rests.
-pub fn on_replenished(m: &mut [u8], number: u64, at: Found, visible: u64)
+pub fn on_replenished(m: &mut [u8], number: u64, at: Option<usize>, visible: u64)
     requires { State m.old × Sees C.order_resting resting D.resting_number (cell m.old) number at × P.Judged (D.where_resting number (P.replenished visible) (depth (cell m.old))) }
     ensures { InPlace m.old m.new (P.with_depth (D.where_resting number (P.replenished visible)) (gateway (cell m.old))) }
 {
-    if let Found::At(i) = at {
+    if let Some(i) = at {
         let o = orders::resting_at(m, i);
         replenished(m, i, o, visible);
     }
 }
 
 // A modify left the order that price and that much open, where it rests.
-pub fn on_modified(m: &mut [u8], number: u64, at: Found, price: u64, leaves: u64)
+pub fn on_modified(m: &mut [u8], number: u64, at: Option<usize>, price: u64, leaves: u64)
     requires { State m.old × Sees C.order_resting resting D.resting_number (cell m.old) number at × P.Roomy (D.where_resting number (D.modified (int price) leaves) (depth (cell m.old))) }
     ensures { InPlace m.old m.new (P.with_depth (D.where_resting number (D.modified (int price) leaves)) (gateway (cell m.old))) }
 {
-    if let Found::At(i) = at {
+    if let Some(i) = at {
         let o = orders::resting_at(m, i);
         modified(m, i, o, price, leaves);
     }
 }
 
 // A trade took `qty` of what the order shows, where it rests.
-fn on_filled(m: &mut [u8], number: u64, at: Found, qty: u64, leaves: u64)
+fn on_filled(m: &mut [u8], number: u64, at: Option<usize>, qty: u64, leaves: u64)
     requires { State m.old × Sees C.order_resting resting D.resting_number (cell m.old) number at × P.CanFill number qty leaves (depth (cell m.old)) }
     ensures { InPlace m.old m.new (P.with_depth (D.where_resting number (D.filled qty leaves)) (gateway (cell m.old))) }
 {
-    if let Found::At(i) = at {
+    if let Some(i) = at {
         let o = orders::resting_at(m, i);
         filled(m, i, o, qty, leaves);
     }
@@ -312,9 +305,9 @@ fn on_filled(m: &mut [u8], number: u64, at: Found, qty: u64, leaves: u64)
 pub fn on_trade(
     m: &mut [u8],
     taker: u64,
-    taker_at: Found,
+    taker_at: Option<usize>,
     maker: u64,
-    maker_at: Found,
+    maker_at: Option<usize>,
     qty: u64,
     taker_leaves: u64,
     maker_leaves: u64,

@@ -1,11 +1,9 @@
 -- Numbers of the entry points as values: options, reasons, the answers of `wallet` and `detach`.
-use Rattle.std.specs.Prelude.{ℕ, Bool, true, false, pos}
-use Rattle.std.proofs.Math.Option.{Option, none, some}
+use Rattle.std.specs.Prelude.{ℕ, pos, Option, Some, None, unwrap_or}
 use Rattle.accounts.specs.declared.Timing.{Timing}
 use Rattle.protocol.specs.declared.Balance as B
 use Rattle.protocol.specs.declared.LogoutReason.{LogoutReason}
 use Rattle.protocol.specs.declared.LogoutReason.TheVariants.{Requested}
-use Rattle.protocol.specs.declared.codes.MaybeLogoutReason as M
 use Rattle.gateway.specs.Entry.{Answer, nothing, account_was, wallet_is, number_is, levels_are, commands, bytes}
 use Rattle.gateway.specs.Calls.{Outcome, refused, done}
 use Rattle.numbers.specs.declared.Number.{Number}
@@ -14,13 +12,8 @@ use Rattle.numbers.specs.declared.Account.{Account}
 
 -- ---- reasons
 
-abbrev pub is_reason : M.MaybeLogoutReason → Bool
-is_reason (M.TheVariants.Some x) = true
-is_reason M.TheVariants.None = false
-
-abbrev pub reason_or : M.MaybeLogoutReason → LogoutReason
-reason_or (M.TheVariants.Some x) = x
-reason_or M.TheVariants.None = Requested
+abbrev pub reason_or : Option LogoutReason → LogoutReason
+reason_or why = unwrap_or why Requested
 
 -- ---- answers: the code, and every field 0 where the call is refused or nothing is there
 
@@ -39,19 +32,19 @@ number_of (done a is ms g) = record { code = 0; number = number_in a }
 
 abbrev pub wallet_in : Answer → Option B.Balance
 wallet_in (wallet_is b) = b
-wallet_in nothing = none
-wallet_in (account_was a) = none
-wallet_in (number_is n) = none
-wallet_in (levels_are ls) = none
-wallet_in (commands ks) = none
-wallet_in (bytes bs) = none
+wallet_in nothing = None
+wallet_in (account_was a) = None
+wallet_in (number_is n) = None
+wallet_in (levels_are ls) = None
+wallet_in (commands ks) = None
+wallet_in (bytes bs) = None
 
 abbrev pub no_wallet : ℕ → Wallet
 no_wallet code = record { code = code; there = 0; cash = pos 0; position = pos 0; cash_held = pos 0; position_held = pos 0 }
 
 abbrev pub wallet_row : Option B.Balance → Wallet
-wallet_row none = no_wallet 0
-wallet_row (some b) =
+wallet_row None = no_wallet 0
+wallet_row (Some b) =
     record { code = 0; there = 1; cash = b.cash; position = b.position; cash_held = b.cash_held; position_held = b.position_held }
 
 abbrev pub wallet_of : Outcome → Wallet
@@ -60,19 +53,19 @@ wallet_of (done a is ms g) = wallet_row (wallet_in a)
 
 abbrev pub account_in : Answer → Option ℕ
 account_in (account_was a) = a
-account_in nothing = none
-account_in (wallet_is b) = none
-account_in (number_is n) = none
-account_in (levels_are ls) = none
-account_in (commands ks) = none
-account_in (bytes bs) = none
+account_in nothing = None
+account_in (wallet_is b) = None
+account_in (number_is n) = None
+account_in (levels_are ls) = None
+account_in (commands ks) = None
+account_in (bytes bs) = None
 
 abbrev pub no_account : ℕ → Account
 no_account code = record { code = code; there = 0; account = 0 }
 
 abbrev pub account_row : Option ℕ → Account
-account_row none = no_account 0
-account_row (some a) = record { code = 0; there = 1; account = a }
+account_row None = no_account 0
+account_row (Some a) = record { code = 0; there = 1; account = a }
 
 abbrev pub account_of : Outcome → Account
 account_of (refused k) = no_account k

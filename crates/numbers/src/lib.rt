@@ -1,19 +1,14 @@
 // What the entry points take and answer in numbers: options and reasons, and the records of their answers.
 #![tactic(auto)]
 
-ghost use Rattle.std.specs.Prelude.{◌≡◌};
+ghost use Rattle.std.specs.Prelude.{◌≡◌, is_some};
 ghost use Rattle.protocol.specs.Codes.{logout_of};
-ghost use Rattle.risk.specs.Collar.{percent_of};
 ghost use Rattle.store.specs.View as View;
-ghost use Rattle.balances.specs.Balances.{maybe_balance};
-ghost use Rattle.commands.specs.Commands.{maybe_id};
+ghost use Rattle.outcome.specs.Refusals.{code_of, rows_of};
 ghost use Rattle.numbers.specs.Numbers as P;
 
-use balances::MaybeBalance;
-use commands::MaybeId;
-use protocol::codes::MaybeLogoutReason;
-use protocol::{LogoutReason, codes};
-use risk::MaybePercent;
+use outcome::Refusal;
+use protocol::{Balance, LogoutReason};
 
 // A code, and how many rows (of a checkpoint: bytes) were written.
 #[repr(C)]
@@ -54,40 +49,55 @@ pub struct Wallet {
 
 // ---- what is taken
 
-pub fn percent_of(there: u64, percent: u32) -> MaybePercent
-    ensures { percent_of result ≡ View.maybe there percent }
+pub fn percent_of(there: u64, percent: u32) -> Option<u32>
+    ensures { result ≡ View.maybe there percent }
 {
-    if there == 0 {
-        return MaybePercent::None;
-    }
-    MaybePercent::Some(percent)
+    (there != 0).then_some(percent)
 }
 
 pub fn is_reason(why: u8) -> bool
-    ensures { result ≡ P.is_reason (logout_of why) }
+    ensures { result ≡ is_some (logout_of why) }
 {
-    match codes::logout_of(why) {
-        MaybeLogoutReason::Some(_) => true,
-        MaybeLogoutReason::None => false,
-    }
+    LogoutReason::try_from(why).is_ok()
 }
 
 pub fn reason(why: u8) -> LogoutReason
     ensures { result ≡ P.reason_or (logout_of why) }
 {
-    match codes::logout_of(why) {
-        MaybeLogoutReason::Some(x) => x,
-        MaybeLogoutReason::None => LogoutReason::Requested,
-    }
+    LogoutReason::try_from(why).unwrap_or(LogoutReason::Requested)
 }
 
 // ---- what is answered
 
-pub fn wallet_of(b: MaybeBalance) -> Wallet
-    ensures { result ≡ P.wallet_row (maybe_balance b) }
+impl From<Result<usize, Refusal>> for Reply {
+    ghost from_gives = { λ r x. x ≡ record { code = code_of r; count = rows_of r } };
+
+    fn from(r: Result<usize, Refusal>) -> Reply {
+        match r {
+            Ok(count) => Reply { code: 0, count },
+            Err(why) => Reply {
+                code: why as u64,
+                count: 0,
+            },
+        }
+    }
+}
+
+// The code of a call without rows.
+pub fn code_of(r: Result<(), Refusal>) -> u64
+    ensures { result ≡ code_of r }
+{
+    match r {
+        Ok(()) => 0,
+        Err(why) => why as u64,
+    }
+}
+
+pub fn wallet_of(b: Option<Balance>) -> Wallet
+    ensures { result ≡ P.wallet_row b }
 {
     match b {
-        MaybeBalance::Some(x) => Wallet {
+        Some(x) => Wallet {
             code: 0,
             there: 1,
             cash: x.cash,
@@ -95,7 +105,7 @@ pub fn wallet_of(b: MaybeBalance) -> Wallet
             cash_held: x.cash_held,
             position_held: x.position_held,
         },
-        MaybeBalance::None => no_wallet(0),
+        None => no_wallet(0),
     }
 }
 
@@ -112,16 +122,16 @@ pub fn no_wallet(code: u64) -> Wallet
     }
 }
 
-pub fn account_of(a: MaybeId) -> Account
-    ensures { result ≡ P.account_row (maybe_id a) }
+pub fn account_of(a: Option<u32>) -> Account
+    ensures { result ≡ P.account_row a }
 {
     match a {
-        MaybeId::Some(id) => Account {
+        Some(id) => Account {
             code: 0,
             there: 1,
             account: id as u64,
         },
-        MaybeId::None => Account {
+        None => Account {
             code: 0,
             there: 0,
             account: 0,

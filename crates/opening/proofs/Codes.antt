@@ -15,7 +15,7 @@ use Rattle.gateway.specs.Saved.{Saved}
 use Rattle.gateway.specs.Listing.{listed_orders}
 use Rattle.gateway.specs.Core.{Tests, Pass}
 use Rattle.gateway.specs.Calls.{Gateway}
-use Rattle.gateway.specs.Start.{Started, not_started, started, start_unless, accounts_of, listed_tests, entry_tests, total_tests, set_up_tests, order_tests, saved_tests, restore_tests, restored_ledger}
+use Rattle.gateway.specs.Start.{not_started, started, start_unless, accounts_of, listed_tests, entry_tests, total_tests, set_up_tests, order_tests, saved_tests, restore_tests, restored_ledger}
 use Rattle.outcome.specs.Answers.{verdict}
 use Rattle.outcome.proofs.Calls.{codes}
 

@@ -1,14 +1,13 @@
 -- The start with the accounts of a roster. Assumes nothing.
+use Rattle.std.specs.Prelude.{Option, Some, None}
 use Prim.Native.Nat.{ℕ, zero, suc, ◌+◌, ◌≤◌, ◌<◌}
 use mathlib.Core.Path.{◌≡◌, refl, sym, ap, subst, ◌∙◌}
-use mathlib.Core.Bool.{Bool, true, false, cond, ◌&&◌, false≢true, and-eq-true_iff}
-use mathlib.Core.Option.{Option, none, some}
+use mathlib.Core.Bool.{true}
 use mathlib.Core.List.{List, [], ◌∷◌, ◌++◌, append-nil, append_assoc}
 use native.Mathlib.Numerals.{add-one}
 use native.Mathlib.Omega.{arith}
 use borrow.Author.Tests.{lt-ltb}
-use lib.Dec.{ltb}
-use lib.ListN.{length, get_or, length-set}
+use lib.ListN.{length, length-set}
 use Rattle.accounts.specs.declared.Account.{Account}
 use Rattle.accounts.specs.declared.Timing.{Timing}
 use Rattle.words.specs.Words.{int}
@@ -16,7 +15,7 @@ use Rattle.gateway.specs.Basics.{option}
 use Rattle.gateway.specs.Fits.{AccountFits, AccountsFit}
 use Rattle.gateway.specs.Limits.{owner_slots}
 use Rattle.gateway.specs.Calls.{Gateway}
-use Rattle.gateway.specs.Start.{all_below, accounts_of}
+use Rattle.gateway.specs.Start.{all_below}
 use Rattle.gateway.proofs.Begin.{accounts_length}
 use Rattle.store.specs.Cells as C
 use Rattle.store.specs.Layout.{cell}
@@ -25,22 +24,9 @@ use Rattle.store.proofs.Listed.{listed_length}
 use Rattle.sound.specs.Sound.{State, Becomes}
 use Rattle.start.specs.Start.{begun, entering}
 use Rattle.start.proofs.Begun.{begun_more}
-use Rattle.roster.specs.declared.Slot.{Slot}
 use Rattle.roster.specs.declared.Roster.{Roster}
-use Rattle.roster.specs.Rostered.{no_slot, account_in, account_of, Numbered}
+use Rattle.roster.specs.Rostered.{account_of, Numbered}
 use Rattle.opening.specs.Opening.{present, CanEnter, Enters, admitted, Admits, Stands}
-
--- ---- one slot
-
-module _ (s : Slot) (xs : List ℕ) (h : State xs) where
-  pub can_enter : CanEnter s xs → s.there ≡ true → s.account.id < word (cell xs) C.owner_limit
-  can_enter c t = c.below t
-
-  pub enters_there : (ys : List ℕ) → s.there ≡ true → Becomes ys (entering s.account (gateway (cell xs))) × AccountFits s.account × (word (cell ys) C.order_rows ≡ word (cell xs) C.order_rows) → Enters s xs ys
-  enters_there ys t b = record { becomes = rw t b.0; fits = λ _. b.1; rows_are = b.2 }
-
-  pub enters_none : s.there ≡ false → Enters s xs xs
-  enters_none t = record { becomes = rw t (record { state = h; gateway_is = refl }); fits = λ e. absurd (false≢true (sym t ∙ e)); rows_are = refl }
 
 -- ---- one account more
 
@@ -58,7 +44,7 @@ limit_is {xs} b = ap (λ (h : Gateway). length h.core.accounts) (sym b.gateway_i
 
 admitted_limit : (l : List Account) (g : Gateway) → length (admitted l g).core.accounts ≡ length g.core.accounts
 admitted_limit [] g = refl
-admitted_limit (a ∷ l) g = admitted_limit l (entering a g) ∙ length-set g.core.accounts a.id (some a)
+admitted_limit (a ∷ l) g = admitted_limit l (entering a g) ∙ length-set g.core.accounts a.id (Some a)
 
 -- ---- the slots below i
 
@@ -70,49 +56,43 @@ module _ (xs : List ℕ) (r : Roster) where
   unfolding present
   none_admitted h = record { becomes = record { state = h; gateway_is = refl }; fit = tt; rows_are = refl }
 
-  abbrev slot : ℕ → Slot
-  slot i = get_or r.slots i no_slot
-
   module _ (i : ℕ) (ys : List ℕ) (a : Admits (present r i) xs ys) where
     same_limit : word (cell ys) C.owner_limit ≡ word (cell xs) C.owner_limit
     same_limit = sym (limit_is a.becomes) ∙ admitted_limit (present r i) g ∙ listed_length (λ j. account j (cell xs C.accounts j)) (word (cell xs) C.owner_limit)
 
-    pub slot_enters : (s : Slot) → s ≡ slot i → Numbered (word (cell xs) C.owner_limit) r → CanEnter s ys
+    pub slot_enters : (s : Option Account) → s ≡ account_of r i → Numbered (word (cell xs) C.owner_limit) r → CanEnter s ys
     slot_enters s e n =
         record {
-          below = λ t.
-              let b = n.at i (ap (λ (x : Slot). x.there) (sym e) ∙ t) in
-              rw (same_limit, e, b.0) b.1;
+          below = λ x t.
+              let b = n.at i x (sym e ∙ t) in
+              rw (same_limit, b.0) b.1;
         }
 
-    pub more_admitted : (s : Slot) (zs : List ℕ) → s ≡ slot i → Enters s ys zs → Admits (present r (i + 1)) xs zs
+    pub more_admitted : (s : Option Account) (zs : List ℕ) → s ≡ account_of r i → Enters s ys zs → Admits (present r (i + 1)) xs zs
     unfolding present
-    more_admitted s zs e h = subst (λ k. Admits (present r k) xs zs) (sym (add-one i)) (go s.there refl)
+    more_admitted s zs e h =
+        subst (λ k. Admits (present r k) xs zs) (sym (add-one i)) (subst (λ o. Admits (present r i ++ option [] (λ x. x ∷ []) o) xs zs) e (go s refl))
       where
-        is : (b : Bool) → s.there ≡ b → account_of r i ≡ cond b (some s.account) none
-        is b t = ap account_in (sym e) ∙ ap (λ c. cond c (some s.account) none) t
-
-        go : (b : Bool) → s.there ≡ b → Admits (present r i ++ option [] (λ x. x ∷ []) (account_of r i)) xs zs
-        go true t =
-            rw (is true t)
-            (record {
+        go : (o : Option Account) → s ≡ o → Admits (present r i ++ option [] (λ x. x ∷ []) o) xs zs
+        go (Some x) t =
+            record {
               becomes =
                   record {
                     state = h.becomes.state;
                     gateway_is =
-                        h.becomes.gateway_is ∙ ap (λ b. cond b (entering s.account (gateway (cell ys))) (gateway (cell ys))) t ∙ ap (entering s.account) a.becomes.gateway_is
-                        ∙ sym (admitted_more (present r i) s.account g);
+                        h.becomes.gateway_is ∙ ap (option (gateway (cell ys)) (λ b. entering b (gateway (cell ys)))) t ∙ ap (entering x) a.becomes.gateway_is
+                        ∙ sym (admitted_more (present r i) x g);
                   };
-              fit = fit_more (present r i) s.account a.fit (h.fits t);
+              fit = fit_more (present r i) x a.fit (h.fits x t);
               rows_are = h.rows_are ∙ a.rows_are;
-            })
-        go false t =
-            rw (is false t, append-nil (present r i))
+            }
+        go None t =
+            rw (append-nil (present r i))
             (record {
               becomes =
                   record {
                     state = h.becomes.state;
-                    gateway_is = h.becomes.gateway_is ∙ ap (λ b. cond b (entering s.account (gateway (cell ys))) (gateway (cell ys))) t ∙ a.becomes.gateway_is;
+                    gateway_is = h.becomes.gateway_is ∙ ap (option (gateway (cell ys)) (λ b. entering b (gateway (cell ys)))) t ∙ a.becomes.gateway_is;
                   };
               fit = a.fit;
               rows_are = h.rows_are ∙ a.rows_are;
@@ -144,14 +124,11 @@ all_of limit (a ∷ l) h = rw (lt-ltb a.id limit h.0) (all_of limit l h.1)
 present_below : (limit : ℕ) (r : Roster) → Numbered limit r → (n : ℕ) → Below limit (present r n)
 unfolding present Below
 present_below limit r h zero = tt
-present_below limit r h (suc n) = below_append limit (present r n) (option [] (λ a. a ∷ []) (account_of r n)) (present_below limit r h n) (last (get_or r.slots n no_slot) (h.at n))
+present_below limit r h (suc n) = below_append limit (present r n) (option [] (λ a. a ∷ []) (account_of r n)) (present_below limit r h n) (last (account_of r n) (h.at n))
   where
-    last : (s : Slot) → (s.there ≡ true → (s.account.id ≡ n) × (n < limit)) → Below limit (option [] (λ a. a ∷ []) (account_in s))
-    last s f = go s.there refl
-      where
-        go : (b : Bool) → s.there ≡ b → Below limit (option [] (λ a. a ∷ []) (cond b (some s.account) none))
-        go true t = let e = f t in (rw e.0 e.1, tt)
-        go false t = tt
+    last : (o : Option Account) → ((a : Account) → o ≡ Some a → (a.id ≡ n) × (n < limit)) → Below limit (option [] (λ a. a ∷ []) o)
+    last (Some a) f = let e = f a refl in (rw e.0 e.1, tt)
+    last None f = tt
 
 pub all_stand : (fee limit last : ℕ) (t : Timing) (r : Roster) {xs ys : List ℕ} → limit ≤ owner_slots → Numbered limit r → Becomes xs (begun (int fee) limit last t []) × (word (cell xs) C.order_rows ≡ 0) → Admits (present r owner_slots) xs ys →
     Stands (int fee) limit last t (present r owner_slots) ys
@@ -167,4 +144,4 @@ all_stand fee limit last t r few n b a =
 pub start_limit : (fee limit last : ℕ) (t : Timing) (r : Roster) {xs : List ℕ} → Becomes xs (begun (int fee) limit last t []) → Numbered limit r → Numbered (word (cell xs) C.owner_limit) r
 start_limit fee limit last t r b n = subst (λ k. Numbered k r) (sym (accounts_length limit []) ∙ limit_is b) n
 
-pub ruleset laws = (can_enter, enters_there, enters_none, none_admitted, slot_enters, more_admitted, all_stand, start_limit, arith)
+pub ruleset laws = (none_admitted, slot_enters, more_admitted, all_stand, start_limit, arith)

@@ -1,15 +1,15 @@
 -- The accounts of a roster have the definitions' table, so the start with them is the start with any list that the roster is of. Assumes nothing.
-use Prim.Native.Nat.{ℕ, zero, suc, ◌+◌, ◌≤◌, ◌<◌}
-use mathlib.Core.Path.{◌≡◌, refl, sym, ap, subst, ◌∙◌}
-use mathlib.Core.Bool.{Bool, true, false, cond}
+use Rattle.std.specs.Prelude.{Option, Some, None}
+use Prim.Native.Nat.{ℕ, zero, suc, ◌≤◌, ◌<◌}
+use mathlib.Core.Path.{◌≡◌, refl, sym, ap, ◌∙◌}
+use mathlib.Core.Bool.{cond}
 use mathlib.Core.Logic.{⊎_elim}
-use mathlib.Core.Option.{Option, none, some}
 use mathlib.Core.List.{List, [], ◌∷◌, ◌++◌, append-nil}
 use native.Mathlib.Nat.{eq-or-lt_of_le}
 use native.Mathlib.Omega.{arith}
 use borrow.Author.Tests.{lt-ltb, le-ltb}
 use lib.Dec.{ltb}
-use lib.ListN.{length, get_or, set, replicate}
+use lib.ListN.{set, replicate}
 use Rattle.accounts.specs.declared.Account.{Account}
 use Rattle.le.proofs.Laws.{lt_or_le}
 use Rattle.table.proofs.Live.{same?}
@@ -18,20 +18,19 @@ use Rattle.gateway.specs.Limits.{owner_slots}
 use Rattle.gateway.specs.Start.{entered, accounts_of}
 use Rattle.store.specs.View.{listed}
 use Rattle.store.proofs.Listed.{listed_ext, listed_set}
-use Rattle.roster.specs.declared.Slot.{Slot}
 use Rattle.roster.specs.declared.Roster.{Roster}
-use Rattle.roster.specs.Rostered.{no_slot, account_in, account_of, Numbered, Gathered}
+use Rattle.roster.specs.Rostered.{account_of, Numbered, Gathered}
 use Rattle.roster.proofs.Tables.{listed_same}
 use Rattle.opening.specs.Opening.{present}
 
-entered_more : (t : List (Option Account)) (l : List Account) (a : Account) → entered t (l ++ (a ∷ [])) ≡ set (entered t l) a.id (some a)
+entered_more : (t : List (Option Account)) (l : List Account) (a : Account) → entered t (l ++ (a ∷ [])) ≡ set (entered t l) a.id (Some a)
 entered_more t [] a = refl
-entered_more t (b ∷ l) a = entered_more (set t b.id (some b)) l a
+entered_more t (b ∷ l) a = entered_more (set t b.id (Some b)) l a
 
 module _ (limit : ℕ) (r : Roster) (h : Numbered limit r) where
   -- the accounts numbered below n
   abbrev below : ℕ → ℕ → Option Account
-  below n j = cond (ltb j n) (account_of r j) none
+  below n j = cond (ltb j n) (account_of r j) None
 
   but_last : (n j : ℕ) → (j ≡ n → ⊥) → below (suc n) j ≡ below n j
   but_last n j d =
@@ -44,32 +43,28 @@ module _ (limit : ℕ) (r : Roster) (h : Numbered limit r) where
 
   module _ (n : ℕ) (t : accounts_of limit (present r n) ≡ listed (below n) limit) where
     -- a slot with nobody
-    nobody_more : account_of r n ≡ none → listed (below n) limit ≡ listed (below (suc n)) limit
+    nobody_more : account_of r n ≡ None → listed (below n) limit ≡ listed (below (suc n)) limit
     nobody_more e =
         sym
         (listed_ext (below n) (below (suc n)) limit
         (λ j l. ⊎_elim (λ (q : j ≡ n). ap (below (suc n)) q ∙ first n ∙ e ∙ sym (rw (le-ltb n n (omega arith)) refl) ∙ sym (ap (below n) q)) (λ q. but_last n j q) (same? j n)))
 
     -- an account
-    one_more : (a : Account) → account_of r n ≡ some a → (a.id ≡ n) × (n < limit) → accounts_of limit (present r n ++ (a ∷ [])) ≡ listed (below (suc n)) limit
+    one_more : (a : Account) → account_of r n ≡ Some a → (a.id ≡ n) × (n < limit) → accounts_of limit (present r n ++ (a ∷ [])) ≡ listed (below (suc n)) limit
     one_more a e b =
-        entered_more (replicate limit none) (present r n) a ∙ ap (λ l. set l a.id (some a)) t ∙ ap (λ i. set (listed (below n) limit) i (some a)) b.0
-        ∙ sym (listed_set (below n) (below (suc n)) limit n (some a) b.1 (first n ∙ e) (λ j l q. but_last n j q))
+        entered_more (replicate limit None) (present r n) a ∙ ap (λ l. set l a.id (Some a)) t ∙ ap (λ i. set (listed (below n) limit) i (Some a)) b.0
+        ∙ sym (listed_set (below n) (below (suc n)) limit n (Some a) b.1 (first n ∙ e) (λ j l q. but_last n j q))
 
     slot_more : accounts_of limit (present r n ++ option [] (λ a. a ∷ []) (account_of r n)) ≡ listed (below (suc n)) limit
-    slot_more = go (get_or r.slots n no_slot).there refl
+    slot_more = go (account_of r n) refl
       where
-        go : (b : Bool) → (get_or r.slots n no_slot).there ≡ b → accounts_of limit (present r n ++ option [] (λ a. a ∷ []) (account_of r n)) ≡ listed (below (suc n)) limit
-        go true e =
-            let q : account_of r n ≡ some (get_or r.slots n no_slot).account = ap (λ b. cond b (some (get_or r.slots n no_slot).account) none) e in
-            ap (λ o. accounts_of limit (present r n ++ option [] (λ a. a ∷ []) o)) q ∙ one_more (get_or r.slots n no_slot).account q (h.at n e)
-        go false e =
-            let q : account_of r n ≡ none = ap (λ b. cond b (some (get_or r.slots n no_slot).account) none) e in
-            ap (λ o. accounts_of limit (present r n ++ option [] (λ a. a ∷ []) o)) q ∙ ap (accounts_of limit) (append-nil (present r n)) ∙ t ∙ nobody_more q
+        go : (o : Option Account) → account_of r n ≡ o → accounts_of limit (present r n ++ option [] (λ a. a ∷ []) (account_of r n)) ≡ listed (below (suc n)) limit
+        go (Some a) q = ap (λ o. accounts_of limit (present r n ++ option [] (λ a. a ∷ []) o)) q ∙ one_more a q (h.at n a q)
+        go None q = ap (λ o. accounts_of limit (present r n ++ option [] (λ a. a ∷ []) o)) q ∙ ap (accounts_of limit) (append-nil (present r n)) ∙ t ∙ nobody_more q
 
   present_below : (n : ℕ) → accounts_of limit (present r n) ≡ listed (below n) limit
   unfolding present
-  present_below zero = sym (listed_ext (λ j. none) (below zero) limit (λ j l. rw (le-ltb j 0 (omega arith)) refl) ∙ listed_same none limit)
+  present_below zero = sym (listed_ext (λ j. None) (below zero) limit (λ j l. rw (le-ltb j 0 (omega arith)) refl) ∙ listed_same None limit)
   present_below (suc n) = slot_more n (present_below n)
 
   pub present_table : limit ≤ owner_slots → accounts_of limit (present r owner_slots) ≡ listed (account_of r) limit

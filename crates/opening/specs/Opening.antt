@@ -1,5 +1,5 @@
 -- The start with the accounts of a roster.
-use Rattle.std.specs.Prelude.{ℕ, zero, suc, ◌<◌, ◌≡◌, true, cond, List, [], ◌∷◌, ◌++◌, ℤ}
+use Rattle.std.specs.Prelude.{ℕ, zero, suc, ◌<◌, ◌≡◌, true, List, [], ◌∷◌, ◌++◌, ℤ, Option, Some}
 use Rattle.accounts.specs.declared.Account.{Account}
 use Rattle.accounts.specs.declared.Timing.{Timing}
 use Rattle.gateway.specs.Basics.{option}
@@ -11,7 +11,6 @@ use Rattle.store.specs.Layout.{cell}
 use Rattle.store.specs.View.{word, gateway}
 use Rattle.sound.specs.Sound.{Becomes}
 use Rattle.start.specs.Start.{begun, entering}
-use Rattle.roster.specs.declared.Slot.{Slot}
 use Rattle.roster.specs.declared.Roster.{Roster}
 use Rattle.roster.specs.Rostered.{account_of}
 
@@ -21,12 +20,12 @@ present r zero = []
 present r (suc n) = present r n ++ option [] (λ a. a ∷ []) (account_of r n)
 
 -- a slot's account is below the owner limit
-pub record CanEnter (s : Slot) (xs : List ℕ) : Type 0 where
-  pub below : s.there ≡ true → s.account.id < word (cell xs) C.owner_limit
+pub record CanEnter (s : Option Account) (xs : List ℕ) : Type 0 where
+  pub below : (a : Account) → s ≡ Some a → a.id < word (cell xs) C.owner_limit
 
-pub record Enters (s : Slot) (xs ys : List ℕ) : Type 0 where
-  pub becomes : Becomes ys (cond s.there (entering s.account (gateway (cell xs))) (gateway (cell xs)))
-  pub fits : s.there ≡ true → AccountFits s.account
+pub record Enters (s : Option Account) (xs ys : List ℕ) : Type 0 where
+  pub becomes : Becomes ys (option (gateway (cell xs)) (λ a. entering a (gateway (cell xs))) s)
+  pub fits : (a : Account) → s ≡ Some a → AccountFits a
   pub rows_are : word (cell ys) C.order_rows ≡ word (cell xs) C.order_rows
 
 abbrev pub admitted : List Account → Gateway → Gateway

@@ -11,17 +11,15 @@ ghost use Rattle.sound.specs.Sound.{State};
 ghost use Rattle.roster.specs.Rostered.{Numbered};
 ghost use Rattle.opening.specs.Opening as P;
 
-use accounts::Timing;
-use roster::{Roster, Slot};
-use store::limits;
+use accounts::{Account, Timing};
+use roster::Roster;
 
 // The account of a slot is entered, where there is one.
-fn enter(m: &mut [u8], s: Slot)
-    requires { State m.old × P.CanEnter s m.old }
-    ensures { P.Enters s m.old m.new }
+fn enter(m: &mut [u8], account: Option<Account>)
+    requires { State m.old × P.CanEnter account m.old }
+    ensures { P.Enters account m.old m.new }
 {
-    if s.there {
-        let a = s.account;
+    if let Some(a) = account {
         start::enter(m, a);
     }
 }
@@ -31,11 +29,8 @@ fn enter_all(m: &mut [u8], accounts: Roster)
     requires { State m.old × Numbered (word (cell m.old) C.owner_limit) accounts }
     ensures { P.Admits (P.present accounts owner_slots) m.old m.new }
 {
-    let mut i: usize = 0;
-    while i < limits::OWNER_SLOTS {
-        let s = accounts.slots[i];
-        enter(m, s);
-        i += 1;
+    for account in &accounts.slots {
+        enter(m, *account);
     }
 }
 

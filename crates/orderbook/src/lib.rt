@@ -1,6 +1,8 @@
 // The values of crates/orderbook/src/types.rs that the gateway speaks of, with the Rust's names, cases and order.
-// Left out: SelfTradePolicy and EventSink, which belong to matching. An optional value is an enum of its own.
+// Left out: SelfTradePolicy and EventSink, which belong to matching. The number of a case without data is its wire code (crates/protocol/src/lib.rs).
 #![tactic(auto)]
+
+pub mod codes;
 
 ghost use Rattle.std.specs.Prelude.{◌≡◌};
 ghost use Rattle.orderbook.specs.Types.{opposite_of};
@@ -15,20 +17,8 @@ pub type Price = i64;
 
 pub type Qty = u64;
 
-#[derive(Clone, Copy)]
-pub enum MaybePrice {
-    None,
-    Some(Price),
-}
-
-#[derive(Clone, Copy)]
-pub enum MaybeQty {
-    None,
-    Some(Qty),
-}
-
 // Side of an order.
-#[derive(Clone, Copy)]
+#[derive(Clone, Copy, Debug, PartialEq, Eq)]
 pub enum Side {
     Buy,
     Sell,
@@ -56,7 +46,7 @@ pub enum Command {
         price: Price,
         qty: Qty,
         tif: TimeInForce,
-        display: MaybeQty,
+        display: Option<Qty>,
     },
     Market {
         id: OrderId,
@@ -80,7 +70,7 @@ pub enum Command {
         owner: OwnerId,
         side: Side,
         trigger: Price,
-        limit: MaybePrice,
+        limit: Option<Price>,
         qty: Qty,
     },
     CancelAll {
@@ -92,7 +82,7 @@ pub enum Command {
 }
 
 // How long a limit order works, and whether it may take liquidity.
-#[derive(Clone, Copy)]
+#[derive(Clone, Copy, Debug, PartialEq, Eq)]
 pub enum TimeInForce {
     Gtc,
     Ioc,
@@ -101,7 +91,7 @@ pub enum TimeInForce {
 }
 
 // The book's trading phase.
-#[derive(Clone, Copy)]
+#[derive(Clone, Copy, Debug, PartialEq, Eq)]
 pub enum Phase {
     Continuous,
     Auction,
@@ -157,7 +147,7 @@ pub enum Event {
         id: OrderId,
         side: Side,
         trigger: Price,
-        limit: MaybePrice,
+        limit: Option<Price>,
         qty: Qty,
     },
     Triggered {
@@ -173,9 +163,9 @@ pub enum Event {
 }
 
 // Why a command was refused.
-#[derive(Clone, Copy)]
+#[derive(Clone, Copy, Debug, PartialEq, Eq)]
 pub enum RejectReason {
-    InvalidQuantity,
+    InvalidQuantity = 1,
     PriceOutOfRange,
     PriceOutsideProtection,
     DuplicateOrderId,
@@ -193,9 +183,9 @@ pub enum RejectReason {
 }
 
 // Why open quantity left the book without trading.
-#[derive(Clone, Copy)]
+#[derive(Clone, Copy, Debug, PartialEq, Eq)]
 pub enum CancelReason {
-    Requested,
+    Requested = 1,
     NoLiquidity,
     PriceProtection,
     SelfTrade,
@@ -221,7 +211,7 @@ pub enum Listed {
         id: OrderId,
         owner: OwnerId,
         side: Side,
-        limit: MaybePrice,
+        limit: Option<Price>,
         qty: Qty,
     },
 }

@@ -1,7 +1,8 @@
 -- A new order: numbered, placed, noticed, in the batch; and the call. Assumes nothing.
+use Rattle.std.specs.Prelude.{Option, Some, None, Ok, Result}
+use Rattle.std.specs.Option.{option_or}
 use mathlib.Core.Path.{◌≡◌, refl, sym, ap, subst, ◌∙◌}
 use mathlib.Core.Bool.{Bool, true, false, cond, ◌&&◌, and-eq-true_iff}
-use mathlib.Core.Option.{some}
 use mathlib.Core.List.{List, [], ◌∷◌, ◌++◌}
 use Prim.Native.Nat.{ℕ, ◌+◌, ◌≤◌, ◌<◌}
 use native.Mathlib.Omega.{arith}
@@ -16,7 +17,6 @@ use Rattle.protocol.specs.declared.OrderKind.{OrderKind}
 use Rattle.protocol.specs.declared.OrderKind.TheVariants as Kind
 use Rattle.protocol.specs.declared.RejectCode.{RejectCode}
 use Rattle.protocol.specs.declared.RejectCode.TheVariants.{TooManyOrders, Throttled, Unavailable}
-use Rattle.protocol.specs.declared.codes.MaybeRejectCode as Why
 use Rattle.risk.specs.declared.Bucket.{Bucket}
 use Rattle.risk.specs.declared.Taken.{Taken}
 use Rattle.words.specs.Words.{int, wrap, modulus}
@@ -39,13 +39,13 @@ use Rattle.sound.specs.Sound.{State, Becomes}
 use Rattle.live.specs.Live as Live
 use Rattle.live.specs.Live.{with_ledger, with_notices, placing, hold_word, hold_notice}
 use Rattle.mailbox.specs.Mailbox.{places}
-use Rattle.outcome.specs.declared.Reply.{Reply}
-use Rattle.outcome.specs.Parts.{with_rest, rest_of, heard, Speaks}
+use Rattle.outcome.specs.declared.Refusal.{Refusal}
+use Rattle.outcome.specs.Parts.{with_rest, heard, Speaks}
 use Rattle.outcome.specs.Answers.{Gives}
 use Rattle.outcome.proofs.Laws.{then_becomes}
 use Rattle.commands.specs.Commands as Commands
 use Rattle.commands.proofs.Numbering as Numbering
-use Rattle.pretrade.specs.Pretrade.{first, or_else, paper, the_command, has_place, has_room, new_order_tests, Stands}
+use Rattle.pretrade.specs.Pretrade.{first, paper, the_command, has_place, has_room, new_order_tests, Stands}
 use Rattle.orderentry.specs.OrderEntry.{after, CanPlace, in_book, placed, Does}
 use Rattle.pretrade.proofs.Judging.{or_append, unless_passed, unless_failed}
 use Rattle.orderentry.proofs.Messages.{does_record, gives}
@@ -68,18 +68,6 @@ placing_needs xs {ys} sender owner places n o next_is room owner_is b u =
         owner_is = owner_is;
       },
     )
-
-module _ (xs : List ℕ) {ys : List ℕ} (s n : ℕ) (o : Live) (k : Command) (can : CanPlace n o k (gateway (cell xs))) (b : Becomes ys (Commands.flying (s + 1) o.account 1 (gateway (cell xs)))) where
-  pub place_needs : Commands.Unplaced ys → State ys × Live.CanPlace n o (cell ys)
-  place_needs = placing_needs xs (s + 1) o.account 1 n o can.next_is can.room can.owner_is b
-
-  pub queue_needs : {zs : List ℕ} → Becomes zs (with_ledger (placing n o) (gateway (cell ys))) → State zs × (length (rest_of zs).batch < most_in_batch) × Batched k
-  queue_needs {zs} d =
-      let e : (rest_of zs).batch ≡ (rest_of xs).batch = ap (λ (g : Gateway). g.rest.batch) d.gateway_is ∙ ap (λ (g : Gateway). g.rest.batch) b.gateway_is in
-      (d.state, omega (arith, ap length e, (Numbering.room xs can.can).batch, Numbering.batch_is (cell xs)), can.batched)
-
-  pub place_becomes : {zs us : List ℕ} → Becomes zs (with_ledger (placing n o) (gateway (cell ys))) → Becomes us (with_rest (queued k) (gateway (cell zs))) → Becomes us (in_book s n o k (gateway (cell xs)))
-  place_becomes d e = then_becomes (with_rest (queued k)) (then_becomes (with_ledger (placing n o)) b d) e
 
 -- ---- the new order
 
@@ -188,7 +176,7 @@ module _ (xs out : List ℕ) (s a : ℕ) (q : NewOrder) (time : ℕ) where
 
   abbrev done : Plan
   done =
-      records (record { client_ref = q.client_ref; session = some s }) (command (next now.core) (the_command a q now.core)) []
+      records (record { client_ref = q.client_ref; session = Some s }) (command (next now.core) (the_command a q now.core)) []
       (queued (the_command a q now.core) (noticing (new_notice now.core.ledger.fee a q (wallet_at a now.core)) left))
 
   abbrev heard_plan : Plan
@@ -211,44 +199,44 @@ module _ (xs out : List ℕ) (s a : ℕ) (q : NewOrder) (time : ℕ) where
       ∷ (Unavailable, leb (length (now.rest.notices ++ new_notice now.core.ledger.fee a q (wallet_at a now.core))) most_notices)
       ∷ (Unavailable, fits_after (command (next now.core) (the_command a q now.core)) now.core)
       ∷ []) in
-      ap (λ v. cond token.passed (cond (ltb (open_of a now.core.ledger.orders) (most_open (account_at a now.core))) v (Why.TheVariants.Some TooManyOrders)) (Why.TheVariants.Some Throttled))
+      ap (λ v. cond token.passed (cond (ltb (open_of a now.core.ledger.orders) (most_open (account_at a now.core))) v (Some TooManyOrders)) (Some Throttled))
       (ap (λ vs. first (vs ++ us)) (paper_same q.kind) ∙ sym (or_append ts us)
-      ∙ ap (or_else (first ts))
+      ∙ ap (option_or (first ts))
       (six (ltb (length now.core.flights) most_in_flight) (ltb (length now.rest.batch) most_in_batch) (ltb (next now.core) modulus) (ltb (length now.core.ledger.orders) most_orders)
       (leb (length (now.rest.notices ++ new_notice now.core.ledger.fee a q (wallet_at a now.core))) most_notices) (fits_after (command (next now.core) (the_command a q now.core)) now.core))
       ∙ or_append ts ((Unavailable, has_room a q now) ∷ []))
 
-  module _ (x : Taken) (v : Why.MaybeRejectCode) (x_is : x ≡ token) (v_is : v ≡ first (new_order_tests a q x.passed now)) where
+  module _ (x : Taken) (v : Option RejectCode) (x_is : x ≡ token) (v_is : v ≡ first (new_order_tests a q x.passed now)) where
     same : first all ≡ v
     same = judged ∙ ap (λ (y : Taken). first (new_order_tests a q y.passed now)) (sym x_is) ∙ sym v_is
 
     -- every test passed, the last too
-    pub new_passes : v ≡ Why.TheVariants.None → has_room a q now ≡ true
+    pub new_passes : v ≡ None → has_room a q now ≡ true
     new_passes e =
         last_passed x.passed (ltb (open_of a now.core.ledger.orders) (most_open (account_at a now.core))) (first (paper a q.side q.qty q.kind now)) (has_room a q now)
-        (ap (λ u. cond x.passed (cond (ltb (open_of a now.core.ledger.orders) (most_open (account_at a now.core))) u (Why.TheVariants.Some TooManyOrders)) (Why.TheVariants.Some Throttled))
+        (ap (λ u. cond x.passed (cond (ltb (open_of a now.core.ledger.orders) (most_open (account_at a now.core))) u (Some TooManyOrders)) (Some Throttled))
         (or_append (paper a q.side q.qty q.kind now) ((Unavailable, has_room a q now) ∷ []))
         ∙ sym v_is ∙ e)
       where
-        last_passed : (p f : Bool) (w : Why.MaybeRejectCode) (b : Bool) →
-            cond p (cond f (or_else w (first ((Unavailable, b) ∷ []))) (Why.TheVariants.Some TooManyOrders)) (Why.TheVariants.Some Throttled) ≡ Why.TheVariants.None → b ≡ true
+        last_passed : (p f : Bool) (w : Option RejectCode) (b : Bool) →
+            cond p (cond f (option_or w (first ((Unavailable, b) ∷ []))) (Some TooManyOrders)) (Some Throttled) ≡ None → b ≡ true
         last_passed p f w true h = refl
-        last_passed true true Why.TheVariants.None false h = absurd (let z : ◌≡◌ {A = ℕ} 0 1 = cc in omega (arith, z))
-        last_passed true true (Why.TheVariants.Some k) false h = absurd (let z : ◌≡◌ {A = ℕ} 0 1 = cc in omega (arith, z))
+        last_passed true true None false h = absurd (let z : ◌≡◌ {A = ℕ} 0 1 = cc in omega (arith, z))
+        last_passed true true (Some k) false h = absurd (let z : ◌≡◌ {A = ℕ} 0 1 = cc in omega (arith, z))
         last_passed true false w false h = absurd (let z : ◌≡◌ {A = ℕ} 0 1 = cc in omega (arith, z))
         last_passed false f w false h = absurd (let z : ◌≡◌ {A = ℕ} 0 1 = cc in omega (arith, z))
 
-    module _ (o : Live) (w : Stands a q o) (h : Speaks s (some a) xs) where
-      pub new_refused : (ys end : List ℕ) (why : RejectCode) (r : Reply) → v ≡ Why.TheVariants.Some why → Does (reject s q.client_ref (after s a x.bucket time now.rest) why) r xs ys out end →
+    module _ (o : Live) (w : Stands a q o) (h : Speaks s (Some a) xs) where
+      pub new_refused : (ys end : List ℕ) (why : RejectCode) (r : Result ℕ Refusal) → v ≡ Some why → Does (reject s q.client_ref (after s a x.bucket time now.rest) why) r xs ys out end →
           Gives (call now (receive_from s (In.NewOrder q) time (places (length out)))) r xs ys out end
       new_refused ys end why r e d =
           gives xs out ys end s a (In.NewOrder q) time r h w.fits
           (subst (λ p. Does p r xs ys out end)
           (ap (λ (y : Taken). reject s q.client_ref (after s a y.bucket time now.rest) why) x_is ∙ sym (plan_is ∙ unless_failed all (reject s q.client_ref left) done why (same ∙ e))) d)
 
-      pub new_done : {ys : List ℕ} → v ≡ Why.TheVariants.None → Becomes ys (placed s a q (with_rest (after s a x.bucket time) now)) →
-          Gives (call now (receive_from s (In.NewOrder q) time (places (length out)))) (record { code = 0; count = 0 }) xs ys out out
+      pub new_done : {ys : List ℕ} → v ≡ None → Becomes ys (placed s a q (with_rest (after s a x.bucket time) now)) →
+          Gives (call now (receive_from s (In.NewOrder q) time (places (length out)))) (Ok 0) xs ys out out
       new_done {ys} e d =
-          gives xs out ys out s a (In.NewOrder q) time (record { code = 0; count = 0 }) h w.fits
-          (subst (λ p. Does p (record { code = 0; count = 0 }) xs ys out out) (sym (plan_is ∙ unless_passed all (reject s q.client_ref left) done (same ∙ e)))
+          gives xs out ys out s a (In.NewOrder q) time (Ok 0) h w.fits
+          (subst (λ p. Does p (Ok 0) xs ys out out) (sym (plan_is ∙ unless_passed all (reject s q.client_ref left) done (same ∙ e)))
           (does_record xs out _ _ _ (subst (λ (y : Taken). Becomes ys (placed s a q (with_rest (after s a y.bucket time) now))) x_is d)))

@@ -1,6 +1,5 @@
 -- An order-entry message: what its parts do.
-use Rattle.std.specs.Prelude.{ℕ, ◌+◌, ◌<◌, ◌≡◌, Bool, true, List, [], ◌∷◌, length, set}
-use Rattle.std.proofs.Math.Option.{some}
+use Rattle.std.specs.Prelude.{ℕ, ◌+◌, ◌<◌, ◌≡◌, Bool, true, List, [], ◌∷◌, length, set, Some, Result}
 use Rattle.orderbook.specs.declared.Command.{Command}
 use Rattle.protocol.specs.declared.NewOrder.{NewOrder}
 use Rattle.protocol.specs.declared.RejectCode.TheVariants.{NotAllowed}
@@ -17,7 +16,8 @@ use Rattle.orders.specs.declared.Live.{Live}
 use Rattle.pending.specs.Pending.{Batched}
 use Rattle.live.specs.Live as Live
 use Rattle.mailbox.specs.Mailbox.{places}
-use Rattle.outcome.specs.declared.Reply.{Reply}
+use Rattle.outcome.specs.declared.Refusal.{Refusal}
+use Rattle.outcome.specs.Refusals.{code_of, rows_of}
 use Rattle.outcome.specs.Parts.{with_rest, heard}
 use Rattle.outcome.specs.Answers.{Ends, Unsent, Sent}
 use Rattle.commands.specs.Commands as Commands
@@ -53,11 +53,11 @@ abbrev pub placed : ℕ → ℕ → NewOrder → Gateway → Gateway
 placed s a o g =
     let k = the_command a o g.core in
     record {
-      core = core_step (record { client_ref = o.client_ref; session = some s }) (command (next g.core) k) g.core;
+      core = core_step (record { client_ref = o.client_ref; session = Some s }) (command (next g.core) k) g.core;
       rest = queued k (noticing (new_notice g.core.ledger.fee a o (wallet_at a g.core)) g.rest);
     }
 
 -- what a plan gives, within the places lent
-abbrev pub Does : Plan → Reply → (xs ys out end : List ℕ) → Type 0
+abbrev pub Does : Plan → Result ℕ Refusal → (xs ys out end : List ℕ) → Type 0
 Does p r xs ys out end =
-    Ends (carry_out (gateway (cell xs)).core (within (places (length out)) p)) (Unsent r.count out end) (λ a ms. Sent a ms r.count out end) r.code xs ys
+    Ends (carry_out (gateway (cell xs)).core (within (places (length out)) p)) (Unsent (rows_of r) out end) (λ a ms. Sent a ms (rows_of r) out end) (code_of r) xs ys

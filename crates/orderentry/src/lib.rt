@@ -3,7 +3,6 @@
 #![tactic(auto)]
 
 ghost use Rattle.std.specs.Prelude.{◌≡◌, true, ◌+◌, ◌<◌, length};
-ghost use Rattle.std.proofs.Math.Option.{some};
 ghost use Rattle.protocol.specs.declared.Inbound.TheVariants as In;
 ghost use Rattle.gateway.specs.Limits.{owner_slots, session_slots};
 ghost use Rattle.gateway.specs.Entry.{command_of, reject};
@@ -20,8 +19,7 @@ ghost use Rattle.orderentry.specs.OrderEntry as P;
 
 use orderbook::{Command, Side};
 use orders::Live;
-use outcome::Reply;
-use protocol::codes::MaybeRejectCode;
+use outcome::Refusal;
 use protocol::{NewOrder, OrderKind, Outbound, RejectCode};
 use risk::Bucket;
 use store::cells;
@@ -54,15 +52,12 @@ fn refuse(
     client_ref: u64,
     time: u64,
     out: &mut [u8],
-) -> Reply
+) -> Result<usize, Refusal>
     requires { State m.old × (s < session_slots) × (a < owner_slots) }
     ensures { P.Does (reject s client_ref (P.after s a bucket time (rest_of m.old)) why) result m.old m.new out.old out.new }
 {
     if mailbox::room(out) < 1 {
-        return Reply {
-            code: outcome::TOO_SHORT,
-            count: 0,
-        };
+        return Err(Refusal::TooShort);
     }
     begin(m, s, a, bucket, time);
     outcome::send(
@@ -75,7 +70,7 @@ fn refuse(
             client_ref,
         },
     );
-    Reply { code: 0, count: 1 }
+    Ok(1)
 }
 
 // ---- commands that place nothing
@@ -98,24 +93,31 @@ fn enter_other(
     k: Command,
     time: u64,
     out: &mut [u8],
-) -> Reply
-    requires { Speaks s (some a) m.old × Commands.Plain a k }
+) -> Result<usize, Refusal>
+    requires { Speaks s (Some a) m.old × Commands.Plain a k }
     ensures { P.Does (P.other_plan s a allowed k time (gateway (cell m.old))) result m.old m.new out.old out.new }
 {
     let t = pretrade::take_token(m, a, time);
     let bucket = t.bucket;
     let v = pretrade::judge_other(m, t.passed, allowed);
     match v {
-        MaybeRejectCode::Some(why) => refuse(m, s, a, bucket, why, 0, time, out),
-        MaybeRejectCode::None => {
+        Some(why) => refuse(m, s, a, bucket, why, 0, time, out),
+        None => {
             push(m, s, a, bucket, k, time);
-            Reply { code: 0, count: 0 }
+            Ok(0)
         }
     }
 }
 
-pub fn cancel(m: &mut [u8], s: usize, a: usize, order_id: u64, time: u64, out: &mut [u8]) -> Reply
-    requires { Speaks s (some a) m.old }
+pub fn cancel(
+    m: &mut [u8],
+    s: usize,
+    a: usize,
+    order_id: u64,
+    time: u64,
+    out: &mut [u8],
+) -> Result<usize, Refusal>
+    requires { Speaks s (Some a) m.old }
     ensures { Gives (call (gateway (cell m.old)) (receive_from s (In.Cancel order_id) time (places (length out.old)))) result m.old m.new out.old out.new }
 {
     let k = Command::Cancel {
@@ -135,8 +137,8 @@ pub fn modify(
     qty: u64,
     time: u64,
     out: &mut [u8],
-) -> Reply
-    requires { Speaks s (some a) m.old }
+) -> Result<usize, Refusal>
+    requires { Speaks s (Some a) m.old }
     ensures { Gives (call (gateway (cell m.old)) (receive_from s (In.Modify order_id price qty) time (places (length out.old)))) result m.old m.new out.old out.new }
 {
     let allowed = !clients::is_funded(m, a);
@@ -149,8 +151,14 @@ pub fn modify(
     enter_other(m, s, a, allowed, k, time, out)
 }
 
-pub fn mass_cancel(m: &mut [u8], s: usize, a: usize, time: u64, out: &mut [u8]) -> Reply
-    requires { Speaks s (some a) m.old }
+pub fn mass_cancel(
+    m: &mut [u8],
+    s: usize,
+    a: usize,
+    time: u64,
+    out: &mut [u8],
+) -> Result<usize, Refusal>
+    requires { Speaks s (Some a) m.old }
     ensures { Gives (call (gateway (cell m.old)) (receive_from s In.MassCancel time (places (length out.old)))) result m.old m.new out.old out.new }
 {
     let k = Command::CancelAll { owner: a as u32 };
@@ -234,8 +242,8 @@ pub fn new_order(
     order: NewOrder,
     time: u64,
     out: &mut [u8],
-) -> Reply
-    requires { Speaks s (some a) m.old }
+) -> Result<usize, Refusal>
+    requires { Speaks s (Some a) m.old }
     ensures { Gives (call (gateway (cell m.old)) (receive_from s (In.NewOrder order) time (places (length out.old)))) result m.old m.new out.old out.new }
 {
     let o = pretrade::live_of(a, order);
@@ -243,10 +251,10 @@ pub fn new_order(
     let bucket = t.bucket;
     let v = pretrade::judge_new(m, a, t.passed, order, o);
     match v {
-        MaybeRejectCode::Some(why) => refuse(m, s, a, bucket, why, order.client_ref, time, out),
-        MaybeRejectCode::None => {
+        Some(why) => refuse(m, s, a, bucket, why, order.client_ref, time, out),
+        None => {
             enter_new(m, s, a, bucket, order, o, time);
-            Reply { code: 0, count: 0 }
+            Ok(0)
         }
     }
 }

@@ -1,4 +1,5 @@
 -- A place survives what moves no row. Assumes nothing.
+use Rattle.std.specs.Prelude.{Option, Some, None, is_some}
 use mathlib.Core.Path.{◌≡◌, refl, sym, ap, ◌∙◌}
 use mathlib.Core.Bool.{false≢true}
 use mathlib.Core.Logic.{⊎_elim}
@@ -7,10 +8,7 @@ use Prim.Native.Nat.{ℕ, ◌<◌}
 use native.Mathlib.Omega.{arith}
 use Rattle.table.specs.Live.{look}
 use Rattle.table.specs.Table.{found}
-use Rattle.table.specs.declared.Found.{Found}
-use Rattle.table.specs.declared.Found.TheVariants.{At, Nothing}
 use Rattle.table.proofs.Live.{same?}
-use Rattle.gateway.specs.Basics.{is_some}
 use Rattle.gateway.specs.Depth.{resting_number}
 use Rattle.gateway.specs.Ledger.{number_of}
 use Rattle.store.specs.Cells as C
@@ -49,20 +47,20 @@ stays_bytes b e h =
 
 module _ {A : Type 0} (k : ℕ) (f : Row → A) (number : A → ℕ) (s t : Store) (n : ℕ) (e : (q : Row) → number (f q) ≡ q C.order_number) (a : Stays s t) (d : Sorted t)
     (same : is_some (look number n (marked t k f)) ≡ is_some (look number n (marked s k f))) where
-  both : (q r : Found) → FindsRow k t n q → Sees k f number s n r → is_some (found (λ j. f (t C.orders j)) q) ≡ is_some (found (λ j. f (s C.orders j)) r)
+  both : (q r : Option ℕ) → FindsRow k t n q → Sees k f number s n r → is_some (found (λ j. f (t C.orders j)) q) ≡ is_some (found (λ j. f (s C.orders j)) r)
   both q r h g = sym (ap is_some (sees k f number t n q e d h).order) ∙ same ∙ ap is_some g.order
 
-  still : (r : Found) → Sees k f number s n r → FindsRow k t n r
-  still (At i) h =
+  still : (r : Option ℕ) → Sees k f number s n r → FindsRow k t n r
+  still (Some i) h =
       let l : i < word t C.order_rows = rw a.rows_are h.row.0 in
       let m = a.numbers_are i h.row.0 ∙ h.row.1 in
-      ⊎_elim (λ z. absurd (false≢true (both Nothing (At i) (rw m at (half_gone k t d i l _ refl z)) h))) (λ ne. (l, m, omega (arith, ne))) (same? (t C.orders i k) 0)
-  still Nothing h = λ j l m. ⊎_elim (λ z. z) (λ ne. absurd (false≢true (sym (both (At j) Nothing (l, m, omega (arith, ne)) h)))) (same? (t C.orders j k) 0)
+      ⊎_elim (λ z. absurd (false≢true (both None (Some i) (rw m at (half_gone k t d i l _ refl z)) h))) (λ ne. (l, m, omega (arith, ne))) (same? (t C.orders i k) 0)
+  still None h = λ j l m. ⊎_elim (λ z. z) (λ ne. absurd (false≢true (sym (both (Some j) None (l, m, omega (arith, ne)) h)))) (same? (t C.orders j k) 0)
 
-  still_seen : (r : Found) → Sees k f number s n r → Sees k f number t n r
+  still_seen : (r : Option ℕ) → Sees k f number s n r → Sees k f number t n r
   still_seen r h = sees k f number t n r e d (still r h)
 
-module _ {s t : Store} (n : ℕ) (r : Found) (a : Stays s t) (d : Sorted t) where
+module _ {s t : Store} (n : ℕ) (r : Option ℕ) (a : Stays s t) (d : Sorted t) where
   pub still_live : is_some (look number_of n (ledger t).orders) ≡ is_some (look number_of n (ledger s).orders) → Sees C.order_live order number_of s n r → Sees C.order_live order number_of t n r
   still_live same = still_seen C.order_live order number_of s t n (λ q. refl) a d same r
 

@@ -1,8 +1,8 @@
 -- What the operations write, and what a lookup finds in the bytes. Assumes nothing.
+use Rattle.std.specs.Prelude.{Option, Some, None, option_map}
 use mathlib.Core.Path.{◌≡◌, refl, sym, ap, ap₂, ◌∙◌}
 use mathlib.Core.Bool.{cond, ◌&&◌}
 use mathlib.Core.Logic.{◌⊎◌, inl, inr, ⊎_elim}
-use mathlib.Core.Option.{map}
 use mathlib.Core.List.{List, [], ◌∷◌, ◌++◌}
 use Prim.Native.Nat.{ℕ, zero, suc, ◌+◌, ◌*◌, ◌-◌, ◌/◌, ◌%◌, ◌^◌, ◌≤◌, ◌<◌}
 use native.Mathlib.Numerals.{add-one}
@@ -18,8 +18,6 @@ use Rattle.le.proofs.Laws.{lt_or_le, le_split, le_local, le_outside, outside_wid
 use Rattle.table.specs.Live.{pick, live, kept}
 use Rattle.table.specs.Table.{key_at, mark_at, Room, Finds, found, Between, Opened, Closed, Compacted}
 use Rattle.table.specs.Table as T
-use Rattle.table.specs.declared.Found.{Found}
-use Rattle.table.specs.declared.Found.TheVariants.{At, Nothing}
 use Rattle.table.proofs.Live.{same?}
 use Rattle.table.proofs.Search.{finds_look}
 use Rattle.gateway.specs.Depth.{resting_number}
@@ -151,9 +149,9 @@ unfolding cell spot start
 mark_cell xs k j h =
     let e : base + 128 * j + 8 * k ≡ 8 * (get_or starts C.orders 0 + (16 * j + k)) = omega arith in ap (le 1 xs) e ∙ low_byte xs (8 * (get_or starts C.orders 0 + (16 * j + k))) h
 
-finds_ext : {ks ms ks' ms' : ℕ → ℕ} (n k : ℕ) → ((j : ℕ) → j < n → ks j ≡ ks' j) → ((j : ℕ) → j < n → ms j ≡ ms' j) → (r : Found) → Finds ks ms n k r → Finds ks' ms' n k r
-finds_ext n k ke me (At i) h = (h.0, sym (ke i h.0) ∙ h.1, rw (← me i h.0) h.2)
-finds_ext n k ke me Nothing h = λ j l e. sym (me j l) ∙ h j l (ke j l ∙ e)
+finds_ext : {ks ms ks' ms' : ℕ → ℕ} (n k : ℕ) → ((j : ℕ) → j < n → ks j ≡ ks' j) → ((j : ℕ) → j < n → ms j ≡ ms' j) → (r : Option ℕ) → Finds ks ms n k r → Finds ks' ms' n k r
+finds_ext n k ke me (Some i) h = (h.0, sym (ke i h.0) ∙ h.1, rw (← me i h.0) h.2)
+finds_ext n k ke me None h = λ j l e. sym (me j l) ∙ h j l (ke j l ∙ e)
 
 pub sorted_bytes : {xs : List ℕ} (n : ℕ) → Ready xs → Sorted (cell xs) → n ≡ cell xs C.header 0 C.order_rows → T.Sorted base 128 n xs
 sorted_bytes {xs} n r s e =
@@ -162,7 +160,7 @@ sorted_bytes {xs} n r s e =
       asc = λ i j h l. rw (key_cell xs i, key_cell xs j) (s.ascends i j h (rw e at l));
     }
 
-pub find_is : (xs : List ℕ) (k n number : ℕ) (r : Found) → Marks k (cell xs) → n ≡ cell xs C.header 0 C.order_rows →
+pub find_is : (xs : List ℕ) (k n number : ℕ) (r : Option ℕ) → Marks k (cell xs) → n ≡ cell xs C.header 0 C.order_rows →
     Finds (key_at base 128 xs) (mark_at base 128 (8 * k) xs) n number r → FindsRow k (cell xs) number r
 find_is xs k n number r m e h =
     rw (← e)
@@ -557,27 +555,27 @@ live_marks s = record { inside = omega arith; small = λ j l. (s.flags j l).live
 
 -- ---- what is found is what the view's list has
 
-found_map : {A B : Type 0} (h : A → B) (f : ℕ → A) (r : Found) → map h (found f r) ≡ found (λ j. h (f j)) r
-found_map h f (At i) = refl
-found_map h f Nothing = refl
+found_map : {A B : Type 0} (h : A → B) (f : ℕ → A) (r : Option ℕ) → option_map h (found f r) ≡ found (λ j. h (f j)) r
+found_map h f (Some i) = refl
+found_map h f None = refl
 
-pub sees : {A : Type 0} (k : ℕ) (f : Row → A) (number : A → ℕ) (s : Store) (n : ℕ) (r : Found) → ((q : Row) → number (f q) ≡ q C.order_number) → Sorted s → FindsRow k s n r →
+pub sees : {A : Type 0} (k : ℕ) (f : Row → A) (number : A → ℕ) (s : Store) (n : ℕ) (r : Option ℕ) → ((q : Row) → number (f q) ≡ q C.order_number) → Sorted s → FindsRow k s n r →
     Sees k f number s n r
 sees {A} k f number s n r e t h =
     record {
       row = h;
       order =
           look_map (λ (p : ℕ × A). p.1) number n (live (λ (p : ℕ × A). p.0) (λ j. (s C.orders j k, f (s C.orders j))) (word s C.order_rows))
-          ∙ ap (map (λ (p : ℕ × A). p.1))
+          ∙ ap (option_map (λ (p : ℕ × A). p.1))
           (finds_look (λ (p : ℕ × A). p.0) (λ (p : ℕ × A). number p.1) (λ j. (s C.orders j k, f (s C.orders j))) (word s C.order_rows) n (λ j l. e (s C.orders j)) (λ j l. refl)
           (λ i j a b. rw (e (s C.orders i), e (s C.orders j)) (t.ascends i j a b)) r h)
           ∙ found_map (λ (p : ℕ × A). p.1) (λ j. (s C.orders j k, f (s C.orders j))) r;
     }
 
-pub sees_live : (s : Store) (n : ℕ) (r : Found) → Sorted s → FindsRow C.order_live s n r → Sees C.order_live order number_of s n r
+pub sees_live : (s : Store) (n : ℕ) (r : Option ℕ) → Sorted s → FindsRow C.order_live s n r → Sees C.order_live order number_of s n r
 sees_live s n r = sees C.order_live order number_of s n r (λ q. refl)
 
-pub sees_resting : (s : Store) (n : ℕ) (r : Found) → Sorted s → FindsRow C.order_resting s n r → Sees C.order_resting resting resting_number s n r
+pub sees_resting : (s : Store) (n : ℕ) (r : Option ℕ) → Sorted s → FindsRow C.order_resting s n r → Sees C.order_resting resting resting_number s n r
 sees_resting s n r = sees C.order_resting resting resting_number s n r (λ q. refl)
 
 -- ---- one search for both halves: a row that is not kept has neither
@@ -595,36 +593,36 @@ neither (suc a) b e = absurd (omega (arith, e))
 
 -- the row i alone bears its number
 module _ (k : ℕ) (s : Store) (t : Sorted s) (i : ℕ) (inside : i < word s C.order_rows) (v : ℕ) (v_is : v ≡ s C.orders i k) where
-  pub half_there : (v ≡ 0 → ⊥) → FindsRow k s (number_at i s) (At i)
+  pub half_there : (v ≡ 0 → ⊥) → FindsRow k s (number_at i s) (Some i)
   half_there n = (inside, refl, omega (arith, v_is, n))
 
-  pub half_gone : v ≡ 0 → FindsRow k s (number_at i s) Nothing
+  pub half_gone : v ≡ 0 → FindsRow k s (number_at i s) None
   half_gone z j l e =
       ⊎_elim (λ (q : j ≡ i). ap (λ h. s C.orders h k) q ∙ sym v_is ∙ z)
       (λ q. absurd (⊎_elim (λ a. omega (arith, t.ascends j i a inside, e)) (λ b. omega (arith, t.ascends i j (omega arith) l, e)) (lt_or_le j i))) (same? j i)
 
-module _ (s : Store) (t : Sorted s) (n : ℕ) (q : Found) (h : FindsRow C.order_kept s n q) where
-  module _ (i : ℕ) (e : q ≡ At i) where
-    its_row : FindsRow C.order_kept s n (At i)
+module _ (s : Store) (t : Sorted s) (n : ℕ) (q : Option ℕ) (h : FindsRow C.order_kept s n q) where
+  module _ (i : ℕ) (e : q ≡ Some i) where
+    its_row : FindsRow C.order_kept s n (Some i)
     its_row = rw e at h
 
     pub row_inside : i < word s C.order_rows
     row_inside = its_row.0
 
-    pub its_live : (r : Found) → FindsRow C.order_live s (number_at i s) r → Sees C.order_live order number_of s n r
+    pub its_live : (r : Option ℕ) → FindsRow C.order_live s (number_at i s) r → Sees C.order_live order number_of s n r
     its_live r f = sees_live s n r t (rw its_row.1 at f)
 
-    pub its_resting : (r : Found) → FindsRow C.order_resting s (number_at i s) r → Sees C.order_resting resting resting_number s n r
+    pub its_resting : (r : Option ℕ) → FindsRow C.order_resting s (number_at i s) r → Sees C.order_resting resting resting_number s n r
     its_resting r f = sees_resting s n r t (rw its_row.1 at f)
 
-  module _ (e : q ≡ Nothing) where
+  module _ (e : q ≡ None) where
     none_kept : (j : ℕ) → j < word s C.order_rows → s C.orders j C.order_number ≡ n → (s C.orders j C.order_live ≡ 0) × (s C.orders j C.order_resting ≡ 0)
-    none_kept j l w = let k : FindsRow C.order_kept s n Nothing = rw e at h in neither (s C.orders j C.order_live) (s C.orders j C.order_resting) (sym (t.flags j l).kept_is ∙ k j l w)
+    none_kept j l w = let k : FindsRow C.order_kept s n None = rw e at h in neither (s C.orders j C.order_live) (s C.orders j C.order_resting) (sym (t.flags j l).kept_is ∙ k j l w)
 
-    pub no_live : (r : Found) → r ≡ Nothing → Sees C.order_live order number_of s n r
-    no_live r z = rw z (sees_live s n Nothing t (λ j l w. (none_kept j l w).0))
+    pub no_live : (r : Option ℕ) → r ≡ None → Sees C.order_live order number_of s n r
+    no_live r z = rw z (sees_live s n None t (λ j l w. (none_kept j l w).0))
 
-    pub no_resting : (r : Found) → r ≡ Nothing → Sees C.order_resting resting resting_number s n r
-    no_resting r z = rw z (sees_resting s n Nothing t (λ j l w. (none_kept j l w).1))
+    pub no_resting : (r : Option ℕ) → r ≡ None → Sees C.order_resting resting resting_number s n r
+    no_resting r z = rw z (sees_resting s n None t (λ j l w. (none_kept j l w).1))
 
 pub ruleset laws = (sees_live, sees_resting, half_there, half_gone, row_inside, its_live, its_resting, no_live, no_resting, kept_marks, hint_read, set_hint_is, set_two_is, set_four_is, strike_is, rest_is, put_row_is, append_is, sorted_bytes, room_bytes, hint_is, kept_in, kept_out, map_row_is, ones_none, ones_some, ones_all, squeeze_is, room_there, room_made, place_is, place_down, place_still, rows_stay, rows_grow, way_up, way_down, swap_bits_is, find_is, live_marks, header_cell, order_cell, hint_cell, order_map_cell, arith)

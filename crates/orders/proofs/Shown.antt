@@ -1,8 +1,8 @@
 -- The list of what is shown of the marked rows: a row more, a row changed, struck out or marked again. Assumes nothing.
+use Rattle.std.specs.Prelude.{option_map}
 use mathlib.Core.Path.{◌≡◌, refl, sym, ap, ap₂, ◌∙◌}
 use mathlib.Core.Bool.{cond}
 use mathlib.Core.Logic.{⊎_elim}
-use mathlib.Core.Option
 use mathlib.Core.List.{List, [], ◌∷◌, ◌++◌, map}
 use Prim.Native.Nat.{ℕ, zero, suc, ◌+◌, ◌≤◌, ◌<◌}
 use native.Mathlib.Nat.{eq-or-lt_of_le}
@@ -19,10 +19,10 @@ use Rattle.gateway.proofs.Base.{split, if_map}
 -- ---- a map over what the tables of the definitions do, where it keeps the keys
 
 module _ {A B : Type 0} (h : A → B) (key : B → ℕ) where
-  pub look_map : (k : ℕ) (l : List A) → look key k (map h l) ≡ Option.map h (look (λ a. key (h a)) k l)
+  pub look_map : (k : ℕ) (l : List A) → look key k (map h l) ≡ option_map h (look (λ a. key (h a)) k l)
   unfolding look
   look_map k [] = refl
-  look_map k (x ∷ l) = sym (if_map (Option.map h) (eqb (key (h x)) k) refl (sym (look_map k l)))
+  look_map k (x ∷ l) = sym (if_map (option_map h) (eqb (key (h x)) k) refl (sym (look_map k l)))
 
   map_without : (k : ℕ) (l : List A) → map h (without (λ a. key (h a)) k l) ≡ without key k (map h l)
   unfolding without

@@ -1,8 +1,8 @@
 -- What the operations do to the gateway that the cells hold, and that they keep the table in order. Assumes nothing.
+use Rattle.std.specs.Prelude.{Some, option_map}
 use mathlib.Core.Path.{◌≡◌, refl, sym, ap, ap₂, ◌∙◌}
 use mathlib.Core.Logic.{⊎_elim}
 use mathlib.Core.Bool.{cond}
-use mathlib.Core.Option.{some, map}
 use mathlib.Core.List.{List, [], ◌∷◌, ◌++◌}
 use Prim.Native.Nat.{ℕ, zero, suc, ◌+◌, ◌-◌, ◌%◌, ◌≤◌, ◌<◌}
 use native.Mathlib.Omega.{arith}
@@ -285,10 +285,10 @@ module _ (s : Store) (i : ℕ) (d : Ordered s) (l : i < word s C.order_rows) whe
           (low, high, p, ap (shown (λ j. read k f (t C.orders j))) n ∙ q ∙ ap (λ (x : Row). low ++ (pick (x k) (f x) ++ high)) c.here)
 
     -- what a lookup of the row's number finds
-    look_at : 0 < was k → look number (was C.order_number) (marked s k f) ≡ some (f was)
+    look_at : 0 < was k → look number (was C.order_number) (marked s k f) ≡ Some (f was)
     look_at m =
         look_map (λ (x : ℕ × A). x.1) number (was C.order_number) (live (λ (x : ℕ × A). x.0) (λ j. read k f (s C.orders j)) (word s C.order_rows))
-        ∙ ap (map (λ (x : ℕ × A). x.1))
+        ∙ ap (option_map (λ (x : ℕ × A). x.1))
         (look_some (λ (x : ℕ × A). x.0) (λ (x : ℕ × A). number x.1) (λ j. read k f (s C.orders j)) (was C.order_number) i (word s C.order_rows) rising l (e was) m)
 
     -- where the row is marked, there is one to count
@@ -370,10 +370,10 @@ module _ (s : Store) (i : ℕ) (d : Ordered s) (l : i < word s C.order_rows) whe
       resting_did _ (show i v w s) (show_touched v w) refl (λ j. refl) refl refl refl m
 
   -- its order
-  pub find_at : 0 < was C.order_live → L.find (was C.order_number) (ledger s).orders ≡ some (order was)
+  pub find_at : 0 < was C.order_live → L.find (was C.order_number) (ledger s).orders ≡ Some (order was)
   find_at m = look_at C.order_live order number_of (λ r. refl) m
 
-  pub resting_at : 0 < was C.order_resting → D.find_resting (was C.order_number) (depth s).resting ≡ some (resting was)
+  pub resting_at : 0 < was C.order_resting → D.find_resting (was C.order_number) (depth s).resting ≡ Some (resting was)
   resting_at m = look_at C.order_resting resting D.resting_number (λ r. refl) m
 
   -- how an operation moves the live orders, by its row

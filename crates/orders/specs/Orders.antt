@@ -1,9 +1,8 @@
 -- The table of orders: what a lookup finds, and what each operation writes, as a store.
-use Rattle.std.specs.Prelude.{ℕ, zero, suc, ◌+◌, ◌*◌, ◌-◌, ◌/◌, ◌%◌, ◌^◌, ◌≤◌, ◌<◌, ◌≡◌, cond, ◌&&◌, List, [], ◌∷◌, eqb, ltb, length, get_or}
+use Rattle.std.specs.Prelude.{ℕ, zero, suc, ◌+◌, ◌*◌, ◌-◌, ◌/◌, ◌%◌, ◌^◌, ◌≤◌, ◌<◌, ◌≡◌, cond, ◌&&◌, List, [], ◌∷◌, eqb, ltb, length, get_or, Option}
 use Rattle.std.specs.Int.Bits.{bit_or, bit_xor}
 use Rattle.table.specs.Live.{look, kept, Ascends}
 use Rattle.table.specs.Table.{Finds, found}
-use Rattle.table.specs.declared.Found.{Found}
 use Rattle.words.specs.Words.{modulus, int}
 use Rattle.gateway.specs.Depth as D
 use Rattle.gateway.specs.Ledger.{Order}
@@ -95,11 +94,11 @@ abbrev pub number_at : ℕ → Store → ℕ
 number_at i s = s C.orders i C.order_number
 
 -- of the rows in use, the one that bears the number n and whose cell k is not 0
-abbrev pub FindsRow : ℕ → Store → ℕ → Found → Type 0
+abbrev pub FindsRow : ℕ → Store → ℕ → Option ℕ → Type 0
 FindsRow k s n r = Finds (λ j. s C.orders j C.order_number) (λ j. s C.orders j k) (word s C.order_rows) n r
 
 -- and it is what the list of those rows has at n, as f reads them
-pub record Sees {A : Type 0} (k : ℕ) (f : Row → A) (number : A → ℕ) (s : Store) (n : ℕ) (r : Found) : Type 0 where
+pub record Sees {A : Type 0} (k : ℕ) (f : Row → A) (number : A → ℕ) (s : Store) (n : ℕ) (r : Option ℕ) : Type 0 where
   pub row : FindsRow k s n r
   pub order : look number n (marked s k f) ≡ found (λ j. f (s C.orders j)) r
 

@@ -17,7 +17,6 @@ use store::cells::{
     ORDER_REST_LEAVES, ORDER_REST_PRICE, ORDER_REST_SIDE, ORDER_RESTING, ORDER_ROWS, ORDER_SIDE,
     ORDER_VISIBLE, RESTING_ORDERS,
 };
-use table::Found;
 
 // The live half of a row.
 #[derive(Clone, Copy)]
@@ -77,7 +76,7 @@ fn set_hint(m: &mut [u8], number: u64, i: u64)
 }
 
 // The row of a number whose flag stands in the cell k: the one that the hint says, where it bears the number.
-fn find(m: &[u8], k: usize, number: u64) -> Found
+fn find(m: &[u8], k: usize, number: u64) -> Option<usize>
     requires { Ready m.now × Sorted (cell m.now) × Marks k (cell m.now) }
     ensures { FindsRow k (cell m.now) number result }
 {
@@ -94,7 +93,7 @@ fn find(m: &[u8], k: usize, number: u64) -> Found
     )
 }
 
-pub fn find_live(m: &[u8], number: u64) -> Found
+pub fn find_live(m: &[u8], number: u64) -> Option<usize>
     requires { Ready m.now × Sorted (cell m.now) }
     ensures { Sees C.order_live order number_of (cell m.now) number result }
 {
@@ -104,19 +103,19 @@ pub fn find_live(m: &[u8], number: u64) -> Found
 // Where the two halves of an order stand.
 #[derive(Clone, Copy)]
 pub struct Places {
-    pub live: Found,
-    pub resting: Found,
+    pub live: Option<usize>,
+    pub resting: Option<usize>,
 }
 
 // The row i where its flag in the cell k is set.
-fn half(m: &[u8], i: usize, k: usize) -> Found
+fn half(m: &[u8], i: usize, k: usize) -> Option<usize>
     requires { Ready m.now × Sorted (cell m.now) × (i < word (cell m.now) C.order_rows) × (k < 16) }
     ensures { FindsRow k (cell m.now) (number_at i (cell m.now)) result }
 {
     if store::get(m, store::ORDERS, i, k) == 0 {
-        return Found::Nothing;
+        return None;
     }
-    Found::At(i)
+    Some(i)
 }
 
 // Both halves by one search.
@@ -124,14 +123,14 @@ pub fn look(m: &[u8], number: u64) -> Places
     requires { Ready m.now × Sorted (cell m.now) }
     ensures { Sees C.order_live order number_of (cell m.now) number result.live × Sees C.order_resting resting resting_number (cell m.now) number result.resting }
 {
-    if let Found::At(i) = find(m, ORDER_KEPT, number) {
+    if let Some(i) = find(m, ORDER_KEPT, number) {
         let live = half(m, i, ORDER_LIVE);
         let resting = half(m, i, ORDER_RESTING);
         return Places { live, resting };
     }
     Places {
-        live: Found::Nothing,
-        resting: Found::Nothing,
+        live: None,
+        resting: None,
     }
 }
 
@@ -297,10 +296,8 @@ fn hint_rows(m: &mut [u8], n: usize)
     requires { Holds m.old × (n ≤ order_room) }
     ensures { Is m.new (hint_rows n (cell m.old)) }
 {
-    let mut i: usize = 0;
-    while i < n {
+    for i in 0..n {
         hint(m, i);
-        i += 1;
     }
 }
 
@@ -329,10 +326,8 @@ pub fn remap(m: &mut [u8])
     requires { Holds m.old }
     ensures { Is m.new (remap (cell m.old)) }
 {
-    let mut i: usize = 0;
-    while i < ROOM as usize {
+    for i in 0..ROOM as usize {
         map_row(m, i);
-        i += 1;
     }
 }
 
@@ -356,10 +351,8 @@ fn map_words(m: &mut [u8], n: usize)
     requires { Holds m.old }
     ensures { Is m.new (map_words 32 n (cell m.old)) }
 {
-    let mut g: usize = 0;
-    while g < 32 {
+    for g in 0..32 {
         store::set(m, store::ORDER_MAP, g, MAP_BITS, ones(n, g));
-        g += 1;
     }
 }
 

@@ -1,7 +1,7 @@
 -- One session changes: what does not look at the change is as it was, and stamps stay. Assumes nothing.
+use Rattle.std.specs.Prelude.{Option, Some, None, option_map}
 use mathlib.Core.Path.{◌≡◌, refl, sym, ap, ap₂, ◌∙◌}
 use mathlib.Core.Bool.{false, cond}
-use mathlib.Core.Option.{Option, none, some, map}
 use mathlib.Core.List.{List, [], ◌∷◌, ◌++◌}
 use Prim.Native.Nat.{ℕ, zero, suc}
 use lib.ListN.{get_or, set}
@@ -14,20 +14,20 @@ use Rattle.gateway.specs.Rest.{Session, Mail, Rest, with_sessions, account_of, l
 
 module _ (u : Session → Session) where
   abbrev pub changed_at : ℕ → List (Option Session) → List (Option Session)
-  changed_at i xs = set xs i (map u (get_or xs i none))
+  changed_at i xs = set xs i (option_map u (get_or xs i None))
 
-  pub session_from_changed : ((x : Option Session) → account_of (map u x) ≡ account_of x) → (s a i : ℕ) (xs : List (Option Session)) → session_from s a (changed_at i xs) ≡ session_from s a xs
+  pub session_from_changed : ((x : Option Session) → account_of (option_map u x) ≡ account_of x) → (s a i : ℕ) (xs : List (Option Session)) → session_from s a (changed_at i xs) ≡ session_from s a xs
   session_from_changed e s a i [] = refl
-  session_from_changed e s a zero (x ∷ xs) = ap (λ o. cond (option false (eqb a) o) (some s) (session_from (suc s) a xs)) (e x)
-  session_from_changed e s a (suc i) (x ∷ xs) = ap (λ t. cond (logged_in a x) (some s) t) (session_from_changed e (suc s) a i xs)
+  session_from_changed e s a zero (x ∷ xs) = ap (λ o. cond (option false (eqb a) o) (Some s) (session_from (suc s) a xs)) (e x)
+  session_from_changed e s a (suc i) (x ∷ xs) = ap (λ t. cond (logged_in a x) (Some s) t) (session_from_changed e (suc s) a i xs)
 
-  pub each_from_changed : (f : ℕ → Option Session → List Mail) → ((j : ℕ) (x : Option Session) → f j (map u x) ≡ f j x) → (n i : ℕ) (xs : List (Option Session)) →
+  pub each_from_changed : (f : ℕ → Option Session → List Mail) → ((j : ℕ) (x : Option Session) → f j (option_map u x) ≡ f j x) → (n i : ℕ) (xs : List (Option Session)) →
       each_from n f (changed_at i xs) ≡ each_from n f xs
   each_from_changed f e n i [] = refl
   each_from_changed f e n zero (x ∷ xs) = ap (λ ms. ms ++ each_from (suc n) f xs) (e n x)
   each_from_changed f e n (suc i) (x ∷ xs) = ap (λ ms. f n x ++ ms) (each_from_changed f e (suc n) i xs)
 
-  pub changed_keeps : {B : Type 0} (p : Option Session → B) → ((x : Option Session) → p (map u x) ≡ p x) → (i s : ℕ) (xs : List (Option Session)) → p (get_or (changed_at i xs) s none) ≡ p (get_or xs s none)
+  pub changed_keeps : {B : Type 0} (p : Option Session → B) → ((x : Option Session) → p (option_map u x) ≡ p x) → (i s : ℕ) (xs : List (Option Session)) → p (get_or (changed_at i xs) s None) ≡ p (get_or xs s None)
   changed_keeps p e i s [] = refl
   changed_keeps p e zero zero (x ∷ xs) = e x
   changed_keeps p e zero (suc s) (x ∷ xs) = refl
@@ -36,9 +36,9 @@ module _ (u : Session → Session) where
 
 -- two changes, of one session or of two, in either order
 module _ (u v : Session → Session) (e : (x : Session) → u (v x) ≡ v (u x)) where
-  swap_one : (x : Option Session) → map u (map v x) ≡ map v (map u x)
-  swap_one none = refl
-  swap_one (some x) = ap some (e x)
+  swap_one : (x : Option Session) → option_map u (option_map v x) ≡ option_map v (option_map u x)
+  swap_one None = refl
+  swap_one (Some x) = ap Some (e x)
 
   swapped : (i j : ℕ) (xs : List (Option Session)) → changed_at u i (changed_at v j xs) ≡ changed_at v j (changed_at u i xs)
   swapped i j [] = refl
@@ -49,13 +49,13 @@ module _ (u v : Session → Session) (e : (x : Session) → u (v x) ≡ v (u x))
 
 -- ---- stamps
 
-sent_account : (t : ℕ) (x : Option Session) → account_of (map (Rest.set_sent t) x) ≡ account_of x
-sent_account t none = refl
-sent_account t (some x) = refl
+sent_account : (t : ℕ) (x : Option Session) → account_of (option_map (Rest.set_sent t) x) ≡ account_of x
+sent_account t None = refl
+sent_account t (Some x) = refl
 
-pub sent_open : (t : ℕ) (x : Option Session) → is_open (map (Rest.set_sent t) x) ≡ is_open x
-sent_open t none = refl
-sent_open t (some x) = refl
+pub sent_open : (t : ℕ) (x : Option Session) → is_open (option_map (Rest.set_sent t) x) ≡ is_open x
+sent_open t None = refl
+sent_open t (Some x) = refl
 
 pub session_of_stamped : (a : ℕ) (ms : List Mail) (r : Rest) → session_of a (stamped ms r) ≡ session_of a r
 session_of_stamped a [] r = refl

@@ -1,8 +1,8 @@
 -- A message that is received: what becomes of it, by its session. Assumes nothing.
+use Rattle.std.specs.Prelude.{Option, Some, None, option_map}
 use mathlib.Core.Path.{◌≡◌, refl, sym, ap, ◌∙◌}
 use mathlib.Core.Bool.{true, false, false≢true}
 use mathlib.Core.Logic.{⊎_elim}
-use mathlib.Core.Option.{Option, none, some, map}
 use mathlib.Core.List.{List, []}
 use Prim.Native.Nat.{ℕ, ◌≤◌, ◌<◌}
 use lib.ListN.{get_or-eq_default}
@@ -23,18 +23,18 @@ use Rattle.outcome.proofs.Walk.{slots}
 pub session_of_heard : (a s t : ℕ) (r : Rest) → session_of a (heard s t r) ≡ session_of a r
 session_of_heard a s t r = session_from_changed (set_received t) kept 0 a s r.sessions
   where
-    kept : (o : Option Session) → account_of (map (set_received t) o) ≡ account_of o
-    kept none = refl
-    kept (some x) = refl
+    kept : (o : Option Session) → account_of (option_map (set_received t) o) ≡ account_of o
+    kept None = refl
+    kept (Some x) = refl
 
 -- who is present has a slot
 pub present_slot : (xs : List ℕ) (s : ℕ) → is_present (session_at s (rest_of xs)) ≡ true → s < session_slots
 present_slot xs s e = ⊎_elim (λ l. l) (λ l. absurd (gone (past l))) (lt_or_le s session_slots)
   where
-    past : session_slots ≤ s → session_at s (rest_of xs) ≡ none
-    past l = get_or-eq_default (rest_of xs).sessions none {n = s} (rw (slots xs) l)
+    past : session_slots ≤ s → session_at s (rest_of xs) ≡ None
+    past l = get_or-eq_default (rest_of xs).sessions None {n = s} (rw (slots xs) l)
 
-    gone : session_at s (rest_of xs) ≡ none → ⊥
+    gone : session_at s (rest_of xs) ≡ None → ⊥
     gone h = false≢true (sym (ap is_present h) ∙ e)
 
 pub speaks : (xs : List ℕ) (s : ℕ) (a : Option ℕ) → Between xs → is_present (session_at s (rest_of xs)) ≡ true → account_of (session_at s (rest_of xs)) ≡ a → Speaks s a xs
@@ -48,11 +48,11 @@ module _ (xs : List ℕ) (s : ℕ) (m : Inbound) (t room : ℕ) where
   unheard_plan e = rw e refl
 
   -- a session without an account
-  pub greet_plan : Speaks s none xs → plan (gateway (cell xs)).core (rest_of xs) (receive_from s m t room) ≡ within room (greet s m (gateway (cell xs)).core (heard s t (rest_of xs)))
+  pub greet_plan : Speaks s None xs → plan (gateway (cell xs)).core (rest_of xs) (receive_from s m t room) ≡ within room (greet s m (gateway (cell xs)).core (heard s t (rest_of xs)))
   unfolding plan receive
   greet_plan h = rw (h.present, h.account) refl
 
   -- one that is logged in
-  pub hear_plan : (a : ℕ) → Speaks s (some a) xs → plan (gateway (cell xs)).core (rest_of xs) (receive_from s m t room) ≡ within room (hear s a m (gateway (cell xs)).core (heard s t (rest_of xs)))
+  pub hear_plan : (a : ℕ) → Speaks s (Some a) xs → plan (gateway (cell xs)).core (rest_of xs) (receive_from s m t room) ≡ within room (hear s a m (gateway (cell xs)).core (heard s t (rest_of xs)))
   unfolding plan receive
   hear_plan a h = rw (h.present, h.account) refl

@@ -1,7 +1,7 @@
 -- A walk in which each step sends something and changes no more than the stamps of what it sends. Assumes nothing.
+use Rattle.std.specs.Prelude.{Option, None}
 use mathlib.Core.Path.{◌≡◌, refl, sym, ap, ap₂, ◌∙◌}
 use mathlib.Core.Logic.{⊎_elim}
-use mathlib.Core.Option.{Option, none}
 use mathlib.Core.List.{List, [], ◌∷◌, ◌++◌, map, append-nil, append_assoc}
 use Prim.Native.Nat.{ℕ, zero, suc, ◌+◌, ◌≤◌, ◌<◌}
 use native.Mathlib.Numerals.{add-one}
@@ -97,7 +97,7 @@ each_one h [] = refl
 each_one h (x ∷ xs) = ap (λ ms. h x ∷ ms) (each_one h xs)
 
 -- a step for each session
-module _ (h : ℕ → Option Session → List Mail) (f : Steps) (g : Gateway) (e : (j : ℕ) → f g j ≡ h j (get_or g.rest.sessions j none)) where
+module _ (h : ℕ → Option Session → List Mail) (f : Steps) (g : Gateway) (e : (j : ℕ) → f g j ≡ h j (get_or g.rest.sessions j None)) where
   sessions_taken : (n : ℕ) → n ≤ length g.rest.sessions → steps f g n ≡ each_from 0 h (take n g.rest.sessions)
   unfolding steps
   sessions_taken zero l = refl

@@ -1,6 +1,5 @@
 -- What a call gives, by its outcome in the definitions: the one form of contract for every call of document 01.
-use Rattle.std.specs.Prelude.{ℕ, ◌≡◌, cond, List, [], ◌∷◌, map, length}
-use Rattle.std.proofs.Math.Option.{Option, none, some}
+use Rattle.std.specs.Prelude.{ℕ, ◌≡◌, cond, List, [], ◌∷◌, map, length, Option, Some, None, Result}
 use Rattle.words.specs.Words.{word_of}
 use Rattle.gateway.specs.Core.{Tests}
 use Rattle.gateway.specs.Depth.{Level}
@@ -11,7 +10,8 @@ use Rattle.rows.specs.Rows.{put_rows}
 use Rattle.mailbox.specs.Mailbox.{mailed}
 use Rattle.pending.specs.Pending.{command_row}
 use Rattle.sound.specs.Sound.{Becomes}
-use Rattle.outcome.specs.declared.Reply.{Reply}
+use Rattle.outcome.specs.declared.Refusal.{Refusal}
+use Rattle.outcome.specs.Refusals.{code_of, rows_of}
 use Rattle.outcome.specs.Between.{Between}
 
 -- refused with code k: the bytes xs of the state are as they were, and so is what was lent beside them
@@ -48,8 +48,8 @@ pub record Sent (a : Answer) (ms : List Mail) (count : ℕ) (out end : List ℕ)
   pub count_is : count ≡ length ms
   pub posted : end ≡ mailed 0 ms out
 
-abbrev pub Gives : Outcome → Reply → (xs ys out end : List ℕ) → Type 0
-Gives o r xs ys out end = Answers o (Unsent r.count out end) (λ a ms. Sent a ms r.count out end) r.code xs ys
+abbrev pub Gives : Outcome → Result ℕ Refusal → (xs ys out end : List ℕ) → Type 0
+Gives o r xs ys out end = Answers o (Unsent (rows_of r) out end) (λ a ms. Sent a ms (rows_of r) out end) (code_of r) xs ys
 
 -- a call that answers b (where it is not refused), sends nothing and is lent nothing but the state
 pub record Said (b a : Answer) (ms : List Mail) : Type 0 where
@@ -79,8 +79,8 @@ pub record Listed (w : ℕ) (a : Answer) (ms : List Mail) (count : ℕ) (out end
   pub count_is : count ≡ length (answer_rows a)
   pub listed : end ≡ put_rows w 0 (answer_rows a) out
 
-abbrev pub Lists : ℕ → Outcome → Reply → (xs ys out end : List ℕ) → Type 0
-Lists w o r xs ys out end = Answers o (Unsent r.count out end) (λ a ms. Listed w a ms r.count out end) r.code xs ys
+abbrev pub Lists : ℕ → Outcome → Result ℕ Refusal → (xs ys out end : List ℕ) → Type 0
+Lists w o r xs ys out end = Answers o (Unsent (rows_of r) out end) (λ a ms. Listed w a ms (rows_of r) out end) (code_of r) xs ys
 
 -- ---- judging
 
@@ -91,5 +91,5 @@ verdict (t ∷ ts) = cond t.1 (verdict ts) t.0
 
 -- what the first test that fails says
 abbrev pub failed : {A : Type 0} → Tests A → Option A
-failed [] = none
-failed (t ∷ ts) = cond t.1 (failed ts) (some t.0)
+failed [] = None
+failed (t ∷ ts) = cond t.1 (failed ts) (Some t.0)

@@ -1,6 +1,5 @@
 -- What a part of a call does to the state and to the lent list of mail.
-use Rattle.std.specs.Prelude.{ℕ, zero, suc, ◌+◌, ◌≤◌, ◌<◌, ◌≡◌, true, List, [], ◌++◌, length, set}
-use Rattle.std.proofs.Math.Option.{Option, some}
+use Rattle.std.specs.Prelude.{ℕ, zero, suc, ◌+◌, ◌≤◌, ◌<◌, ◌≡◌, true, List, [], ◌++◌, length, set, Option, Result, Ok, Err}
 use Rattle.gateway.specs.Limits.{session_slots}
 use Rattle.gateway.specs.Rest.{Session, Mail, Rest, at_time, with_sessions, session_at, account_of, is_present, update_session, set_received, set_closing, stamped}
 use Rattle.gateway.specs.Calls.{Gateway}
@@ -8,7 +7,8 @@ use Rattle.store.specs.Layout.{cell}
 use Rattle.store.specs.View.{gateway}
 use Rattle.mailbox.specs.Mailbox.{places, mailed}
 use Rattle.sound.specs.Sound.{Becomes}
-use Rattle.outcome.specs.declared.Reply.{Reply}
+use Rattle.outcome.specs.declared.Refusal.{Refusal}
+use Rattle.outcome.specs.declared.Refusal.TheVariants.{TooShort}
 use Rattle.outcome.specs.Between.{Between}
 
 abbrev pub with_rest : (Rest → Rest) → Gateway → Gateway
@@ -22,10 +22,10 @@ pub record Sends (i : ℕ) (ms : List Mail) (f : Rest → Rest) (xs ys out end :
   pub becomes : Becomes ys (with_rest (λ r. stamped ms (f r)) (gateway (cell xs)))
   pub posted : end ≡ mailed i ms out
 
--- ms after f, where there are places for all of them; else code 6 and nothing
-pub data Tries (ms : List Mail) (f : Rest → Rest) (r : Reply) (xs ys out end : List ℕ) : Type 0 where
-  short : places (length out) < length ms → r ≡ record { code = 6; count = 0 } → ys ≡ xs → end ≡ out → Tries ms f r xs ys out end
-  sent : length ms ≤ places (length out) → r ≡ record { code = 0; count = length ms } → Sends 0 ms f xs ys out end → Tries ms f r xs ys out end
+-- ms after f, where there are places for all of them; else the refusal and nothing
+pub data Tries (ms : List Mail) (f : Rest → Rest) (r : Result ℕ Refusal) (xs ys out end : List ℕ) : Type 0 where
+  short : places (length out) < length ms → r ≡ Err TooShort → ys ≡ xs → end ≡ out → Tries ms f r xs ys out end
+  sent : length ms ≤ places (length out) → r ≡ Ok (length ms) → Sends 0 ms f xs ys out end → Tries ms f r xs ys out end
 
 -- ms go out from place i on, and `next` is the place behind them; the state is only read
 pub record Posts (i : ℕ) (ms : List Mail) (next : ℕ) (out end : List ℕ) : Type 0 where

@@ -1,4 +1,5 @@
 -- A command's row: what is written for it is read back. Assumes nothing.
+use Rattle.std.specs.Prelude.{Option, Some, None}
 use mathlib.Core.Path.{◌≡◌, refl, sym, ap, ◌∙◌}
 use mathlib.Core.Logic.{⊎_elim}
 use mathlib.Core.List.{List, [], ◌∷◌}
@@ -11,8 +12,6 @@ use mir.Syntax.{w64}
 use mir.Val.{of_z}
 use Rattle.orderbook.specs.declared.Side.{Side}
 use Rattle.orderbook.specs.declared.Side.TheVariants.{Buy, Sell}
-use Rattle.orderbook.specs.declared.MaybePrice as M
-use Rattle.orderbook.specs.declared.MaybeQty as Q
 use Rattle.orderbook.specs.declared.TimeInForce.{TimeInForce}
 use Rattle.orderbook.specs.declared.TimeInForce.TheVariants.{Gtc, Ioc, Fok, PostOnly}
 use Rattle.orderbook.specs.declared.Command.{Command}
@@ -45,13 +44,13 @@ tif_back Ioc = refl
 tif_back Fok = refl
 tif_back PostOnly = refl
 
-pub qty_back : (q : Q.MaybeQty) → maybe_qty (P.qty_flag q) (P.qty_word q) ≡ q
-qty_back Q.TheVariants.None = refl
-qty_back (Q.TheVariants.Some q) = refl
+pub qty_back : (q : Option ℕ) → maybe_qty (P.qty_flag q) (P.qty_word q) ≡ q
+qty_back None = refl
+qty_back (Some q) = refl
 
-pub price_back : (p : M.MaybePrice) → P.MaybeFits p → maybe_price (price_flag p) (price_word p) ≡ p
-price_back M.TheVariants.None f = refl
-price_back (M.TheVariants.Some p) f = ap M.TheVariants.Some (int_of p f)
+pub price_back : (p : Option ℤ) → P.MaybeFits p → maybe_price (price_flag p) (price_word p) ≡ p
+price_back None f = refl
+price_back (Some p) f = ap Some (int_of p f)
 
 abbrev row : Command → Row
 row c = P.by_cell (P.command_row c)

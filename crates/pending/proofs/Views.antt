@@ -1,4 +1,5 @@
 -- What the operations do to the gateway that the cells hold: each changes its own part, and the rest stays by computation. Assumes nothing.
+use Rattle.std.specs.Prelude.{Option, Some, ℤ}
 use mathlib.Core.Path.{◌≡◌, refl, sym, ap, ap₂, ◌∙◌}
 use mathlib.Core.Bool.{Bool, true, false, cond}
 use mathlib.Core.List.{List, [], ◌∷◌, ◌++◌, append-nil}
@@ -6,8 +7,6 @@ use Prim.Native.Nat.{ℕ, zero, suc, ◌+◌, ◌-◌, ◌%◌, ◌≤◌, ◌<�
 use native.Mathlib.Omega.{arith}
 use native.Mathlib.Nat.{add-zero}
 use borrow.Author.Tests.{eq-eqb, ne_eqb, le-ltb, lt-ltb}
-use Rattle.orderbook.specs.declared.MaybePrice.{MaybePrice}
-use Rattle.orderbook.specs.declared.MaybePrice.TheVariants.{Some}
 use Rattle.protocol.specs.declared.TradeTick.{TradeTick}
 use Rattle.words.specs.Words.{int}
 use Rattle.gateway.specs.Limits.{most_in_flight}
@@ -98,7 +97,7 @@ module _ (x p : ℕ) (s : Store) where
 pub delivered_view : (n : ℕ) (s : Store) → gateway (P.set_delivered n s) ≡ with_rest (with_delivered n) (gateway s)
 delivered_view n s = refl
 
-abbrev pub with_mark : MaybePrice → Gateway → Gateway
+abbrev pub with_mark : Option ℤ → Gateway → Gateway
 with_mark p g =
     let l = g.core.ledger in
     record { core = record { ledger = record { last = l.last; wallets = l.wallets; orders = l.orders; mark = p; fee = l.fee }; flights = g.core.flights; accounts = g.core.accounts }; rest = g.rest }

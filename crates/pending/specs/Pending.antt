@@ -1,11 +1,9 @@
 -- What each operation writes, as a store.
-use Rattle.std.specs.Prelude.{ℕ, zero, suc, ◌+◌, ◌-◌, ◌%◌, ◌^◌, ◌<◌, ◌≡◌, List, [], ◌∷◌, cond, ◌&&◌, eqb, get_or}
+use Rattle.std.specs.Prelude.{ℕ, zero, suc, ◌+◌, ◌-◌, ◌%◌, ◌^◌, ◌<◌, ◌≡◌, List, [], ◌∷◌, cond, ◌&&◌, eqb, get_or, Option, Some, None, ℤ}
 use Rattle.std.specs.Int.{w64}
 use Rattle.std.proofs.Common.{SFits}
 use Rattle.orderbook.specs.declared.Side.{Side}
 use Rattle.orderbook.specs.declared.Side.TheVariants.{Buy, Sell}
-use Rattle.orderbook.specs.declared.MaybePrice as M
-use Rattle.orderbook.specs.declared.MaybeQty as Q
 use Rattle.orderbook.specs.declared.Command.{Command}
 use Rattle.orderbook.specs.declared.Command.TheVariants.{Limit, Market, Cancel, Modify, Stop, CancelAll, SetPhase}
 use Rattle.protocol.specs.Codes.{side_code, tif_code}
@@ -127,13 +125,13 @@ Batched (Stop id owner s trigger limit qty) = Unit {0}
 Batched (CancelAll owner) = Unit {0}
 
 -- whether a quantity is there, and the quantity or 0
-abbrev pub qty_flag : Q.MaybeQty → ℕ
-qty_flag Q.TheVariants.None = 0
-qty_flag (Q.TheVariants.Some q) = 1
+abbrev pub qty_flag : Option ℕ → ℕ
+qty_flag None = 0
+qty_flag (Some q) = 1
 
-abbrev pub qty_word : Q.MaybeQty → ℕ
-qty_word Q.TheVariants.None = 0
-qty_word (Q.TheVariants.Some q) = q
+abbrev pub qty_word : Option ℕ → ℕ
+qty_word None = 0
+qty_word (Some q) = q
 
 -- a command's row, in the order of Cells; a cell that its kind does not have is 0. A phase change is never written
 abbrev pub command_row : Command → List ℕ
@@ -157,9 +155,9 @@ abbrev pub by_cell : List ℕ → Row
 by_cell vs k = get_or vs k 0
 
 -- prices are numbers of 64 bits
-abbrev pub MaybeFits : M.MaybePrice → Type 0
-MaybeFits M.TheVariants.None = Unit {0}
-MaybeFits (M.TheVariants.Some p) = SFits w64 p
+abbrev pub MaybeFits : Option ℤ → Type 0
+MaybeFits None = Unit {0}
+MaybeFits (Some p) = SFits w64 p
 
 abbrev pub PricesFit : Command → Type 0
 PricesFit (Limit id owner s price qty t d) = SFits w64 price

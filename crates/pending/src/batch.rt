@@ -6,53 +6,24 @@ ghost use Rattle.store.specs.Cells as C;
 ghost use Rattle.store.specs.Layout.{cell, Holds};
 ghost use Rattle.store.specs.View.{word, side, tif, maybe_price, maybe_qty, command, Is, Ready};
 ghost use Rattle.pending.specs.Pending as P;
-ghost use Rattle.words.specs.Words.{word_of};
 
-use orderbook::{Command, MaybePrice, MaybeQty, Side, TimeInForce};
-use protocol::codes;
+use orderbook::{Command, Side, TimeInForce};
 use store::cells;
 
 // ---- a command's cells
 
-fn word_of(price: i64) -> u64
-    ensures { result ≡ word_of price }
-{
-    words::of_i64(price)
-}
-
-fn qty_flag(q: MaybeQty) -> u64
-    ensures { result ≡ P.qty_flag q }
-{
-    match q {
-        MaybeQty::None => 0,
-        MaybeQty::Some(_) => 1,
-    }
-}
-
-fn qty_word(q: MaybeQty) -> u64
-    ensures { result ≡ P.qty_word q }
-{
-    match q {
-        MaybeQty::None => 0,
-        MaybeQty::Some(n) => n,
-    }
-}
-
-pub fn price_flag(p: MaybePrice) -> u64
+pub fn price_flag(p: Option<i64>) -> u64
     ensures { result ≡ price_flag p }
 {
-    match p {
-        MaybePrice::None => 0,
-        MaybePrice::Some(_) => 1,
-    }
+    p.is_some() as u64
 }
 
-pub fn price_word(p: MaybePrice) -> u64
+pub fn price_word(p: Option<i64>) -> u64
     ensures { (result ≡ price_word p) × P.MaybeFits p }
 {
     match p {
-        MaybePrice::None => 0,
-        MaybePrice::Some(n) => word_of(n),
+        None => 0,
+        Some(n) => n.cast_unsigned(),
     }
 }
 
@@ -69,33 +40,46 @@ pub fn row_of(c: Command) -> [u64; 12]
             qty,
             tif,
             display,
-        } => {
-            let s = codes::side_code(side) as u64;
-            let p = word_of(price);
-            let t = codes::tif_code(tif) as u64;
-            let f = qty_flag(display);
-            let d = qty_word(display);
-            [0, id, owner as u64, s, p, qty, t, f, d, 0, 0, 0]
-        }
+        } => [
+            0,
+            id,
+            owner as u64,
+            side as u64,
+            price.cast_unsigned(),
+            qty,
+            tif as u64,
+            display.is_some() as u64,
+            display.unwrap_or(0),
+            0,
+            0,
+            0,
+        ],
         Command::Market {
             id,
             owner,
             side,
             qty,
-        } => {
-            let s = codes::side_code(side) as u64;
-            [1, id, owner as u64, s, 0, qty, 0, 0, 0, 0, 0, 0]
-        }
+        } => [1, id, owner as u64, side as u64, 0, qty, 0, 0, 0, 0, 0, 0],
         Command::Cancel { id, owner } => [2, id, owner as u64, 0, 0, 0, 0, 0, 0, 0, 0, 0],
         Command::Modify {
             id,
             owner,
             price,
             qty,
-        } => {
-            let p = word_of(price);
-            [3, id, owner as u64, 0, p, qty, 0, 0, 0, 0, 0, 0]
-        }
+        } => [
+            3,
+            id,
+            owner as u64,
+            0,
+            price.cast_unsigned(),
+            qty,
+            0,
+            0,
+            0,
+            0,
+            0,
+            0,
+        ],
         Command::Stop {
             id,
             owner,
@@ -104,11 +88,22 @@ pub fn row_of(c: Command) -> [u64; 12]
             limit,
             qty,
         } => {
-            let s = codes::side_code(side) as u64;
-            let t = word_of(trigger);
-            let f = price_flag(limit);
-            let l = price_word(limit);
-            [4, id, owner as u64, s, 0, qty, 0, 0, 0, t, f, l]
+            let flag = price_flag(limit);
+            let word = price_word(limit);
+            [
+                4,
+                id,
+                owner as u64,
+                side as u64,
+                0,
+                qty,
+                0,
+                0,
+                0,
+                trigger.cast_unsigned(),
+                flag,
+                word,
+            ]
         }
         Command::CancelAll { owner } => [5, 0, owner as u64, 0, 0, 0, 0, 0, 0, 0, 0, 0],
         Command::SetPhase { phase: _ } => [6, 0, 0, 0, 0, 0, 0, 0, 0, 0, 0, 0],
@@ -143,24 +138,16 @@ fn tif_of(n: u64) -> TimeInForce
     }
 }
 
-fn qty_of(there: u64, n: u64) -> MaybeQty
+fn qty_of(there: u64, n: u64) -> Option<u64>
     ensures { result ≡ maybe_qty there n }
 {
-    if there == 0 {
-        MaybeQty::None
-    } else {
-        MaybeQty::Some(n)
-    }
+    if there == 0 { None } else { Some(n) }
 }
 
-fn price_of(there: u64, w: u64) -> MaybePrice
+fn price_of(there: u64, w: u64) -> Option<i64>
     ensures { result ≡ maybe_price there w }
 {
-    if there == 0 {
-        MaybePrice::None
-    } else {
-        MaybePrice::Some(words::to_i64(w))
-    }
+    (there != 0).then_some(words::to_i64(w))
 }
 
 // A kind above 4 is a mass cancel.

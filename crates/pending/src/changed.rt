@@ -123,11 +123,9 @@ pub fn forget_tops(m: &mut [u8], n: usize)
     requires { Holds m.old × (n ≤ most_changed) }
     ensures { Is m.new (P.forget_tops n (cell m.old)) }
 {
-    let mut i: usize = 0;
-    while i < n {
+    for i in 0..n {
         let k = slot_at(m, i);
         store::set(m, store::TOPS, k, cells::TOP_ROW, 0);
-        i += 1;
     }
 }
 

@@ -6,7 +6,7 @@ ghost use Rattle.std.specs.Prelude.{◌≡◌, ◌*◌, ◌≤◌, length};
 ghost use Rattle.store.specs.Layout.{Holds};
 ghost use Rattle.edge.specs.Entering.{Lent};
 
-use accounts::{Account, MaybeFunds, Timing};
+use accounts::{Account, Timing};
 use std::fs::File;
 use std::{fs, io};
 use stored::{Difference, Tally};
@@ -164,10 +164,11 @@ fn play_all(rt: &impl Print, file: &mut File, m: &mut [u8], s: &mut [u8]) -> io:
         calls: 0,
         more: true,
     };
-    let mut n: u64 = 0;
-    while n < u64::MAX && t.more {
+    for _ in 0..u64::MAX {
+        if !t.more {
+            return Ok(());
+        }
         t = next(rt, file, m, s, t)?;
-        n += 1;
     }
     Ok(())
 }
@@ -183,7 +184,7 @@ fn first_account() -> Account
         token: 0,
         max_open_orders: 0,
         messages_per_second: 0,
-        funds: MaybeFunds::None,
+        funds: None,
     }
 }
 
@@ -195,7 +196,7 @@ fn begin(m: &mut [u8]) -> u64
     let list = [0u8; 8];
     let timing = Timing::default();
     let account = first_account();
-    beginning::set_up_one(m, 0, 1, 0, timing, account, &list[..0])
+    numbers::code_of(beginning::set_up_one(m, 0, 1, 0, timing, account, &list[..0]))
 }
 
 // The second from a checkpoint of the first.
@@ -211,7 +212,7 @@ fn begin_again(m: &[u8], s: &mut [u8]) -> u64
     let n = stored::at_most(r.count as u64, 64);
     let timing = Timing::default();
     let account = first_account();
-    beginning::restore_one(s, 0, 1, timing, account, &bytes[..n])
+    numbers::code_of(beginning::restore_one(s, 0, 1, timing, account, &bytes[..n]))
 }
 
 // Both are states, whatever the file has. 0, or the code of what was refused.

@@ -1,4 +1,5 @@
 -- One step of a list of calls, from each form in which an entry point answers. Assumes nothing.
+use Rattle.std.specs.Prelude.{is_some}
 use Prim.Native.Nat.{ℕ, ◌+◌, ◌*◌, ◌/◌, ◌<◌, ◌≤◌}
 use mathlib.Core.Path.{◌≡◌, refl, sym, ap, ap₂, subst, ◌∙◌}
 use mathlib.Core.Bool.{Bool, true, false, false≢true, and-false}
@@ -178,7 +179,7 @@ module _ (row : List ℕ) (k : ℕ) (e : k ≡ R.word_at row 0) where
     pub takes_publish : k ≡ 9 → Step true (C.publish (places (length out))) xs ys got end out out' → S.TakesAlone row xs ys got end out out'
     takes_publish i h given = took given xs ys got end out out' 9 i refl h
 
-    pub takes_end : (s why : ℕ) → k ≡ 10 → s ≡ R.word_at row 4 → why ≡ R.code_at row 5 → Step (P.is_reason (logout_of why)) (C.end_session s (P.reason_or (logout_of why)) (places (length out))) xs ys got end out out' → S.TakesAlone row xs ys got end out out'
+    pub takes_end : (s why : ℕ) → k ≡ 10 → s ≡ R.word_at row 4 → why ≡ R.code_at row 5 → Step (is_some (logout_of why)) (C.end_session s (P.reason_or (logout_of why)) (places (length out))) xs ys got end out out' → S.TakesAlone row xs ys got end out out'
     takes_end s why i f g h given = took given xs ys got end out out' 10 i refl (rw (← f, ← g) h)
 
     pub takes_shut_down : 7 ≤ R.word_at row 0 → R.word_at row 0 ≤ 11 → (k ≡ 7 → ⊥) → (k ≡ 8 → ⊥) → (k ≡ 9 → ⊥) → (k ≡ 10 → ⊥)

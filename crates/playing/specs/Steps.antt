@@ -1,5 +1,5 @@
 -- A row of a stored file as a call: the call that it asks for, and the row and what was lent after it (compare/README.md).
-use Rattle.std.specs.Prelude.{ℕ, ◌+◌, ◌/◌, ◌<◌, ◌≡◌, Bool, true, false, cond, ◌&&◌, List, ◌++◌, eqb, leb, length, take, drop, replicate, ℤ}
+use Rattle.std.specs.Prelude.{ℕ, ◌+◌, ◌/◌, ◌<◌, ◌≡◌, Bool, true, false, cond, ◌&&◌, List, ◌++◌, eqb, leb, length, take, drop, replicate, ℤ, is_some}
 use Rattle.words.specs.Words.{word_of}
 use Rattle.protocol.specs.Codes.{logout_of}
 use Rattle.gateway.specs.Rest.{Mail}
@@ -54,7 +54,7 @@ formed_by k row given =
     (cond (eqb k 3) (leb (word_at row 4) 1)
     (cond (eqb k 6) (leb (word_at row 4) 1)
     (cond (eqb k 7) (is_message (tail_of row 6))
-    (cond (eqb k 10) (P.is_reason (logout_of (code_at row 5)))
+    (cond (eqb k 10) (is_some (logout_of (code_at row 5)))
     (cond (eqb k 15) (is_event (tail_of row 5))
     (cond (eqb k 16) (is_command given)
     (cond (eqb k 17) (is_event (tail_of row 5))

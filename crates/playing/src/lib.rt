@@ -2,8 +2,7 @@
 // answer (compare/README.md).
 #![tactic(auto)]
 
-ghost use Rattle.std.specs.Prelude.{◌≡◌, true, ◌/◌, ◌≤◌, ◌<◌, leb, length};
-ghost use Rattle.words.specs.Words.{word_of};
+ghost use Rattle.std.specs.Prelude.{◌≡◌, true, ◌/◌, ◌≤◌, ◌<◌, leb, length, is_some};
 ghost use Rattle.protocol.specs.Codes.{logout_of};
 ghost use Rattle.gateway.specs.Calls as C;
 ghost use Rattle.store.specs.View as View;
@@ -35,19 +34,13 @@ fn set_paper_collar(m: &mut [u8], there: u64, percent: u32, got: &mut [u8])
     put(got, 2, code);
 }
 
-fn signed(x: i64) -> u64
-    ensures { result ≡ word_of x }
-{
-    words::of_i64(x)
-}
-
 // Two words from i on.
 fn put_pair(got: &mut [u8], i: usize, cash: i64, position: i64)
     requires { i < 16 }
     ensures { got.new ≡ S.pair_told cash position i got.old }
 {
-    put(got, i, signed(cash));
-    put(got, i + 1, signed(position));
+    put(got, i, cash.cast_unsigned());
+    put(got, i + 1, position.cast_unsigned());
 }
 
 fn wallet(m: &[u8], account: u32, got: &mut [u8])
@@ -86,14 +79,12 @@ pub fn are_alike(m: &[u8], s: &[u8], at: &mut Difference<'_>) -> bool
     requires { Lent m.now × Lent s.now }
     ensures { R.Tells result (S.Alike 256 m.now s.now) }
 {
-    let mut a: u32 = 0;
-    while a < 256 {
+    for a in 0..256 {
         let first = standing(m, a);
         let second = standing(s, a);
         if !stored::agrees(b"second gateway", &first, &second, at) {
             return false;
         }
-        a += 1;
     }
     true
 }
@@ -148,7 +139,7 @@ fn publish(m: &mut [u8], got: &mut [u8], out: &mut [u8])
 
 fn end(m: &mut [u8], session: usize, why: u8, got: &mut [u8], out: &mut [u8])
     requires { Lent m.old }
-    ensures { S.Step (P.is_reason (logout_of why)) (C.end_session session (P.reason_or (logout_of why)) (places (length out.old))) m.old m.new got.old got.new out.old out.new }
+    ensures { S.Step (is_some (logout_of why)) (C.end_session session (P.reason_or (logout_of why)) (places (length out.old))) m.old m.new got.old got.new out.old out.new }
 {
     let r = edge::rowanchess_end(m, session, why, out);
     reply(got, r.code, r.count);

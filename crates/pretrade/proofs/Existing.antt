@@ -1,8 +1,8 @@
 -- An account that exists: its row, and its token. Assumes nothing.
+use Rattle.std.specs.Prelude.{Some, None, is_some}
 use mathlib.Core.Path.{◌≡◌, refl, sym, ap, ap₂, ◌∙◌}
 use mathlib.Core.Bool.{Bool, true, false, cond, false≢true}
 use mathlib.Core.Logic.{⊎_elim}
-use mathlib.Core.Option.{none, some}
 use mathlib.Core.List.{List}
 use Prim.Native.Nat.{ℕ, ◌<◌}
 use native.Mathlib.Omega.{arith}
@@ -10,20 +10,19 @@ use Rattle.risk.specs.declared.Bucket.{Bucket}
 use Rattle.risk.specs.declared.Taken.{Taken}
 use Rattle.risk.specs.Throttle as Throttle
 use Rattle.le.proofs.Laws.{lt_or_le}
-use Rattle.gateway.specs.Basics.{is_some}
 use Rattle.gateway.specs.Limits.{owner_slots}
 use Rattle.gateway.specs.Core.{account_at}
 use Rattle.gateway.specs.Rest.{at_time}
 use Rattle.gateway.specs.Entry.{rate_of, taken}
 use Rattle.store.specs.Cells as C
 use Rattle.store.specs.Layout.{cell, Holds}
-use Rattle.store.specs.View.{Row, word, flag, account, bucket, gateway}
+use Rattle.store.specs.View.{Row, word, flag, bucket, gateway}
 use Rattle.clients.specs.Clients as Clients
 use Rattle.clients.proofs.Views.{account_at_row, account_past, bucket_at_row}
 use Rattle.outcome.specs.Parts.{rest_of}
 use Rattle.pretrade.specs.Pretrade.{Exists}
 
-pub there : {A : Type 0} (b : Bool) (x : A) → is_some (cond b (some x) none) ≡ true → cond b (some x) none ≡ some x
+pub there : {A : Type 0} (b : Bool) (x : A) → is_some (cond b (Some x) None) ≡ true → cond b (Some x) None ≡ Some x
 there true x e = refl
 there false x e = absurd (false≢true e)
 
@@ -39,7 +38,7 @@ module _ {a : ℕ} {xs : List ℕ} (h : Exists a xs) where
   pub slot : a < owner_slots
   slot = let b = h.between.state.sound.tables.ordered.bounds.accounts_fit in omega (arith, limited)
 
-  pub account_is : account_at a (gateway (cell xs)).core ≡ some (record { id = a; token = row C.account_token; max_open_orders = row C.account_max_open; messages_per_second = row C.account_rate; funds = Clients.funds row })
+  pub account_is : account_at a (gateway (cell xs)).core ≡ Some (record { id = a; token = row C.account_token; max_open_orders = row C.account_max_open; messages_per_second = row C.account_rate; funds = Clients.funds row })
   account_is =
       let e = account_at_row a (cell xs) limited in
       e ∙ there (flag (row C.account_exists)) _ (ap is_some (sym e) ∙ h.exists)

@@ -1,8 +1,10 @@
 -- The tests of a new order: each is the definitions' test. Assumes nothing.
+use Rattle.std.specs.Prelude.{Option, Some, None, is_some}
+use Rattle.std.specs.Option.{option_or}
+use Rattle.std.specs.Bool.{then_some}
 use mathlib.Core.Path.{◌≡◌, refl, sym, ap, ap₂, subst, ◌∙◌}
-use mathlib.Core.Bool.{Bool, true, false, cond, ◌&&◌, false≢true}
+use mathlib.Core.Bool.{Bool, true, false, cond, not, ◌&&◌, false≢true}
 use mathlib.Core.Logic.{⊎_elim}
-use mathlib.Core.Option.{Option, none, some}
 use mathlib.Core.List.{List, [], ◌∷◌, ◌++◌, append-nil}
 use Prim.Native.Nat.{ℕ, ◌+◌, ◌-◌, ◌≤◌, ◌<◌}
 use native.Mathlib.Omega.{arith}
@@ -16,26 +18,22 @@ use lib.ListN.{length, length-append}
 use lib.Dec.{ltb, leb}
 use Rattle.orderbook.specs.declared.Side.{Side}
 use Rattle.orderbook.specs.declared.Side.TheVariants.{Buy, Sell}
-use Rattle.orderbook.specs.declared.MaybePrice as M
 use Rattle.protocol.specs.Codes.{side_code}
 use Rattle.protocol.specs.declared.NewOrder.{NewOrder}
 use Rattle.protocol.specs.declared.OrderKind.{OrderKind}
 use Rattle.protocol.specs.declared.OrderKind.TheVariants as Kind
 use Rattle.protocol.specs.declared.RejectCode.{RejectCode}
 use Rattle.protocol.specs.declared.RejectCode.TheVariants.{TooManyOrders, Throttled, Unavailable, InsufficientFunds, NotAllowed, OffMarket}
-use Rattle.protocol.specs.declared.codes.MaybeRejectCode as Why
 use Rattle.accounts.specs.declared.Funds.{Funds}
 use Rattle.le.proofs.Laws.{lt_or_le}
-use Rattle.words.specs.declared.Amount.{Amount}
-use Rattle.words.specs.declared.Amount.TheVariants.{Fits, TooBig}
-use Rattle.words.specs.Words.{int, modulus, amount, ◌⊖◌}
-use Rattle.words.proofs.Int.{low, high, int_zero, int_of}
+use Rattle.words.specs.Words.{int, modulus, amount}
+use Rattle.words.proofs.Int.{int_zero, int_of}
 use Rattle.wallet.specs.declared.Wallet.{Wallet}
 use Rattle.wallet.specs.Wallet as W
 use Rattle.risk.specs.Collar.{near, near_market}
-use Rattle.gateway.specs.Basics.{option, is_some}
+use Rattle.gateway.specs.Basics.{option}
 use Rattle.gateway.specs.Limits.{owner_slots, most_orders, most_notices}
-use Rattle.gateway.specs.Ledger.{Order, Ledger, command, step, placed, order_of, owner_of, with_orders, wallet_of, price_option, hold, order_hold, held, fits, holds_fit, open_of}
+use Rattle.gateway.specs.Ledger.{Order, Ledger, command, step, placed, order_of, owner_of, with_orders, wallet_of, hold, order_hold, held, fits, holds_fit, open_of}
 use Rattle.gateway.specs.Core.{Tests, account_at, fits_after}
 use Rattle.gateway.specs.Entry.{wallet_at, balance_with, most_open, next, is_zero, new_notice, price_of, command_of}
 use Rattle.gateway.specs.Bytes.{price_flag, price_word}
@@ -59,8 +57,8 @@ use Rattle.live.proofs.Notices.{same_hold, other_hold, no_wallet, a_wallet}
 use Rattle.live.proofs.Fits.{Swap, holds_swap, held_exact}
 use Rattle.outcome.specs.Parts.{rest_of}
 use Rattle.commands.specs.Commands.{can_number}
-use Rattle.pretrade.specs.Pretrade.{first, or_else, Exists, other_tests, is_free, is_covered, limit_tests, paper, hold_fits, the_command, has_place, has_room, new_order_tests, Stands}
-use Rattle.pretrade.proofs.Judging.{or_first, or_append}
+use Rattle.pretrade.specs.Pretrade.{first, Exists, other_tests, is_free, is_covered, limit_tests, paper, hold_fits, the_command, has_place, has_room, new_order_tests, Stands}
+use Rattle.pretrade.proofs.Judging.{one_test, or_more}
 use Rattle.pretrade.proofs.Existing.{there, slot, account_is}
 
 -- ---- open orders
@@ -72,14 +70,14 @@ few_is {a} h o m e f = ap₂ ltb (e ∙ h.between.state.sound.held.counts a (slo
 -- ---- the collar
 
 module _ (xs : List ℕ) (p c : ℕ) (c_is : c ≡ word (cell xs) C.collar) where
-  pub near_free : c ≡ 0 → true ≡ near_market (int p) (rest_of xs).collar (price_option (gateway (cell xs)).core.ledger.mark)
+  pub near_free : c ≡ 0 → true ≡ near_market (int p) (rest_of xs).collar ((gateway (cell xs)).core.ledger.mark)
   near_free e = rw (← c_is, eq-eqb c 0 e) refl
 
   module _ (ne : c ≡ 0 → ⊥) (m : ℕ) (m_is : m ≡ word (cell xs) C.marked) where
-    pub near_unmarked : m ≡ 0 → true ≡ near_market (int p) (rest_of xs).collar (price_option (gateway (cell xs)).core.ledger.mark)
+    pub near_unmarked : m ≡ 0 → true ≡ near_market (int p) (rest_of xs).collar ((gateway (cell xs)).core.ledger.mark)
     near_unmarked e = rw (← c_is, ← m_is, ne_eqb c 0 ne, eq-eqb m 0 e) refl
 
-    pub near_is : (k : ℕ) (r : Bool) → (m ≡ 0 → ⊥) → k ≡ word (cell xs) C.mark → r ≡ near (int p) (int k) (c - 1) → r ≡ near_market (int p) (rest_of xs).collar (price_option (gateway (cell xs)).core.ledger.mark)
+    pub near_is : (k : ℕ) (r : Bool) → (m ≡ 0 → ⊥) → k ≡ word (cell xs) C.mark → r ≡ near (int p) (int k) (c - 1) → r ≡ near_market (int p) (rest_of xs).collar ((gateway (cell xs)).core.ledger.mark)
     near_is k r n k_is e = e ∙ rw (← c_is, ← m_is, ← k_is, ne_eqb c 0 ne, ne_eqb m 0 n) refl
 
 -- ---- cover
@@ -95,7 +93,7 @@ module _ {a : ℕ} {xs : List ℕ} (h : Exists a xs) (w_is : is_some (wallet_at 
   its_funds = record { cash = int (cell xs C.accounts a C.account_cash); position = int (cell xs C.accounts a C.account_position) }
 
   -- its wallet
-  pub wallet_is : wallet_at a g.core ≡ some its_funds
+  pub wallet_is : wallet_at a g.core ≡ Some its_funds
   wallet_is =
       let e = wallet_at_row a (cell xs) (slot h) in
       e ∙ there (flag (cell xs C.accounts a C.account_funded)) its_funds (ap is_some (sym e) ∙ w_is)
@@ -116,33 +114,34 @@ module _ {a : ℕ} {xs : List ℕ} (h : Exists a xs) (w_is : is_some (wallet_at 
   not_free z n b s e =
       sym (ap (option false (is_free (int n) z a g.core)) wallet_is ∙ ap (λ b. b && W.covers z (int n) (balance_with g.core.ledger.fee a g.core.ledger.orders its_funds)) (sym s ∙ e))
 
-  module _ (z : Side) (fee p q : ℕ) (fee_is : fee ≡ word (cell xs) C.fee) (m : Amount) (m_at : amount m ≡ W.hold_of z (W.charged (int fee) z (int p)) q) where
+  module _ (z : Side) (fee p q : ℕ) (fee_is : fee ≡ word (cell xs) C.fee) (m : Option ℕ) (m_at : amount m ≡ W.hold_of z (W.charged (int fee) z (int p)) q) where
     m_is : amount m ≡ W.hold_of z (W.charged g.core.ledger.fee z (int p)) q
     m_is = m_at ∙ ap (λ f. W.hold_of z (W.charged (int f) z (int p)) q) fee_is
 
-    pub covered_is : (n : ℕ) (r : Bool) → m ≡ Fits n → r ≡ option false (is_free (int n) z a g.core) (wallet_at a g.core) → r ≡ option false (is_covered z (int p) q a g.core) (wallet_at a g.core)
+    pub covered_is : (n : ℕ) (r : Bool) → m ≡ Some n → r ≡ option false (is_free (int n) z a g.core) (wallet_at a g.core) → r ≡ option false (is_covered z (int p) q a g.core) (wallet_at a g.core)
     covered_is n r e f =
         f ∙ ap (λ (o : Option ℤ). option false (λ w. option false (λ x. is_free x z a g.core w) o) (wallet_at a g.core)) (ap amount (sym e) ∙ m_is)
 
-    pub covered_not : m ≡ TooBig → false ≡ option false (is_covered z (int p) q a g.core) (wallet_at a g.core)
+    pub covered_not : m ≡ None → false ≡ option false (is_covered z (int p) q a g.core) (wallet_at a g.core)
     covered_not e =
         sym (ap (option false (is_covered z (int p) q a g.core)) wallet_is ∙ ap (λ (o : Option ℤ). option false (λ x. is_free x z a g.core its_funds) o) (sym m_is ∙ ap amount e))
 
   -- ---- what a wallet's account is asked
 
-  pub limit_paper : (z : Side) (q : ℕ) (kind : OrderKind) (p : ℤ) (w : ℕ) (t : _) (d : _) (v : Why.MaybeRejectCode) → kind ≡ Kind.Limit p t d → int w ≡ p → v ≡ first (limit_tests z (int w) q a g) → v ≡ first (paper a z q kind g)
+  pub limit_paper : (z : Side) (q : ℕ) (kind : OrderKind) (p : ℤ) (w : ℕ) (t : _) (d : _) (v : Option RejectCode) → kind ≡ Kind.Limit p t d → int w ≡ p → v ≡ first (limit_tests z (int w) q a g) → v ≡ first (paper a z q kind g)
   limit_paper z q kind p w t d v e f h = h ∙ rw (f, wallet_is, e) refl
 
-  pub market_paper : (z : Side) (q : ℕ) (kind : OrderKind) → kind ≡ Kind.Market → Why.TheVariants.Some NotAllowed ≡ first (paper a z q kind g)
+  pub market_paper : (z : Side) (q : ℕ) (kind : OrderKind) → kind ≡ Kind.Market → Some NotAllowed ≡ first (paper a z q kind g)
   market_paper z q kind e = rw (wallet_is, e) refl
 
-  pub stop_paper : (z : Side) (q : ℕ) (kind : OrderKind) (t : ℤ) (l : _) → kind ≡ Kind.Stop t l → Why.TheVariants.Some NotAllowed ≡ first (paper a z q kind g)
+  pub stop_paper : (z : Side) (q : ℕ) (kind : OrderKind) (t : ℤ) (l : _) → kind ≡ Kind.Stop t l → Some NotAllowed ≡ first (paper a z q kind g)
   stop_paper z q kind t l e = rw (wallet_is, e) refl
 
-pub limit_is : (g : Gateway) (z : Side) (p : ℤ) (q a : ℕ) (n c : Bool) (x y v : Why.MaybeRejectCode) → n ≡ near_market p g.rest.collar (price_option g.core.ledger.mark) → x ≡ first ((OffMarket, n) ∷ []) →
-    c ≡ option false (is_covered z p q a g.core) (wallet_at a g.core) → y ≡ first ((InsufficientFunds, c) ∷ []) → v ≡ or_else x y → v ≡ first (limit_tests z p q a g)
+pub limit_is : (g : Gateway) (z : Side) (p : ℤ) (q a : ℕ) (n c : Bool) (x y v : Option RejectCode) → n ≡ near_market p g.rest.collar g.core.ledger.mark → x ≡ then_some (not n) OffMarket →
+    c ≡ option false (is_covered z p q a g.core) (wallet_at a g.core) → y ≡ then_some (not c) InsufficientFunds → v ≡ option_or x y → v ≡ first (limit_tests z p q a g)
 limit_is g z p q a n c x y v n_is x_is c_is y_is v_is =
-    v_is ∙ ap₂ or_else x_is y_is ∙ or_first OffMarket n ((InsufficientFunds, c) ∷ []) ∙ ap₂ (λ i j. first ((OffMarket, i) ∷ (InsufficientFunds, j) ∷ [])) n_is c_is
+    or_more x y v ((OffMarket, n) ∷ []) ((InsufficientFunds, c) ∷ []) (x_is ∙ one_test OffMarket n) (y_is ∙ one_test InsufficientFunds c) v_is
+    ∙ ap₂ (λ i j. first ((OffMarket, i) ∷ (InsufficientFunds, j) ∷ [])) n_is c_is
 
 module _ {a : ℕ} {xs : List ℕ} (h : Exists a xs) (f : Bool) (f_is : f ≡ is_some (wallet (cell xs C.accounts a))) where
   pub funded : is_some (wallet_at a (gateway (cell xs)).core) ≡ f
@@ -151,11 +150,11 @@ module _ {a : ℕ} {xs : List ℕ} (h : Exists a xs) (f : Bool) (f_is : f ≡ is
   pub kind_needs : f ≡ true → Exists a xs × (is_some (wallet_at a (gateway (cell xs)).core) ≡ true)
   kind_needs e = (h, funded ∙ e)
 
-  nobody : (w : Option Funds) → is_some w ≡ false → w ≡ none
-  nobody none e = refl
-  nobody (some x) e = absurd (false≢true (sym e))
+  nobody : (w : Option Funds) → is_some w ≡ false → w ≡ None
+  nobody None e = refl
+  nobody (Some x) e = absurd (false≢true (sym e))
 
-  pub no_paper : (z : Side) (q : ℕ) (k : OrderKind) → f ≡ false → Why.TheVariants.None ≡ first (paper a z q k (gateway (cell xs)))
+  pub no_paper : (z : Side) (q : ℕ) (k : OrderKind) → f ≡ false → None ≡ first (paper a z q k (gateway (cell xs)))
   no_paper z q k e = rw (nobody (wallet_at a (gateway (cell xs)).core) (funded ∙ e)) refl
 
   -- ---- the total
@@ -200,11 +199,11 @@ module _ (s : Store) (a new n : ℕ) (n_is : n ≡ word s C.notice_rows) where
 kind_fits : (k : OrderKind) → MaybeFits (price_of k) → KindFits k
 kind_fits (Kind.Limit p t d) f = signed p f
 kind_fits Kind.Market f = tt
-kind_fits (Kind.Stop t M.TheVariants.None) f = tt
-kind_fits (Kind.Stop t (M.TheVariants.Some p)) f = signed p f
+kind_fits (Kind.Stop t None) f = tt
+kind_fits (Kind.Stop t (Some p)) f = signed p f
 
 -- an order is read back from its words
-pub stored : (a ref v : ℕ) (y : Side) (p : M.MaybePrice) (z f w : ℕ) → z ≡ side_code y → f ≡ price_flag p → w ≡ price_word p → MaybeFits p → (n : ℕ) →
+pub stored : (a ref v : ℕ) (y : Side) (p : Option ℤ) (z f w : ℕ) → z ≡ side_code y → f ≡ price_flag p → w ≡ price_word p → MaybeFits p → (n : ℕ) →
     Orders.order_of n (record { account = a; client_ref = ref; side = z; priced = f; price = w; leaves = v; hold = 0 })
     ≡ record { number = n; account = a; client_ref = ref; side = y; price = p; leaves = v }
 stored a ref v y p z f w z_is f_is w_is m n i =
@@ -217,14 +216,14 @@ stored a ref v y p z f w z_is f_is w_is m n i =
       leaves = v;
     }
 
-pub stands : (a : ℕ) (q : NewOrder) (p : M.MaybePrice) (z f w : ℕ) → p ≡ price_of q.kind → z ≡ side_code q.side → f ≡ price_flag p → w ≡ price_word p → MaybeFits p → q.client_ref < modulus → q.qty < modulus →
+pub stands : (a : ℕ) (q : NewOrder) (p : Option ℤ) (z f w : ℕ) → p ≡ price_of q.kind → z ≡ side_code q.side → f ≡ price_flag p → w ≡ price_word p → MaybeFits p → q.client_ref < modulus → q.qty < modulus →
     Stands a q (record { account = a; client_ref = q.client_ref; side = z; priced = f; price = w; leaves = q.qty; hold = 0 })
 stands a q p z f w p_is z_is f_is w_is m c d =
     record {
       is =
           λ n.
           stored a q.client_ref q.qty q.side p z f w z_is f_is w_is m n
-          ∙ ap (λ (x : M.MaybePrice). record { number = n; account = a; client_ref = q.client_ref; side = q.side; price = x; leaves = q.qty }) p_is;
+          ∙ ap (λ (x : Option ℤ). record { number = n; account = a; client_ref = q.client_ref; side = q.side; price = x; leaves = q.qty }) p_is;
       fits = (c, (d, kind_fits q.kind (subst MaybeFits p_is m)));
     }
 
@@ -245,8 +244,8 @@ module _ {a : ℕ} {q : NewOrder} {o : Live} (w : Stands a q o) where
       (sym (ap (λ z. int n -ℤ z) int_zero ∙ +ℤ_idr (int n) ∙ hold_stands (word s C.fee) n e))
     where
       go : (x : Option Funds) (ns : List ℕ) → option [] (λ f. ns) x ≡ cond (is_some x) ns []
-      go none ns = refl
-      go (some y) ns = refl
+      go None ns = refl
+      go (Some y) ns = refl
 
 -- ---- the hold
 
@@ -259,7 +258,7 @@ owner_is n a z q (Kind.Limit p t d) = refl
 owner_is n a z q Kind.Market = refl
 owner_is n a z q (Kind.Stop t l) = refl
 
-pub order_is : (n a : ℕ) (z : Side) (q : ℕ) (k : OrderKind) → order_of (command_of n a z q k) ≡ some (record { side = z; price = price_of k; qty = q })
+pub order_is : (n a : ℕ) (z : Side) (q : ℕ) (k : OrderKind) → order_of (command_of n a z q k) ≡ Some (record { side = z; price = price_of k; qty = q })
 unfolding order_of
 order_is n a z q (Kind.Limit p t d) = refl
 order_is n a z q Kind.Market = refl
@@ -324,19 +323,16 @@ module _ {a : ℕ} {xs : List ℕ} {q : NewOrder} {o : Live} (h : Exists a xs) (
           f ∙ ap (λ x. hold_fits a q.side x gw) (hold_stands w (word (cell xs) C.fee) n n_is) ∙ fits_is a q gw h.between.ok.core_is.holds
           ∙ sym (rw (← orders_are, ← v_is, lt-ltb v most_orders l, ← notice_is, ← b_is, e) refl)
 
-pub room_is : (g : Gateway) (a : ℕ) (q : NewOrder) (c r : Bool) → c ≡ can_number g → c ≡ true → r ≡ has_place a q g → r ≡ has_room a q g
-room_is g a q c r e f h = h ∙ ap (λ b. b && has_place a q g) (sym f ∙ e)
-
-pub no_room : (g : Gateway) (a : ℕ) (q : NewOrder) (c : Bool) → c ≡ can_number g → c ≡ false → false ≡ has_room a q g
-no_room g a q c e f = ap (λ b. b && has_place a q g) (sym f ∙ e)
-
 -- ---- all tests
 
-pub new_is : (g : Gateway) (a : ℕ) (q : NewOrder) (passed r f : Bool) (x y u z v c d : Why.MaybeRejectCode) → r ≡ has_room a q g → x ≡ first ((Unavailable, r) ∷ []) → y ≡ first (paper a q.side q.qty q.kind g) → u ≡ or_else y x →
-    f ≡ ltb (open_of a g.core.ledger.orders) (most_open (account_at a g.core)) → z ≡ first ((TooManyOrders, f) ∷ []) → v ≡ or_else z u → c ≡ first ((Throttled, passed) ∷ []) → d ≡ or_else c v → d ≡ first (new_order_tests a q passed g)
-new_is g a q passed r f x y u z v c d r_is x_is y_is u_is f_is z_is v_is c_is d_is =
-    d_is ∙ ap₂ or_else c_is (v_is ∙ ap₂ or_else z_is (u_is ∙ ap₂ or_else y_is x_is ∙ or_append ts ((Unavailable, r) ∷ [])) ∙ or_first TooManyOrders f (ts ++ ((Unavailable, r) ∷ [])))
-    ∙ or_first Throttled passed ((TooManyOrders, f) ∷ (ts ++ ((Unavailable, r) ∷ [])))
+pub new_is : (g : Gateway) (a : ℕ) (q : NewOrder) (passed f r : Bool) (t m x y u v w : Option RejectCode) → t ≡ then_some (not passed) Throttled →
+    f ≡ ltb (open_of a g.core.ledger.orders) (most_open (account_at a g.core)) → m ≡ then_some (not f) TooManyOrders → x ≡ first (paper a q.side q.qty q.kind g) →
+    r ≡ has_room a q g → y ≡ then_some (not r) Unavailable → u ≡ option_or t m → v ≡ option_or u x → w ≡ option_or v y → w ≡ first (new_order_tests a q passed g)
+new_is g a q passed f r t m x y u v w t_is f_is m_is x_is r_is y_is u_is v_is w_is =
+    or_more v y w ((Throttled, passed) ∷ (TooManyOrders, f) ∷ ts) ((Unavailable, r) ∷ [])
+    (or_more u x v ((Throttled, passed) ∷ (TooManyOrders, f) ∷ []) ts
+    (or_more t m u ((Throttled, passed) ∷ []) ((TooManyOrders, f) ∷ []) (t_is ∙ one_test Throttled passed) (m_is ∙ one_test TooManyOrders f) u_is) x_is v_is)
+    (y_is ∙ one_test Unavailable r) w_is
     ∙ ap₂ (λ i j. first ((Throttled, passed) ∷ (TooManyOrders, i) ∷ (ts ++ ((Unavailable, j) ∷ [])))) f_is r_is
   where
     ts : Tests RejectCode
@@ -344,10 +340,12 @@ new_is g a q passed r f x y u z v c d r_is x_is y_is u_is f_is z_is v_is c_is d_
 
 -- ---- a command that places nothing
 
-pub other_is : (g : Gateway) (can passed allowed : Bool) (x y u z v : Why.MaybeRejectCode) → can ≡ can_number g → x ≡ first ((Unavailable, can) ∷ []) → y ≡ first ((NotAllowed, allowed) ∷ []) → u ≡ or_else y x →
-    z ≡ first ((Throttled, passed) ∷ []) → v ≡ or_else z u → v ≡ first (other_tests passed allowed g)
-other_is g can passed allowed x y u z v e x_is y_is u_is z_is v_is =
-    v_is ∙ ap₂ or_else z_is (u_is ∙ ap₂ or_else y_is x_is ∙ or_first NotAllowed allowed ((Unavailable, can) ∷ []))
-    ∙ or_first Throttled passed ((NotAllowed, allowed) ∷ (Unavailable, can) ∷ []) ∙ ap (λ b. first ((Throttled, passed) ∷ (NotAllowed, allowed) ∷ (Unavailable, b) ∷ [])) e
+pub other_is : (g : Gateway) (passed allowed can : Bool) (t n y u v : Option RejectCode) → t ≡ then_some (not passed) Throttled → n ≡ then_some (not allowed) NotAllowed →
+    can ≡ can_number g → y ≡ then_some (not can) Unavailable → u ≡ option_or t n → v ≡ option_or u y → v ≡ first (other_tests passed allowed g)
+other_is g passed allowed can t n y u v t_is n_is e y_is u_is v_is =
+    or_more u y v ((Throttled, passed) ∷ (NotAllowed, allowed) ∷ []) ((Unavailable, can) ∷ [])
+    (or_more t n u ((Throttled, passed) ∷ []) ((NotAllowed, allowed) ∷ []) (t_is ∙ one_test Throttled passed) (n_is ∙ one_test NotAllowed allowed) u_is)
+    (y_is ∙ one_test Unavailable can) v_is
+    ∙ ap (λ b. first ((Throttled, passed) ∷ (NotAllowed, allowed) ∷ (Unavailable, b) ∷ [])) e
 
-pub ruleset testing = (other_is, few_is, near_free, near_unmarked, near_is, covered_is, covered_not, limit_is, no_paper, total_any, total_is, room_same, room_funded, room_unfunded, room_is, no_room, new_is, arith)
+pub ruleset testing = (other_is, few_is, near_free, near_unmarked, near_is, covered_is, covered_not, limit_is, no_paper, total_any, total_is, room_same, room_funded, room_unfunded, new_is, arith)

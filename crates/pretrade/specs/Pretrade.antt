@@ -1,5 +1,5 @@
 -- The tests of an order-entry message, in 01's order.
-use Rattle.std.specs.Prelude.{ℕ, ◌+◌, ◌≡◌, Bool, true, false, cond, ◌&&◌, List, [], ◌∷◌, ◌++◌, ℤ, pos, ◌+ℤ◌, ◌-ℤ◌, length, ltb, leb}
+use Rattle.std.specs.Prelude.{ℕ, ◌≡◌, Bool, true, false, cond, ◌&&◌, List, [], ◌∷◌, ◌++◌, ℤ, pos, ◌+ℤ◌, ◌-ℤ◌, length, ltb, leb, Option, Some, None, is_some}
 use Rattle.std.specs.Int.Signed.{le_z}
 use Rattle.orderbook.specs.declared.Side.{Side}
 use Rattle.orderbook.specs.declared.Command.{Command}
@@ -8,13 +8,12 @@ use Rattle.protocol.specs.declared.NewOrder.{NewOrder}
 use Rattle.protocol.specs.declared.OrderKind.{OrderKind}
 use Rattle.protocol.specs.declared.RejectCode.{RejectCode}
 use Rattle.protocol.specs.declared.RejectCode.TheVariants.{TooManyOrders, Throttled, Unavailable, InsufficientFunds, NotAllowed, OffMarket}
-use Rattle.protocol.specs.declared.codes.MaybeRejectCode as Why
 use Rattle.accounts.specs.declared.Funds.{Funds}
 use Rattle.wallet.specs.Wallet as W
 use Rattle.risk.specs.Collar.{near_market}
-use Rattle.gateway.specs.Basics.{option, is_some}
+use Rattle.gateway.specs.Basics.{option}
 use Rattle.gateway.specs.Limits.{most_orders, most_notices}
-use Rattle.gateway.specs.Ledger.{command, price_option, fits, held, open_of}
+use Rattle.gateway.specs.Ledger.{command, fits, held, open_of}
 use Rattle.gateway.specs.Core.{Tests, Core, account_at, fits_after}
 use Rattle.gateway.specs.Entry.{next, new_notice, price_of, command_of, wallet_at, balance_with, covered, most_open, paper_tests}
 use Rattle.gateway.specs.Fits.{InboundFits}
@@ -23,21 +22,15 @@ use Rattle.store.specs.Layout.{cell}
 use Rattle.store.specs.View.{gateway}
 use Rattle.orders.specs.declared.Live.{Live}
 use Rattle.orders.specs.Orders as Orders
-use Rattle.live.specs.Live as Live
-use Rattle.mailbox.specs.Mailbox.{places}
 use Rattle.outcome.specs.Between.{Between}
 use Rattle.commands.specs.Commands as Commands
 
 -- ---- judging
 
 -- the code of the first test that fails
-abbrev pub first : Tests RejectCode → Why.MaybeRejectCode
-first [] = Why.TheVariants.None
-first (t ∷ ts) = cond t.1 (first ts) (Why.TheVariants.Some t.0)
-
-abbrev pub or_else : Why.MaybeRejectCode → Why.MaybeRejectCode → Why.MaybeRejectCode
-or_else Why.TheVariants.None w = w
-or_else (Why.TheVariants.Some k) w = Why.TheVariants.Some k
+abbrev pub first : Tests RejectCode → Option RejectCode
+first [] = None
+first (t ∷ ts) = cond t.1 (first ts) (Some t.0)
 
 -- between calls, account a exists
 pub record Exists (a : ℕ) (xs : List ℕ) : Type 0 where
@@ -58,7 +51,7 @@ is_covered s p q a c w = covered c.ledger.fee s p q a w c.ledger.orders
 -- what a wallet's account is asked of a limit order at p
 abbrev pub limit_tests : Side → ℤ → ℕ → ℕ → Gateway → Tests RejectCode
 limit_tests s p q a g =
-    (OffMarket, near_market p g.rest.collar (price_option g.core.ledger.mark))
+    (OffMarket, near_market p g.rest.collar g.core.ledger.mark)
     ∷ (InsufficientFunds, option false (is_covered s p q a g.core) (wallet_at a g.core))
     ∷ []
 

@@ -3,12 +3,12 @@
 
 pub mod collar;
 
-ghost use Rattle.std.specs.Prelude.{◌≡◌, true, false, [], ◌∷◌, ◌+◌, ◌<◌, length, ltb, leb};
+ghost use Rattle.std.specs.Prelude.{◌≡◌, true, false, [], ◌∷◌, ◌+◌, ◌<◌, length, ltb, leb, is_some};
 ghost use Rattle.words.specs.Words.{int};
 ghost use Rattle.risk.specs.Collar.{near_market};
-ghost use Rattle.gateway.specs.Basics.{option, is_some};
+ghost use Rattle.gateway.specs.Basics.{option};
 ghost use Rattle.gateway.specs.Limits.{owner_slots, most_notices};
-ghost use Rattle.gateway.specs.Ledger.{price_option, open_of};
+ghost use Rattle.gateway.specs.Ledger.{open_of};
 ghost use Rattle.gateway.specs.Core.{account_at};
 ghost use Rattle.gateway.specs.Rest.{at_time};
 ghost use Rattle.gateway.specs.Entry.{taken, most_open, wallet_at, price_of};
@@ -20,34 +20,14 @@ ghost use Rattle.live.specs.Live.{hold_notice};
 ghost use Rattle.outcome.specs.Parts.{rest_of};
 ghost use Rattle.pretrade.specs.Pretrade as P;
 
-use orderbook::{MaybePrice, Side};
+use orderbook::Side;
 use orders::Live;
-use protocol::codes::MaybeRejectCode;
-use protocol::{NewOrder, OrderKind, RejectCode, codes};
+use protocol::{NewOrder, OrderKind, RejectCode};
 use risk::Taken;
 use store::{cells, limits};
 use wallet::Wallet;
-use words::Amount;
 
-// ---- tests: the first that fails says why
-
-fn check(ok: bool, code: RejectCode) -> MaybeRejectCode
-    ensures { result ≡ P.first ((code, ok) ∷ []) }
-{
-    if ok {
-        return MaybeRejectCode::None;
-    }
-    MaybeRejectCode::Some(code)
-}
-
-fn or_else(v: MaybeRejectCode, w: MaybeRejectCode) -> MaybeRejectCode
-    ensures { result ≡ P.or_else v w }
-{
-    match v {
-        MaybeRejectCode::None => w,
-        MaybeRejectCode::Some(code) => MaybeRejectCode::Some(code),
-    }
-}
+// Of several tests the first that fails says why.
 
 // The token is taken first, and stays taken whatever reject follows.
 pub fn take_token(m: &[u8], a: usize, time: u64) -> Taken
@@ -61,13 +41,14 @@ pub fn take_token(m: &[u8], a: usize, time: u64) -> Taken
 
 // ---- a command that places nothing
 
-pub fn judge_other(m: &[u8], passed: bool, allowed: bool) -> MaybeRejectCode
+pub fn judge_other(m: &[u8], passed: bool, allowed: bool) -> Option<RejectCode>
     requires { State m.now }
     ensures { result ≡ P.first (P.other_tests passed allowed (gateway (cell m.now))) }
 {
-    let room = check(commands::can_number(m), RejectCode::Unavailable);
-    let own = or_else(check(allowed, RejectCode::NotAllowed), room);
-    or_else(check(passed, RejectCode::Throttled), own)
+    let throttled = (!passed).then_some(RejectCode::Throttled);
+    let foreign = (!allowed).then_some(RejectCode::NotAllowed);
+    let full = (!commands::can_number(m)).then_some(RejectCode::Unavailable);
+    throttled.or(foreign).or(full)
 }
 
 // ---- what a new order is asked
@@ -82,7 +63,7 @@ fn few_open(m: &[u8], a: usize) -> bool
 // The collar: no percent or no mark, near.
 fn is_near(m: &[u8], price: u64) -> bool
     requires { State m.now }
-    ensures { result ≡ near_market (int price) (rest_of m.now).collar (price_option (gateway (cell m.now)).core.ledger.mark) }
+    ensures { result ≡ near_market (int price) (rest_of m.now).collar ((gateway (cell m.now)).core.ledger.mark) }
 {
     let collar = pending::header::word_at(m, cells::COLLAR);
     if collar == 0 {
@@ -101,11 +82,7 @@ fn is_free(m: &[u8], a: usize, side: Side, hold: u64) -> bool
     requires { P.Exists a m.now × (is_some (wallet_at a (gateway (cell m.now)).core) ≡ true) }
     ensures { result ≡ option false (P.is_free (int hold) side a (gateway (cell m.now)).core) (wallet_at a (gateway (cell m.now)).core) }
 {
-    if words::not_negative(hold) {
-        let w = clients::wallet_at(m, a);
-        return w.covers(side, hold);
-    }
-    false
+    words::not_negative(hold) && clients::wallet_at(m, a).covers(side, hold)
 }
 
 fn is_covered(m: &[u8], a: usize, side: Side, price: u64, qty: u64) -> bool
@@ -113,36 +90,33 @@ fn is_covered(m: &[u8], a: usize, side: Side, price: u64, qty: u64) -> bool
     ensures { result ≡ option false (P.is_covered side (int price) qty a (gateway (cell m.now)).core) (wallet_at a (gateway (cell m.now)).core) }
 {
     match Wallet::hold_of(live::fee_of(m), side, price, qty) {
-        Amount::Fits(hold) => is_free(m, a, side, hold),
-        Amount::TooBig => false,
+        Some(hold) => is_free(m, a, side, hold),
+        None => false,
     }
 }
 
 // A wallet's account places limit orders near the market that it can pay for in full.
-fn judge_limit(m: &[u8], a: usize, side: Side, price: u64, qty: u64) -> MaybeRejectCode
+fn judge_limit(m: &[u8], a: usize, side: Side, price: u64, qty: u64) -> Option<RejectCode>
     requires { P.Exists a m.now × (is_some (wallet_at a (gateway (cell m.now)).core) ≡ true) }
     ensures { result ≡ P.first (P.limit_tests side (int price) qty a (gateway (cell m.now))) }
 {
-    let near = check(is_near(m, price), RejectCode::OffMarket);
-    let covered = check(
-        is_covered(m, a, side, price, qty),
-        RejectCode::InsufficientFunds,
-    );
-    or_else(near, covered)
+    let far = (!is_near(m, price)).then_some(RejectCode::OffMarket);
+    let short = (!is_covered(m, a, side, price, qty)).then_some(RejectCode::InsufficientFunds);
+    far.or(short)
 }
 
-fn judge_kind(m: &[u8], a: usize, side: Side, qty: u64, kind: OrderKind) -> MaybeRejectCode
+fn judge_kind(m: &[u8], a: usize, side: Side, qty: u64, kind: OrderKind) -> Option<RejectCode>
     requires { P.Exists a m.now × (is_some (wallet_at a (gateway (cell m.now)).core) ≡ true) }
     ensures { result ≡ P.first (P.paper a side qty kind (gateway (cell m.now))) }
 {
     match kind {
         OrderKind::Limit { price, .. } => judge_limit(m, a, side, words::of_i64(price), qty),
-        OrderKind::Market => MaybeRejectCode::Some(RejectCode::NotAllowed),
-        OrderKind::Stop { .. } => MaybeRejectCode::Some(RejectCode::NotAllowed),
+        OrderKind::Market => Some(RejectCode::NotAllowed),
+        OrderKind::Stop { .. } => Some(RejectCode::NotAllowed),
     }
 }
 
-fn judge_paper(m: &[u8], a: usize, order: NewOrder) -> MaybeRejectCode
+fn judge_paper(m: &[u8], a: usize, order: NewOrder) -> Option<RejectCode>
     requires { P.Exists a m.now }
     ensures { result ≡ P.first (P.paper a order.side order.qty order.kind (gateway (cell m.now))) }
 {
@@ -151,17 +125,17 @@ fn judge_paper(m: &[u8], a: usize, order: NewOrder) -> MaybeRejectCode
         let kind = order.kind;
         return judge_kind(m, a, side, order.qty, kind);
     }
-    MaybeRejectCode::None
+    None
 }
 
 // ---- the words of a new order
 
-fn price_of(kind: OrderKind) -> MaybePrice
+fn price_of(kind: OrderKind) -> Option<i64>
     ensures { result ≡ price_of kind }
 {
     match kind {
-        OrderKind::Limit { price, .. } => MaybePrice::Some(price),
-        OrderKind::Market => MaybePrice::None,
+        OrderKind::Limit { price, .. } => Some(price),
+        OrderKind::Market => None,
         OrderKind::Stop { trigger: _, limit } => limit,
     }
 }
@@ -173,7 +147,7 @@ pub fn live_of(a: usize, order: NewOrder) -> Live
     let side = order.side;
     let kind = order.kind;
     let price = price_of(kind);
-    let code = codes::side_code(side) as u64;
+    let code = side as u64;
     Live {
         account: a as u64,
         client_ref: order.client_ref,
@@ -207,10 +181,7 @@ fn hold_fits(m: &[u8], a: usize, side: Side, hold: u64) -> bool
     requires { P.Exists a m.now }
     ensures { result ≡ P.hold_fits a side (int hold) (gateway (cell m.now)) }
 {
-    if clients::is_funded(m, a) {
-        return live::total_fits(m, a, side, 0, hold);
-    }
-    true
+    !clients::is_funded(m, a) || live::total_fits(m, a, side, 0, hold)
 }
 
 // For the order, its notice and what it holds.
@@ -221,31 +192,24 @@ fn has_place(m: &[u8], a: usize, order: NewOrder, o: Live) -> bool
     let side = order.side;
     let hold = live::hold_of(live::fee_of(m), o.side, o.priced, o.price, o.leaves);
     let live = pending::header::word_at(m, cells::LIVE_ORDERS);
-    if live < limits::MOST_ORDERS {
-        if notice_room(m, a, hold) {
-            return hold_fits(m, a, side, hold);
-        }
-    }
-    false
+    live < limits::MOST_ORDERS && notice_room(m, a, hold) && hold_fits(m, a, side, hold)
 }
 
 fn has_room(m: &[u8], a: usize, order: NewOrder, o: Live) -> bool
     requires { P.Exists a m.now × P.Stands a order o }
     ensures { result ≡ P.has_room a order (gateway (cell m.now)) }
 {
-    if commands::can_number(m) {
-        return has_place(m, a, order, o);
-    }
-    false
+    commands::can_number(m) && has_place(m, a, order, o)
 }
 
 // The tests in the definitions' order.
-pub fn judge_new(m: &[u8], a: usize, passed: bool, order: NewOrder, o: Live) -> MaybeRejectCode
+pub fn judge_new(m: &[u8], a: usize, passed: bool, order: NewOrder, o: Live) -> Option<RejectCode>
     requires { P.Exists a m.now × P.Stands a order o }
     ensures { result ≡ P.first (P.new_order_tests a order passed (gateway (cell m.now))) }
 {
-    let room = check(has_room(m, a, order, o), RejectCode::Unavailable);
-    let paper = or_else(judge_paper(m, a, order), room);
-    let few = or_else(check(few_open(m, a), RejectCode::TooManyOrders), paper);
-    or_else(check(passed, RejectCode::Throttled), few)
+    let throttled = (!passed).then_some(RejectCode::Throttled);
+    let many = (!few_open(m, a)).then_some(RejectCode::TooManyOrders);
+    let paper = judge_paper(m, a, order);
+    let full = (!has_room(m, a, order, o)).then_some(RejectCode::Unavailable);
+    throttled.or(many).or(paper).or(full)
 }

@@ -1,9 +1,11 @@
 // The message values of crates/protocol/src/lib.rs, with the Rust's names, cases and order. The wire form is left out.
 #![tactic(auto)]
 
-pub mod codes;
+ghost use Rattle.std.specs.Prelude.{◌≡◌, ok_or};
+ghost use Rattle.protocol.specs.Codes.{logout_of};
 
-use orderbook::{CancelReason, MaybePrice, MaybeQty, Phase, RejectReason, Side, TimeInForce};
+use orderbook::codes::UnknownCode;
+use orderbook::{CancelReason, Phase, RejectReason, Side, TimeInForce};
 
 // The protocol version, sent in `Login`.
 pub const VERSION: u16 = 1;
@@ -45,12 +47,12 @@ pub enum OrderKind {
     Limit {
         price: i64,
         tif: TimeInForce,
-        display: MaybeQty,
+        display: Option<u64>,
     },
     Market,
     Stop {
         trigger: i64,
-        limit: MaybePrice,
+        limit: Option<i64>,
     },
 }
 
@@ -98,27 +100,44 @@ pub struct TradeTick {
     pub qty: u64,
 }
 
-#[derive(Clone, Copy)]
+#[derive(Clone, Copy, Debug, PartialEq, Eq)]
 pub enum LoginError {
-    UnsupportedVersion,
+    UnsupportedVersion = 1,
     BadCredentials,
     AlreadyLoggedIn,
     AlreadyInSession,
 }
 
-#[derive(Clone, Copy)]
+#[derive(Clone, Copy, Debug, PartialEq, Eq)]
 pub enum LogoutReason {
-    Requested,
+    Requested = 1,
     Idle,
     ProtocolError,
     SlowConsumer,
     Shutdown,
 }
 
+impl TryFrom<u8> for LogoutReason {
+    type Error = UnknownCode;
+
+    ghost try_from_gives = { λ code r. r ≡ ok_or (logout_of code) (record { 0 = code }) };
+
+    fn try_from(code: u8) -> Result<Self, UnknownCode> {
+        match code {
+            1 => Ok(LogoutReason::Requested),
+            2 => Ok(LogoutReason::Idle),
+            3 => Ok(LogoutReason::ProtocolError),
+            4 => Ok(LogoutReason::SlowConsumer),
+            5 => Ok(LogoutReason::Shutdown),
+            _ => Err(UnknownCode(code)),
+        }
+    }
+}
+
 // Why the gateway refused a message.
-#[derive(Clone, Copy)]
+#[derive(Clone, Copy, Debug, PartialEq, Eq)]
 pub enum RejectCode {
-    TooManyOrders,
+    TooManyOrders = 1,
     Throttled,
     Unavailable,
     InsufficientFunds,
@@ -169,7 +188,7 @@ pub enum ReportKind {
     StopPlaced {
         side: Side,
         trigger: i64,
-        limit: MaybePrice,
+        limit: Option<i64>,
         qty: u64,
     },
     Triggered,

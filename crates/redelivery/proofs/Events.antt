@@ -1,4 +1,5 @@
 -- Each kind of event: what the definitions say of it, and the event as the match finds it. Assumes nothing.
+use Rattle.std.specs.Prelude.{Option}
 use mathlib.Core.Path.{◌≡◌, refl, sym, ap, subst, ◌∙◌}
 use mathlib.Core.Bool.{Bool, true, not, ◌&&◌}
 use mathlib.Core.List.{List, [], ◌∷◌}
@@ -11,7 +12,6 @@ use lib.Signed.{mag}
 use mir.Syntax.{w64}
 use mir.Val.{of_z, to_z}
 use Rattle.orderbook.specs.declared.Side.{Side}
-use Rattle.orderbook.specs.declared.MaybePrice.{MaybePrice}
 use Rattle.orderbook.specs.declared.CancelReason.{CancelReason}
 use Rattle.orderbook.specs.declared.Phase.{Phase}
 use Rattle.orderbook.specs.declared.RejectReason.{RejectReason}
@@ -62,7 +62,7 @@ module _ (n : ℕ) (g : Gateway) where
   unfolding names_below numbers_agree changes
   replenished_still i z p v = record { below_is = refl; numbers_is = λ _. refl; none_changes = refl; fits = tt }
 
-  stop_still : (i : ℕ) (z : Side) (t : ℤ) (l : MaybePrice) (q : ℕ) → Still n true (leb i n) (StopPlaced i z t l q) g
+  stop_still : (i : ℕ) (z : Side) (t : ℤ) (l : Option ℤ) (q : ℕ) → Still n true (leb i n) (StopPlaced i z t l q) g
   unfolding names_below numbers_agree changes
   stop_still i z t l q = record { below_is = refl; numbers_is = λ _. refl; none_changes = refl; fits = tt }
 
@@ -126,7 +126,7 @@ module _ (xs ys : List ℕ) (n r : ℕ) where
     pub as_replenished : (i : ℕ) (z : Side) (p : ℤ) (v : ℕ) → e ≡ Replenished i z p v → ((f : Event) → Still n true (leb i n) f (gateway (cell xs)) → Replays xs ys n r f) → Replays xs ys n r e
     as_replenished i z p v q h = as_said (Replenished i z p v) q (h (Replenished i z p v) (replenished_still n (gateway (cell xs)) i z p v))
 
-    pub as_stop : (i : ℕ) (z : Side) (t : ℤ) (l : MaybePrice) (v : ℕ) → e ≡ StopPlaced i z t l v → ((f : Event) → Still n true (leb i n) f (gateway (cell xs)) → Replays xs ys n r f) → Replays xs ys n r e
+    pub as_stop : (i : ℕ) (z : Side) (t : ℤ) (l : Option ℤ) (v : ℕ) → e ≡ StopPlaced i z t l v → ((f : Event) → Still n true (leb i n) f (gateway (cell xs)) → Replays xs ys n r f) → Replays xs ys n r e
     as_stop i z t l v q h = as_said (StopPlaced i z t l v) q (h (StopPlaced i z t l v) (stop_still n (gateway (cell xs)) i z t l v))
 
     pub as_phase : (p : Phase) → e ≡ PhaseChanged p → ((f : Event) → Still n true true f (gateway (cell xs)) → Replays xs ys n r f) → Replays xs ys n r e

@@ -1,10 +1,9 @@
 -- A replayed event: its tests as the code makes them, what it does to live orders, and the gateway after it.
-use Rattle.std.specs.Prelude.{ℕ, ◌≡◌, Bool, true, List, [], ◌∷◌, leb, ℤ}
+use Rattle.std.specs.Prelude.{ℕ, ◌≡◌, Bool, true, List, [], ◌∷◌, leb, ℤ, Option}
 use Rattle.orderbook.specs.declared.Side.{Side}
 use Rattle.orderbook.specs.declared.Event.{Event}
 use Rattle.orderbook.specs.declared.Event.TheVariants.{Rested}
 use Rattle.gateway.specs.Limits.{out_of_range, sequence, outside, inconsistent}
-use Rattle.table.specs.declared.Found.{Found}
 use Rattle.gateway.specs.Ledger.{number_of, changes, change}
 use Rattle.gateway.specs.Core as Core
 use Rattle.gateway.specs.Core.{owner_limit, in_flight, drop_below, first_places, names_below, numbers_agree}
@@ -72,7 +71,7 @@ dealt n d both g = landed n (Trades.marked both d.price (settled d g))
 -- ---- what is asked
 
 -- a trade's orders are two, and where they are
-pub record Stand (d : Deal) (taker maker : Found) (xs : List ℕ) : Type 0 where
+pub record Stand (d : Deal) (taker maker : Option ℕ) (xs : List ℕ) : Type 0 where
   pub two : (d.taker ≡ d.maker → ⊥)
   pub taker_lives : Sees C.order_live order number_of (cell xs) d.taker taker
   pub maker_lives : Sees C.order_live order number_of (cell xs) d.maker maker

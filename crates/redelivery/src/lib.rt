@@ -16,6 +16,7 @@ ghost use Rattle.store.specs.View.{order, ledger, gateway};
 ghost use Rattle.orders.specs.Orders.{Sees};
 ghost use Rattle.sound.specs.Sound.{State, Becomes};
 ghost use Rattle.outcome.specs.Between.{Between};
+ghost use Rattle.outcome.specs.Refusals.{code_of};
 ghost use Rattle.outcome.specs.Answers.{verdict, Says};
 ghost use Rattle.holds.specs.Holds as Holds;
 ghost use Rattle.trades.specs.Trades as Trades;
@@ -24,17 +25,18 @@ ghost use Rattle.redelivery.specs.Redelivery as P;
 use delivery::Tests;
 use holds::{Move, Shift};
 use orderbook::{Event, Side};
-use table::Found;
+use outcome::Refusal;
 use trades::Deal;
 
-// The code of the first test that fails, or 0: those of delivering that do not look at the depth or at what waits.
-fn judge(m: &[u8], n: u64, below: bool, numbers: bool, holds: bool) -> u64
+// The refusal of the first test that fails: those of delivering that do not look at the depth or at what waits.
+fn judge(m: &[u8], n: u64, below: bool, numbers: bool, holds: bool) -> Result<(), Refusal>
     requires { State m.now }
-    ensures { result ≡ verdict (P.tests n below numbers holds (gateway (cell m.now))) }
+    ensures { code_of result ≡ verdict (P.tests n below numbers holds (gateway (cell m.now))) }
 {
     let alone = replay::is_alone(m);
     let flying = delivery::is_flying(m, n);
-    let code = delivery::code_of(Tests {
+    delivery::check(alone, Refusal::Sequence)?;
+    delivery::judge(Tests {
         flying,
         below,
         numbers,
@@ -45,27 +47,23 @@ fn judge(m: &[u8], n: u64, below: bool, numbers: bool, holds: bool) -> u64
         trades: true,
         notices: true,
         room: true,
-    });
-    delivery::check(alone, outcome::SEQUENCE, code)
+    })
 }
 
 // ---- no order changes
 
-fn still(m: &mut [u8], n: u64, below: bool, numbers: bool) -> u64
+fn still(m: &mut [u8], n: u64, below: bool, numbers: bool) -> Result<(), Refusal>
     requires { Between m.old }
-    ensures { (e : E.Event) → P.Still n below numbers e (gateway (cell m.old)) → Says nothing (call (gateway (cell m.old)) (replay_event n e)) result m.old m.new }
+    ensures { (e : E.Event) → P.Still n below numbers e (gateway (cell m.old)) → Says nothing (call (gateway (cell m.old)) (replay_event n e)) (code_of result) m.old m.new }
 {
-    let code = judge(m, n, below, numbers, true);
-    if code != 0 {
-        return code;
-    }
+    judge(m, n, below, numbers, true)?;
     delivery::land(m, n);
-    0
+    Ok(())
 }
 
-fn mass_cancelled(m: &mut [u8], n: u64, owner: u32) -> u64
+fn mass_cancelled(m: &mut [u8], n: u64, owner: u32) -> Result<(), Refusal>
     requires { Between m.old }
-    ensures { (count : ℕ) → Says nothing (call (gateway (cell m.old)) (replay_event n (Event.MassCancelled owner count))) result m.old m.new }
+    ensures { (count : ℕ) → Says nothing (call (gateway (cell m.old)) (replay_event n (Event.MassCancelled owner count))) (code_of result) m.old m.new }
 {
     let below = delivery::is_owner(m, owner as u64);
     still(m, n, below, true)
@@ -73,7 +71,7 @@ fn mass_cancelled(m: &mut [u8], n: u64, owner: u32) -> u64
 
 // ---- one order changes
 
-fn apply_one(m: &mut [u8], n: u64, id: u64, at: Found, x: Move)
+fn apply_one(m: &mut [u8], n: u64, id: u64, at: Option<usize>, x: Move)
     requires { State m.old × Sees C.order_live order number_of (cell m.old) id at × (in_flight n (gateway (cell m.old)).core ≡ true) }
     ensures { Becomes m.new (P.moved n id x (gateway (cell m.old))) }
 {
@@ -81,25 +79,22 @@ fn apply_one(m: &mut [u8], n: u64, id: u64, at: Found, x: Move)
     delivery::land(m, n);
 }
 
-fn one(m: &mut [u8], n: u64, id: u64, x: Move) -> u64
+fn one(m: &mut [u8], n: u64, id: u64, x: Move) -> Result<(), Refusal>
     requires { Between m.old }
-    ensures { (e : E.Event) → P.Moves n id x e → Says nothing (call (gateway (cell m.old)) (replay_event n e)) result m.old m.new }
+    ensures { (e : E.Event) → P.Moves n id x e → Says nothing (call (gateway (cell m.old)) (replay_event n e)) (code_of result) m.old m.new }
 {
     let at = orders::find_live(m, id);
     let h = holds::weigh_move(m, id, at, x);
     let fits = holds::fits(m, h);
-    let code = judge(m, n, true, id <= n, fits);
-    if code != 0 {
-        return code;
-    }
+    judge(m, n, true, id <= n, fits)?;
     apply_one(m, n, id, at, x);
-    0
+    Ok(())
 }
 
 // A new order is refused: it ends. Another command is: nothing changes.
-fn rejected(m: &mut [u8], n: u64, id: u64) -> u64
+fn rejected(m: &mut [u8], n: u64, id: u64) -> Result<(), Refusal>
     requires { Between m.old }
-    ensures { (why : RejectReason) → Says nothing (call (gateway (cell m.old)) (replay_event n (Event.Rejected id why))) result m.old m.new }
+    ensures { (why : RejectReason) → Says nothing (call (gateway (cell m.old)) (replay_event n (Event.Rejected id why))) (code_of result) m.old m.new }
 {
     if id == n {
         return one(m, n, n, Move::Retire);
@@ -109,16 +104,16 @@ fn rejected(m: &mut [u8], n: u64, id: u64) -> u64
 }
 
 // That the quantity fits comes of its type.
-fn rested(m: &mut [u8], n: u64, id: u64, qty: u64) -> u64
+fn rested(m: &mut [u8], n: u64, id: u64, qty: u64) -> Result<(), Refusal>
     requires { Between m.old }
-    ensures { (e : E.Event) → P.Rests id qty e → Says nothing (call (gateway (cell m.old)) (replay_event n e)) result m.old m.new }
+    ensures { (e : E.Event) → P.Rests id qty e → Says nothing (call (gateway (cell m.old)) (replay_event n e)) (code_of result) m.old m.new }
 {
     one(m, n, id, Move::Leaves { leaves: qty })
 }
 
-fn modified(m: &mut [u8], n: u64, id: u64, price: i64, leaves: u64) -> u64
+fn modified(m: &mut [u8], n: u64, id: u64, price: i64, leaves: u64) -> Result<(), Refusal>
     requires { Between m.old }
-    ensures { (qty : ℕ) → Says nothing (call (gateway (cell m.old)) (replay_event n (Event.Modified id price qty leaves))) result m.old m.new }
+    ensures { (qty : ℕ) → Says nothing (call (gateway (cell m.old)) (replay_event n (Event.Modified id price qty leaves))) (code_of result) m.old m.new }
 {
     let p = bookevents::price_of(price, leaves);
     one(m, n, id, Move::Reprice { price: p, leaves })
@@ -126,9 +121,9 @@ fn modified(m: &mut [u8], n: u64, id: u64, price: i64, leaves: u64) -> u64
 
 // ---- a trade
 
-fn judge_trade(m: &[u8], n: u64, d: Deal, taker: Shift, maker: Shift) -> u64
+fn judge_trade(m: &[u8], n: u64, d: Deal, taker: Shift, maker: Shift) -> Result<(), Refusal>
     requires { Between m.now × Holds.Owned taker (ledger (cell m.now)) × Holds.Owned maker (ledger (cell m.now)) }
-    ensures { result ≡ verdict (P.trade_tests n d taker maker (gateway (cell m.now))) }
+    ensures { code_of result ≡ verdict (P.trade_tests n d taker maker (gateway (cell m.now))) }
 {
     let numbers = trades::numbers_agree(n, d.taker, d.maker);
     let fits = holds::pair_fits(m, taker, maker);
@@ -136,7 +131,7 @@ fn judge_trade(m: &[u8], n: u64, d: Deal, taker: Shift, maker: Shift) -> u64
 }
 
 // The taker, which is at `at`, before the maker, which its fill leaves where it is.
-fn settle(m: &mut [u8], d: Deal, at: Found, maker_at: Found)
+fn settle(m: &mut [u8], d: Deal, at: Option<usize>, maker_at: Option<usize>)
     requires { State m.old × P.Stand d at maker_at m.old }
     ensures { Becomes m.new (P.settled d (gateway (cell m.old))) }
 {
@@ -162,7 +157,14 @@ fn settle(m: &mut [u8], d: Deal, at: Found, maker_at: Found)
     );
 }
 
-fn apply_trade(m: &mut [u8], n: u64, d: Deal, at: Found, maker_at: Found, both: bool)
+fn apply_trade(
+    m: &mut [u8],
+    n: u64,
+    d: Deal,
+    at: Option<usize>,
+    maker_at: Option<usize>,
+    both: bool,
+)
     requires { State m.old × P.Stand d at maker_at m.old × (in_flight n (gateway (cell m.old)).core ≡ true) }
     ensures { Becomes m.new (P.dealt n d both (gateway (cell m.old))) }
 {
@@ -171,9 +173,9 @@ fn apply_trade(m: &mut [u8], n: u64, d: Deal, at: Found, maker_at: Found, both: 
     delivery::land(m, n);
 }
 
-fn deal(m: &mut [u8], n: u64, d: Deal) -> u64
+fn deal(m: &mut [u8], n: u64, d: Deal) -> Result<(), Refusal>
     requires { Between m.old × EventFits (Trades.event_of d) }
-    ensures { Says nothing (call (gateway (cell m.old)) (replay_event n (Trades.event_of d))) result m.old m.new }
+    ensures { Says nothing (call (gateway (cell m.old)) (replay_event n (Trades.event_of d))) (code_of result) m.old m.new }
 {
     let at = orders::find_live(m, d.taker);
     let maker_at = orders::find_live(m, d.maker);
@@ -197,12 +199,9 @@ fn deal(m: &mut [u8], n: u64, d: Deal) -> u64
             leaves: d.maker_leaves,
         },
     );
-    let code = judge_trade(m, n, d, taker, maker);
-    if code != 0 {
-        return code;
-    }
+    judge_trade(m, n, d, taker, maker)?;
     apply_trade(m, n, d, at, maker_at, taker.funded & maker.funded);
-    0
+    Ok(())
 }
 
 fn trade(
@@ -216,9 +215,9 @@ fn trade(
     qty: u64,
     taker_leaves: u64,
     maker_leaves: u64,
-) -> u64
+) -> Result<(), Refusal>
     requires { Between m.old }
-    ensures { Says nothing (call (gateway (cell m.old)) (replay_event n (Event.Trade id taker maker side price qty taker_leaves maker_leaves))) result m.old m.new }
+    ensures { Says nothing (call (gateway (cell m.old)) (replay_event n (Event.Trade id taker maker side price qty taker_leaves maker_leaves))) (code_of result) m.old m.new }
 {
     let d = trades::deal_of(
         id,
@@ -235,9 +234,9 @@ fn trade(
 
 // ---- the call
 
-pub fn replay_event(m: &mut [u8], n: u64, e: Event) -> u64
+pub fn replay_event(m: &mut [u8], n: u64, e: Event) -> Result<(), Refusal>
     requires { Between m.old }
-    ensures { Says nothing (call (gateway (cell m.old)) (replay_event n e)) result m.old m.new }
+    ensures { Says nothing (call (gateway (cell m.old)) (replay_event n e)) (code_of result) m.old m.new }
 {
     match e {
         Event::Accepted { id } => still(m, n, true, id <= n),

@@ -1,4 +1,5 @@
 -- The reference price, and the whole. Assumes nothing.
+use Rattle.std.specs.Prelude.{Some, None}
 use Prim.Native.Nat.{ℕ}
 use mathlib.Core.Path.{◌≡◌, sym, ap, subst, ◌∙◌}
 use mathlib.Core.Bool.{Bool, cond, not}
@@ -6,7 +7,6 @@ use mathlib.Core.List.{List}
 use native.Mathlib.Omega.{arith}
 use borrow.Author.Tests.{eq-eqb, ne_eqb}
 use lib.ListN.{length}
-use Rattle.orderbook.specs.declared.MaybePrice.TheVariants.{None, Some}
 use Rattle.words.specs.Words.{int}
 use Rattle.gateway.specs.Limits.{owner_slots}
 use Rattle.gateway.specs.Ledger.{with_orders}
@@ -25,8 +25,7 @@ use Rattle.live.specs.Live.{with_ledger}
 use Rattle.saved.specs.declared.Reference.{Reference}
 use Rattle.saved.specs.Contents.{saved_of}
 use Rattle.refill.specs.Refill.{with_mark, own_all, noticed, refilled, Fits, Empty}
-use Rattle.refill.proofs.Wallets.{own_there, own_none, purse_below, own_read, all_restored}
-use Rattle.refill.proofs.Placing.{can_place, places}
+use Rattle.refill.proofs.Wallets.{own_there, own_none, all_restored}
 use Rattle.refill.proofs.Noticing.{account_there, notice_fits, notice_becomes}
 
 -- ---- the reference price
@@ -80,4 +79,4 @@ module _ (bytes xs : List ℕ) (emp : Empty (saved_of bytes) xs) where
                 (all_restored s.wallets g₀.core.ledger.wallets f.wallets_rise (listed_length (λ i. wallet (cell xs C.accounts i)) owner_slots));
           }
 
-pub ruleset laws = (can_place, places, mark_there, mark_none, own_there, own_none, purse_below, own_read, account_there, notice_fits, notice_becomes, still_unmarked, still_unnoticed, refill_becomes, arith)
+pub ruleset laws = (mark_there, mark_none, own_there, own_none, account_there, notice_fits, notice_becomes, still_unmarked, still_unnoticed, refill_becomes, arith)

@@ -1,8 +1,8 @@
 -- The notices of what the orders hold, one by one. Assumes nothing.
+use Rattle.std.specs.Prelude.{Option, None, is_some}
 use Prim.Native.Nat.{ℕ, ◌+◌, ◌≤◌, ◌<◌}
 use mathlib.Core.Path.{◌≡◌, refl, sym, ap, ap₂, subst, ◌∙◌}
 use mathlib.Core.Bool.{Bool, true, false, cond, not, ◌&&◌}
-use mathlib.Core.Option.{Option, none}
 use mathlib.Core.List.{List, [], ◌∷◌, ◌++◌, append-nil, append_assoc}
 use native.Mathlib.Numerals.{add-one}
 use native.Mathlib.Omega.{arith}
@@ -12,7 +12,7 @@ use lib.Seq.{take-suc, take_all, length-take-le}
 use Rattle.accounts.specs.declared.Funds.{Funds}
 use Rattle.words.specs.Words.{int}
 use Rattle.words.proofs.Int.{int_zero}
-use Rattle.gateway.specs.Basics.{each, is_some}
+use Rattle.gateway.specs.Basics.{each}
 use Rattle.gateway.specs.Limits.{owner_slots, most_orders, most_notices}
 use Rattle.gateway.specs.Ledger.{Order, order_hold}
 use Rattle.gateway.specs.Invariant.{Inside}
@@ -63,7 +63,7 @@ module _ (bytes : List ℕ) (j : ℕ) (o : Live) (r : Reads (order_at bytes j) o
     notice_is : hold_notice o.account (int 0) (int h) (cell xs) ≡ hold_notice_of fee ws (order_at bytes j)
     notice_is =
         told (is_some (wallet (cell xs C.accounts o.account))) (is_zero (int h -ℤ int 0)) (o.account ∷ [])
-        ∙ ap₂ (λ w z. cond (is_some w && not (is_zero z)) (o.account ∷ []) []) (sym (listed_at (λ i. wallet (cell xs C.accounts i)) owner_slots o.account none account_there)) amount
+        ∙ ap₂ (λ w z. cond (is_some w && not (is_zero z)) (o.account ∷ []) []) (sym (listed_at (λ i. wallet (cell xs C.accounts i)) owner_slots o.account None account_there)) amount
         ∙ ap (hold_notice_of fee ws) r.order_is
 
     pub notice_fits : length (gateway (cell xs)).rest.notices < most_notices → length (hold_notice o.account (int 0) (int h) (cell xs)) + word (cell xs) C.notice_rows ≤ most_notices
@@ -113,7 +113,7 @@ module _ (fee : ℤ) (ws : List (Option Funds)) where
   notices_few [] = omega arith
   notices_few (o ∷ os) =
       let one : length (hold_notice_of fee ws o) ≤ 1 =
-      split (λ b. length (cond b (o.account ∷ []) []) ≤ 1) (is_some (get_or ws o.account none) && not (is_zero (order_hold fee o))) (λ e. omega arith) (λ e. omega arith) in
+      split (λ b. length (cond b (o.account ∷ []) []) ≤ 1) (is_some (get_or ws o.account None) && not (is_zero (order_hold fee o))) (λ e. omega arith) (λ e. omega arith) in
       omega (arith, length-append (hold_notice_of fee ws o) (notices os), notices_few os, one)
 
 module _ (bytes xs : List ℕ) where

@@ -16,27 +16,11 @@ use Rattle.gateway.specs.Saved.{Saved}
 use Rattle.store.specs.Cells as C
 use Rattle.store.specs.Layout.{cell}
 use Rattle.store.specs.View.{word, gateway}
-use Rattle.orders.specs.declared.Live.{Live}
-use Rattle.orders.specs.Orders.{order_of}
 use Rattle.sound.specs.Sound.{Becomes}
-use Rattle.live.specs.Live.{with_ledger, CanPlace, Seeds}
-use Rattle.saved.specs.Contents.{saved_of, order_at, no_order, Reads}
+use Rattle.live.specs.Live.{with_ledger}
+use Rattle.saved.specs.Contents.{saved_of, order_at, no_order}
 use Rattle.refill.specs.Refill.{HasRoom, Places, Fits, Empty}
 use Rattle.refill.proofs.Wallets.{each_at}
-
--- ---- the order that is read
-
-module _ (bytes : List ℕ) (j n : ℕ) (o : Live) (n_is : n ≡ (order_at bytes j).number) (r : Reads (order_at bytes j) o) where
-  is : order_of n o ≡ order_at bytes j
-  is = ap (λ k. order_of k o) n_is ∙ r.order_is
-
-  pub can_place : (xs : List ℕ) → HasRoom (order_at bytes j) (cell xs) → CanPlace n o (cell xs)
-  can_place xs h =
-      let k : HasRoom (order_of n o) (cell xs) = subst (λ x. HasRoom x (cell xs)) (sym is) h in
-      record { room = k.room; above = k.above; at_most_last = k.at_most_last; owner_is = k.owner_is }
-
-  pub places : (xs : List ℕ) {ys : List ℕ} → Seeds n o xs ys → Places (order_at bytes j) xs ys
-  places xs {ys} d = subst (λ x. Places x xs ys) is (record { becomes = d.becomes; last = d.last })
 
 -- ---- the first j have come to the state xs, which was empty
 

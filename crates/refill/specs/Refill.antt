@@ -1,8 +1,5 @@
 -- A checkpoint's contents in a state that begins, part by part.
-use Rattle.std.specs.Prelude.{ℕ, ◌≤◌, ◌<◌, ◌≡◌, List, [], ◌∷◌, ◌++◌, get_or, set}
-use Rattle.std.proofs.Math.Option.{Option, none, some}
-use Rattle.orderbook.specs.declared.MaybePrice.{MaybePrice}
-use Rattle.orderbook.specs.declared.MaybePrice.TheVariants.{None}
+use Rattle.std.specs.Prelude.{ℕ, ◌≤◌, ◌<◌, ◌≡◌, List, [], ◌∷◌, ◌++◌, get_or, set, Option, Some, None, ℤ}
 use Rattle.accounts.specs.declared.Funds.{Funds}
 use Rattle.table.specs.Live.{Each}
 use Rattle.gateway.specs.Basics.{each}
@@ -21,7 +18,7 @@ use Rattle.live.specs.Live.{with_ledger, with_notices}
 
 -- ---- the ledger with another part
 
-abbrev pub with_mark : MaybePrice → Ledger → Ledger
+abbrev pub with_mark : Option ℤ → Ledger → Ledger
 with_mark p l = record { last = l.last; wallets = l.wallets; orders = l.orders; mark = p; fee = l.fee }
 
 abbrev pub with_wallets : List (Option Funds) → Ledger → Ledger
@@ -31,7 +28,7 @@ with_wallets ws l = record { last = l.last; wallets = ws; orders = l.orders; mar
 
 -- a wallet of the bytes, for an account that has one by its funds
 abbrev pub owned : ℕ × Funds → List (Option Funds) → List (Option Funds)
-owned w ws = set ws w.0 (restored_wallet (get_or ws w.0 none) (some w.1))
+owned w ws = set ws w.0 (restored_wallet (get_or ws w.0 None) (Some w.1))
 
 abbrev pub all_owned : List (ℕ × Funds) → List (Option Funds) → List (Option Funds)
 all_owned [] ws = ws

@@ -2,9 +2,7 @@
 // (`restore` of document 01).
 #![tactic(auto)]
 
-ghost use Rattle.std.specs.Prelude.{◌≡◌, true, ◌<◌, length};
-ghost use Rattle.orderbook.specs.declared.MaybePrice.TheVariants.{None};
-ghost use Rattle.gateway.specs.Basics.{is_some};
+ghost use Rattle.std.specs.Prelude.{◌≡◌, true, ◌<◌, length, is_some, None};
 ghost use Rattle.gateway.specs.Bytes.{decode};
 ghost use Rattle.gateway.specs.Ledger.{with_orders};
 ghost use Rattle.gateway.specs.Limits.{owner_slots, most_notices};
@@ -36,10 +34,8 @@ fn place_all(m: &mut [u8], bytes: &[u8])
     ensures { Becomes m.new (with_ledger (with_orders (saved_of bytes.now).orders) (gateway (cell m.old))) }
 {
     let n = saved::orders(bytes);
-    let mut j: usize = 0;
-    while j < n {
+    for j in 0..n {
         place_at(m, bytes, j);
-        j += 1;
     }
 }
 
@@ -80,10 +76,8 @@ fn own_all(m: &mut [u8], bytes: &[u8])
     ensures { Becomes m.new (with_ledger (P.own_all (saved_of bytes.now).wallets) (gateway (cell m.old))) }
 {
     let n = saved::wallets(bytes);
-    let mut j: usize = 0;
-    while j < n {
+    for j in 0..n {
         own_at(m, bytes, j);
-        j += 1;
     }
 }
 
@@ -104,10 +98,8 @@ fn notice_all(m: &mut [u8], bytes: &[u8])
     ensures { Becomes m.new (P.noticed (saved_of bytes.now).orders (gateway (cell m.old))) }
 {
     let n = saved::orders(bytes);
-    let mut j: usize = 0;
-    while j < n {
+    for j in 0..n {
         notice_at(m, bytes, j);
-        j += 1;
     }
 }
 

@@ -1,7 +1,7 @@
 -- No session is connected: the first slots, one by one. Assumes nothing.
+use Rattle.std.specs.Prelude.{Option, Some, None, is_some}
 use mathlib.Core.Path.{◌≡◌, refl, sym, ap, ◌∙◌}
 use mathlib.Core.Bool.{Bool, true, false, false≢true}
-use mathlib.Core.Option.{Option, none, some}
 use mathlib.Core.List.{List, [], ◌∷◌}
 use Prim.Native.Nat.{ℕ, zero, suc, ◌+◌, ◌≤◌, ◌<◌}
 use native.Mathlib.Nat.{not-suc-le-zero}
@@ -10,7 +10,6 @@ use native.Mathlib.Omega.{arith}
 use borrow.Author.Tests.{ne_eqb}
 use lib.ListN.{length, get_or, take}
 use lib.Seq.{take_all}
-use Rattle.gateway.specs.Basics.{is_some}
 use Rattle.gateway.specs.Limits.{session_slots}
 use Rattle.gateway.specs.Rest.{Session, no_session}
 use Rattle.store.specs.Cells as C
@@ -23,19 +22,19 @@ use Rattle.outcome.proofs.Walk.{slots}
 
 -- ---- lists
 
-free_next : (xs : List (Option Session)) (j : ℕ) → j < length xs → no_session (take j xs) ≡ true → get_or xs j none ≡ none → no_session (take (suc j) xs) ≡ true
+free_next : (xs : List (Option Session)) (j : ℕ) → j < length xs → no_session (take j xs) ≡ true → get_or xs j None ≡ None → no_session (take (suc j) xs) ≡ true
 free_next [] j l h e = absurd (not-suc-le-zero l)
-free_next (none ∷ xs) zero l h e = refl
-free_next (some x ∷ xs) zero l h e = absurd (false≢true (ap is_some (sym e)))
-free_next (none ∷ xs) (suc j) l h e = free_next xs j (omega arith) h e
-free_next (some x ∷ xs) (suc j) l h e = h
+free_next (None ∷ xs) zero l h e = refl
+free_next (Some x ∷ xs) zero l h e = absurd (false≢true (ap is_some (sym e)))
+free_next (None ∷ xs) (suc j) l h e = free_next xs j (omega arith) h e
+free_next (Some x ∷ xs) (suc j) l h e = h
 
-one_there : (xs : List (Option Session)) (j : ℕ) → is_some (get_or xs j none) ≡ true → false ≡ no_session xs
+one_there : (xs : List (Option Session)) (j : ℕ) → is_some (get_or xs j None) ≡ true → false ≡ no_session xs
 one_there [] j e = absurd (false≢true e)
-one_there (none ∷ xs) zero e = absurd (false≢true e)
-one_there (some x ∷ xs) zero e = refl
-one_there (none ∷ xs) (suc j) e = one_there xs j e
-one_there (some x ∷ xs) (suc j) e = refl
+one_there (None ∷ xs) zero e = absurd (false≢true e)
+one_there (Some x ∷ xs) zero e = refl
+one_there (None ∷ xs) (suc j) e = one_there xs j e
+one_there (Some x ∷ xs) (suc j) e = refl
 
 -- ---- the slots
 

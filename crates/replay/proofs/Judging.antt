@@ -1,10 +1,10 @@
 -- Each test of a replayed command is the definitions' test. Assumes nothing.
+use Rattle.std.specs.Prelude.{None, is_some}
 use mathlib.Core.Path.{◌≡◌, refl, sym, ap, ◌∙◌}
 use mathlib.Core.Bool.{Bool, true, false, cond, not}
 use mathlib.Core.Logic.{⊎_elim}
-use mathlib.Core.Option.{none}
 use mathlib.Core.List.{List}
-use Prim.Native.Nat.{ℕ, ◌+◌, ◌-◌, ◌≤◌, ◌<◌}
+use Prim.Native.Nat.{ℕ, ◌-◌, ◌≤◌, ◌<◌}
 use native.Mathlib.Omega.{arith}
 use borrow.Author.Tests.{eq-eqb, ne_eqb}
 use lib.Dec.{eqb, ltb}
@@ -14,7 +14,6 @@ use Rattle.orderbook.specs.declared.Side.{Side}
 use Rattle.words.specs.Words.{int}
 use Rattle.words.proofs.Int.{int_zero}
 use Rattle.table.proofs.Live.{same?}
-use Rattle.gateway.specs.Basics.{is_some}
 use Rattle.gateway.specs.Limits.{owner_slots, most_orders, most_in_flight}
 use Rattle.gateway.specs.Ledger.{Ledger, held, order_hold, fits, holds_fit}
 use Rattle.gateway.specs.Core.{owner_limit}
@@ -37,16 +36,8 @@ use Rattle.outcome.specs.Answers.{verdict}
 use Rattle.outcome.specs.Parts.{rest_of}
 use Rattle.commands.proofs.Numbering.{flights_are}
 use Rattle.pretrade.proofs.Testing.{more_fits}
-use Rattle.delivery.specs.Delivery.{check}
 use Rattle.replay.specs.declared.Terms.{Terms}
-use Rattle.replay.specs.declared.Tests as T
 use Rattle.replay.specs.Replay.{tests, enter, below, has_room, command_tests}
-
--- ---- the verdict
-
-pub code_is : (t : T.Tests) (a b c d e f r : ℕ) → a ≡ check t.holds 7 0 → b ≡ check t.orders 5 a → c ≡ check t.flights 5 b → d ≡ check t.below 1 c → e ≡ check t.own 8 d → f ≡ check t.next 4 e →
-    r ≡ check t.alone 4 f → r ≡ verdict (tests t)
-code_is t a b c d e f r a_is b_is c_is d_is e_is f_is r_is = rw (r_is, f_is, e_is, d_is, c_is, b_is, a_is) refl
 
 -- ---- by the words of the header
 
@@ -85,15 +76,15 @@ module _ {xs : List ℕ} (b : Between xs) (n : ℕ) (o : Live) where
   abbrev total : ℤ
   total = held l.fee o.account (side o.side) l.orders -ℤ pos 0 +ℤ order_hold l.fee (order_of n o)
 
-  by_wallet : (f : Bool) → is_some (get_or l.wallets o.account none) ≡ f → cond f (fits total) true ≡ holds_fit (placing n o l)
+  by_wallet : (f : Bool) → is_some (get_or l.wallets o.account None) ≡ f → cond f (fits total) true ≡ holds_fit (placing n o l)
   by_wallet f e = sym (more_fits l (order_of n o) b.ok.core_is.holds ∙ ap (λ (c : Bool). cond c (fits total) true) e)
 
   pub fits_past : owner_slots ≤ o.account → true ≡ holds_fit (placing n o (ledger (cell xs)))
   fits_past h =
-      by_wallet false (ap is_some (get_or-eq_default l.wallets none {n = o.account} (rw (listed_length (λ i. wallet (cell xs C.accounts i)) owner_slots) h)))
+      by_wallet false (ap is_some (get_or-eq_default l.wallets None {n = o.account} (rw (listed_length (λ i. wallet (cell xs C.accounts i)) owner_slots) h)))
 
   module _ (h : o.account < owner_slots) (f : Bool) (f_is : f ≡ is_some (wallet (cell xs C.accounts o.account))) where
-    funded : is_some (get_or l.wallets o.account none) ≡ f
+    funded : is_some (get_or l.wallets o.account None) ≡ f
     funded = ap is_some (wallet_at_row o.account (cell xs) h) ∙ sym f_is
 
     pub fits_without : f ≡ false → true ≡ holds_fit (placing n o (ledger (cell xs)))
@@ -130,4 +121,4 @@ judge_is xs n t alone nxt blw w ord hol v p1 p2 p3 p4 p5 p6 e =
     verdict
     (tests (record { alone = p1 k; next = p2 k; own = t.own; below = p3 k; flights = ltb ((p4 ∙ sym (flights_are (cell xs))) k) most_in_flight; orders = p5 k; holds = p6 k })))
 
-pub ruleset judging = (code_is, never_next, next_is, below_owner, below_nobody, room_plain, room_order, fits_past, fits_without, fits_with, holds_plain, holds_order, judge_is, arith)
+pub ruleset judging = (never_next, next_is, below_owner, below_nobody, room_plain, room_order, fits_past, fits_without, fits_with, holds_plain, holds_order, judge_is, arith)

@@ -1,4 +1,5 @@
 -- What a command says, in words. Assumes nothing.
+use Rattle.std.specs.Prelude.{Option, Some, None, is_some}
 use mathlib.Core.Path.{◌≡◌, refl, sym, ap, ap₂, subst, ◌∙◌}
 use mathlib.Core.Bool.{Bool, true, false}
 use mathlib.Core.List.{[], ◌∷◌}
@@ -10,8 +11,6 @@ use lib.Signed.{mag}
 use mir.Syntax.{w64}
 use mir.Val.{of_z, to_z}
 use Rattle.orderbook.specs.declared.Side.{Side}
-use Rattle.orderbook.specs.declared.MaybePrice as M
-use Rattle.orderbook.specs.declared.MaybeQty.{MaybeQty}
 use Rattle.orderbook.specs.declared.Phase.{Phase}
 use Rattle.orderbook.specs.declared.TimeInForce.{TimeInForce}
 use Rattle.orderbook.specs.declared.Command.{Command}
@@ -19,7 +18,6 @@ use Rattle.orderbook.specs.declared.Command.TheVariants.{Limit, Market, Cancel, 
 use Rattle.protocol.specs.Codes.{side_code}
 use Rattle.words.specs.Words.{half, modulus}
 use Rattle.words.proofs.Int.{read}
-use Rattle.gateway.specs.Basics.{is_some}
 use Rattle.gateway.specs.Ledger.{Order, order_of, owner_of, placed}
 use Rattle.gateway.specs.Core.{own_number, owner_below}
 use Rattle.gateway.specs.Bytes.{price_flag, price_word}
@@ -29,13 +27,13 @@ use Rattle.pretrade.proofs.Testing.{signed, stored}
 use Rattle.replay.specs.declared.Terms.{Terms}
 use Rattle.replay.specs.Replay.{Places, Plain, Reads}
 
-price_fits : (p : M.MaybePrice) → MaybeFits p → PriceFits p
-price_fits M.TheVariants.None f = tt
-price_fits (M.TheVariants.Some p) f = signed p f
+price_fits : (p : Option ℤ) → MaybeFits p → PriceFits p
+price_fits None f = tt
+price_fits (Some p) f = signed p f
 
 -- ---- an order
 
-pub order_reads : (n i o : ℕ) (y : Side) (p : M.MaybePrice) (q z f w : ℕ) → z ≡ side_code y → f ≡ price_flag p → w ≡ price_word p → MaybeFits p → q < modulus → (k : Command) → Places i o y p q k →
+pub order_reads : (n i o : ℕ) (y : Side) (p : Option ℤ) (q z f w : ℕ) → z ≡ side_code y → f ≡ price_flag p → w ≡ price_word p → MaybeFits p → q < modulus → (k : Command) → Places i o y p q k →
     Reads n k (record { own = eqb i n; owned = true; places = 1; order = record { account = o; client_ref = 0; side = z; priced = f; price = w; leaves = q; hold = 0 } })
 order_reads n i o y p q z f w z_is f_is w_is m l k s =
     record {
@@ -54,15 +52,15 @@ plain_reads n o b k s =
 
 -- ---- each kind
 
-limit_places : (i o : ℕ) (z : Side) (p : ℤ) (q : ℕ) (t : TimeInForce) (d : MaybeQty) → Places i o z (M.TheVariants.Some p) q (Limit i o z p q t d)
+limit_places : (i o : ℕ) (z : Side) (p : ℤ) (q : ℕ) (t : TimeInForce) (d : Option ℕ) → Places i o z (Some p) q (Limit i o z p q t d)
 unfolding own_number owner_below owner_of order_of
 limit_places i o z p q t d = record { own = λ n. refl; below = λ m. refl; acts_for = refl; order = refl; fits = λ f g. (f, g) }
 
-market_places : (i o : ℕ) (z : Side) (q : ℕ) → Places i o z M.TheVariants.None q (Market i o z q)
+market_places : (i o : ℕ) (z : Side) (q : ℕ) → Places i o z None q (Market i o z q)
 unfolding own_number owner_below owner_of order_of
 market_places i o z q = record { own = λ n. refl; below = λ m. refl; acts_for = refl; order = refl; fits = λ f g. g }
 
-stop_places : (i o : ℕ) (z : Side) (t : ℤ) (l : M.MaybePrice) (q : ℕ) → Places i o z l q (Stop i o z t l q)
+stop_places : (i o : ℕ) (z : Side) (t : ℤ) (l : Option ℤ) (q : ℕ) → Places i o z l q (Stop i o z t l q)
 unfolding own_number owner_below owner_of order_of
 stop_places i o z t l q = record { own = λ n. refl; below = λ m. refl; acts_for = refl; order = refl; fits = λ f g. (f, g) }
 
@@ -89,15 +87,15 @@ module _ (n : ℕ) (k : Command) (r : Terms) where
   as_said j e h = subst (λ x. Reads n x r) (sym e) h
 
   -- with a price that is read back from its bits
-  pub said_limit : (i o : ℕ) (z : Side) (p : ℤ) (q : ℕ) (t : TimeInForce) (d : MaybeQty) → k ≡ Limit i o z p q t d → mag p < half →
-      ((j : Command) → Places i o z (M.TheVariants.Some (to_z w64 (of_z w64 p))) q j → Reads n j r) → Reads n k r
+  pub said_limit : (i o : ℕ) (z : Side) (p : ℤ) (q : ℕ) (t : TimeInForce) (d : Option ℕ) → k ≡ Limit i o z p q t d → mag p < half →
+      ((j : Command) → Places i o z (Some (to_z w64 (of_z w64 p))) q j → Reads n j r) → Reads n k r
   said_limit i o z p q t d e l h =
-      as_said (Limit i o z p q t d) e (h (Limit i o z p q t d) (subst (λ (x : ℤ). Places i o z (M.TheVariants.Some x) q (Limit i o z p q t d)) (sym (read {x = p} l)) (limit_places i o z p q t d)))
+      as_said (Limit i o z p q t d) e (h (Limit i o z p q t d) (subst (λ (x : ℤ). Places i o z (Some x) q (Limit i o z p q t d)) (sym (read {x = p} l)) (limit_places i o z p q t d)))
 
-  pub said_market : (i o : ℕ) (z : Side) (q : ℕ) → k ≡ Market i o z q → ((j : Command) → Places i o z M.TheVariants.None q j → Reads n j r) → Reads n k r
+  pub said_market : (i o : ℕ) (z : Side) (q : ℕ) → k ≡ Market i o z q → ((j : Command) → Places i o z None q j → Reads n j r) → Reads n k r
   said_market i o z q e h = as_said (Market i o z q) e (h (Market i o z q) (market_places i o z q))
 
-  pub said_stop : (i o : ℕ) (z : Side) (t : ℤ) (l : M.MaybePrice) (q : ℕ) → k ≡ Stop i o z t l q → ((j : Command) → Places i o z l q j → Reads n j r) → Reads n k r
+  pub said_stop : (i o : ℕ) (z : Side) (t : ℤ) (l : Option ℤ) (q : ℕ) → k ≡ Stop i o z t l q → ((j : Command) → Places i o z l q j → Reads n j r) → Reads n k r
   said_stop i o z t l q e h = as_said (Stop i o z t l q) e (h (Stop i o z t l q) (stop_places i o z t l q))
 
   pub said_cancel : (i o : ℕ) → k ≡ Cancel i o → ((j : Command) → Plain o true j → Reads n j r) → Reads n k r

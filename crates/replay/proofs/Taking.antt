@@ -1,9 +1,9 @@
 -- The command is taken, and the call. Assumes nothing.
+use Rattle.std.specs.Prelude.{None}
 use mathlib.Core.Path.{◌≡◌, refl, sym, ap, subst, ◌∙◌}
 use mathlib.Core.Bool.{Bool, true, false, cond, not, ◌||◌, false≢true}
-use mathlib.Core.Option.{none}
 use mathlib.Core.List.{List, [], ◌∷◌, ◌++◌, append-nil}
-use Prim.Native.Nat.{ℕ, ◌+◌, ◌<◌}
+use Prim.Native.Nat.{ℕ, ◌<◌}
 use native.Mathlib.Omega.{arith}
 use borrow.Author.Tests.{eq-eqb, ne_eqb, eqb-true, ltb-true}
 use lib.Dec.{eqb, ltb}
@@ -26,9 +26,11 @@ use Rattle.orders.specs.Orders.{order_of}
 use Rattle.sound.specs.Sound.{Becomes}
 use Rattle.live.specs.Live as Live
 use Rattle.live.specs.Live.{with_ledger, placing}
+use Rattle.outcome.specs.declared.Refusal.{Refusal}
+use Rattle.outcome.specs.Refusals.{refusal_code}
 use Rattle.outcome.specs.Between.{Between}
 use Rattle.outcome.specs.Answers.{Says, verdict}
-use Rattle.outcome.proofs.Calls.{judged, says_refused, says_recorded}
+use Rattle.outcome.proofs.Calls.{judged, coded, says_refused, says_recorded}
 use Rattle.outcome.proofs.Laws.{then_becomes}
 use Rattle.commands.specs.Commands.{flying, Unplaced}
 use Rattle.orderentry.proofs.Placing.{placing_needs}
@@ -58,7 +60,7 @@ module _ (n : ℕ) (k : Command) (t : Terms) (r : Reads n k t) (g : Gateway) whe
         core =
             record {
               ledger = (entered (next g.core) ∙ ap (λ m. record { last = m; wallets = g.core.ledger.wallets; orders = g.core.ledger.orders ++ placed 0 n (owner_of k) (Ledger.order_of k); mark = g.core.ledger.mark; fee = g.core.ledger.fee }) (sym e)) i;
-              flights = g.core.flights ++ (record { number = sym e i; session = none; owner = sym r.owner_is i; places = sym r.places_is i } ∷ []);
+              flights = g.core.flights ++ (record { number = sym e i; session = None; owner = sym r.owner_is i; places = sym r.places_is i } ∷ []);
               accounts = g.core.accounts;
             };
         rest = g.rest;
@@ -116,25 +118,27 @@ module _ (xs : List ℕ) {ys : List ℕ} (n : ℕ) (t : Terms) (can : CanTake n 
 
 -- ---- the call
 
-module _ (xs : List ℕ) (b : Between xs) (n : ℕ) (l : n < modulus) (k : Command) (t : Terms) (r : Reads n k t) (v : ℕ) (v_is : v ≡ verdict (tests (command_tests n t (gateway (cell xs))))) where
+module _ (xs : List ℕ) (b : Between xs) (n : ℕ) (l : n < modulus) (k : Command) (t : Terms) (r : Reads n k t) where
   abbrev g : Gateway
   g = gateway (cell xs)
 
   abbrev after : Plan
   after = records system (command n k) [] g.rest
 
-  plan_is : plan g.core g.rest (replay_command n k) ≡ cond (eqb v 0) after (refuse v)
+  plan_is : (v : ℕ) → v ≡ verdict (tests (command_tests n t (gateway (cell xs)))) → plan g.core g.rest (replay_command n k) ≡ cond (eqb v 0) after (refuse v)
   unfolding plan Core.tests
-  plan_is =
+  plan_is v v_is =
       judged (replay_tests (command n k) g.core g.rest) after refl
       ∙ ap (λ (w : ℕ). cond (eqb w 0) after (refuse w)) (sym (v_is ∙ ap verdict (tests_are n k t r g)))
 
-  pub not_taken : (v ≡ 0 → ⊥) → Says nothing (call (gateway (cell xs)) (replay_command n k)) v xs xs
-  not_taken h = says_refused xs (replay_command n k) (l, r.fits) b nothing v (plan_is ∙ ap (λ (f : Bool). cond f after (refuse v)) (ne_eqb v 0 h))
+  pub not_taken : (why : Refusal) → refusal_code why ≡ verdict (tests (command_tests n t (gateway (cell xs)))) → Says nothing (call (gateway (cell xs)) (replay_command n k)) (refusal_code why) xs xs
+  not_taken why e =
+      says_refused xs (replay_command n k) (l, r.fits) b nothing (refusal_code why)
+      (plan_is (refusal_code why) e ∙ ap (λ (f : Bool). cond f after (refuse (refusal_code why))) (coded why))
 
-  module _ (z : v ≡ 0) where
+  module _ (z : 0 ≡ verdict (tests (command_tests n t (gateway (cell xs))))) where
     passed : Pass (tests (command_tests n t g))
-    passed = passes (tests (command_tests n t g)) refl (sym z ∙ v_is)
+    passed = passes (tests (command_tests n t g)) refl z
 
     number_is : n ≡ next g.core
     number_is = eqb-true n (next g.core) passed.1.0
@@ -153,7 +157,7 @@ module _ (xs : List ℕ) (b : Between xs) (n : ℕ) (l : n < modulus) (k : Comma
 
     pub taken_done : {ys : List ℕ} → Becomes ys (taken n t (gateway (cell xs))) → Says nothing (call (gateway (cell xs)) (replay_command n k)) 0 xs ys
     taken_done {ys} d =
-        says_recorded xs (replay_command n k) (l, r.fits) b system (command n k) g.rest (plan_is ∙ ap (λ (f : Bool). cond f after (refuse v)) (eq-eqb v 0 z))
+        says_recorded xs (replay_command n k) (l, r.fits) b system (command n k) g.rest (plan_is 0 z)
         (subst (Becomes ys) (taken_is n k t r g number_is) d)
 
 pub ruleset taking = (can_place, taken_order, taken_plain, not_taken, can_take, taken_done, arith)

@@ -1,8 +1,6 @@
 -- A replayed command: what it says in words, its tests as the code makes them, and the gateway after it.
-use Rattle.std.specs.Prelude.{ℕ, ◌<◌, ◌≡◌, Bool, true, cond, not, ◌||◌, [], ◌∷◌, length, eqb, ltb}
-use Rattle.std.proofs.Math.Option.{none, some}
+use Rattle.std.specs.Prelude.{ℕ, ◌<◌, ◌≡◌, Bool, true, cond, not, ◌||◌, [], ◌∷◌, length, eqb, ltb, Option, Some, None, ℤ}
 use Rattle.orderbook.specs.declared.Side.{Side}
-use Rattle.orderbook.specs.declared.MaybePrice.{MaybePrice}
 use Rattle.orderbook.specs.declared.Command.{Command}
 use Rattle.gateway.specs.Limits.{owner_slots, most_orders, most_in_flight, out_of_range, sequence, full, outside, inconsistent}
 use Rattle.gateway.specs.Ledger.{Ledger, order_of, owner_of, placed, holds_fit}
@@ -22,11 +20,11 @@ use Rattle.replay.specs.declared.Tests as T
 -- ---- what a command says
 
 -- k places an order of these fields
-pub record Places (id owner : ℕ) (z : Side) (p : MaybePrice) (q : ℕ) (k : Command) : Type 0 where
+pub record Places (id owner : ℕ) (z : Side) (p : Option ℤ) (q : ℕ) (k : Command) : Type 0 where
   pub own : (n : ℕ) → own_number n k ≡ eqb id n
   pub below : (m : ℕ) → owner_below m k ≡ ltb owner m
   pub acts_for : owner_of k ≡ owner
-  pub order : order_of k ≡ some (record { side = z; price = p; qty = q })
+  pub order : order_of k ≡ Some (record { side = z; price = p; qty = q })
   pub fits : PriceFits p → Unsigned q → CommandFits k
 
 -- k places nothing; a phase change has no owner
@@ -34,7 +32,7 @@ pub record Plain (owner : ℕ) (owned : Bool) (k : Command) : Type 0 where
   pub own : (n : ℕ) → own_number n k ≡ true
   pub below : (m : ℕ) → owner_below m k ≡ cond owned (ltb owner m) true
   pub acts_for : owner_of k ≡ owner
-  pub no_order : order_of k ≡ none
+  pub no_order : order_of k ≡ None
   pub fits : CommandFits k
 
 -- t has what k, of the number n, says; the client reference of a replayed order is 0

@@ -13,12 +13,13 @@ ghost use Rattle.sound.specs.Sound.{State, Becomes};
 ghost use Rattle.live.specs.Live.{placing};
 ghost use Rattle.outcome.specs.Between.{Between};
 ghost use Rattle.outcome.specs.Parts.{rest_of};
+ghost use Rattle.outcome.specs.Refusals.{code_of};
 ghost use Rattle.outcome.specs.Answers.{verdict, Says};
 ghost use Rattle.replay.specs.Replay as P;
 
-use orderbook::{Command, MaybePrice, Side};
+use orderbook::{Command, Side};
 use orders::Live;
-use protocol::codes;
+use outcome::Refusal;
 use store::{cells, limits};
 
 // ---- what every replay asks
@@ -28,13 +29,11 @@ pub fn is_alone(m: &[u8]) -> bool
     requires { Holds m.now }
     ensures { result ≡ no_session (rest_of m.now).sessions }
 {
-    let mut s: usize = 0;
-    while s < limits::SESSION_SLOTS {
+    for s in 0..limits::SESSION_SLOTS {
         let x = clients::session_at(m, s);
         if x.connected != 0 {
             return false;
         }
-        s += 1;
     }
     true
 }
@@ -52,10 +51,10 @@ pub struct Terms {
 }
 
 // The order's hold is found when it is placed.
-fn order_terms(n: u64, id: u64, owner: u32, side: Side, price: MaybePrice, qty: u64) -> Terms
+fn order_terms(n: u64, id: u64, owner: u32, side: Side, price: Option<i64>, qty: u64) -> Terms
     ensures { (k : K.Command) → P.Places id owner side price qty k → P.Reads n k result }
 {
-    let code = codes::side_code(side) as u64;
+    let code = side as u64;
     let flag = pending::batch::price_flag(price);
     let word = pending::batch::price_word(price);
     let order = Live {
@@ -106,13 +105,13 @@ fn terms_of(n: u64, k: Command) -> Terms
             price,
             qty,
             ..
-        } => order_terms(n, id, owner, side, MaybePrice::Some(price), qty),
+        } => order_terms(n, id, owner, side, Some(price), qty),
         Command::Market {
             id,
             owner,
             side,
             qty,
-        } => order_terms(n, id, owner, side, MaybePrice::None, qty),
+        } => order_terms(n, id, owner, side, None, qty),
         Command::Cancel { owner, .. } => plain_terms(n, owner as u64, true),
         Command::Modify { owner, .. } => plain_terms(n, owner as u64, true),
         Command::Stop {
@@ -142,17 +141,17 @@ pub struct Tests {
     pub holds: bool,
 }
 
-// The code of the first test that fails, or 0.
-fn code_of(t: Tests) -> u64
-    ensures { result ≡ verdict (P.tests t) }
+// The refusal of the first test that fails.
+fn decide(t: Tests) -> Result<(), Refusal>
+    ensures { code_of result ≡ verdict (P.tests t) }
 {
-    let holds = delivery::check(t.holds, outcome::OUTSIDE, 0);
-    let orders = delivery::check(t.orders, outcome::FULL, holds);
-    let flights = delivery::check(t.flights, outcome::FULL, orders);
-    let below = delivery::check(t.below, outcome::OUT_OF_RANGE, flights);
-    let own = delivery::check(t.own, outcome::INCONSISTENT, below);
-    let next = delivery::check(t.next, outcome::SEQUENCE, own);
-    delivery::check(t.alone, outcome::SEQUENCE, next)
+    delivery::check(t.alone, Refusal::Sequence)?;
+    delivery::check(t.next, Refusal::Sequence)?;
+    delivery::check(t.own, Refusal::Inconsistent)?;
+    delivery::check(t.below, Refusal::OutOfRange)?;
+    delivery::check(t.flights, Refusal::Full)?;
+    delivery::check(t.orders, Refusal::Full)?;
+    delivery::check(t.holds, Refusal::Outside)
 }
 
 // One more than the last number; 0 never is.
@@ -212,9 +211,9 @@ fn holds_fit(m: &[u8], n: u64, t: Terms) -> bool
     order_fits(m, n, order)
 }
 
-fn judge(m: &[u8], n: u64, t: Terms) -> u64
+fn judge(m: &[u8], n: u64, t: Terms) -> Result<(), Refusal>
     requires { Between m.now }
-    ensures { result ≡ verdict (P.tests (P.command_tests n t (gateway (cell m.now)))) }
+    ensures { code_of result ≡ verdict (P.tests (P.command_tests n t (gateway (cell m.now)))) }
 {
     let alone = is_alone(m);
     let next = is_next(m, n);
@@ -222,7 +221,7 @@ fn judge(m: &[u8], n: u64, t: Terms) -> u64
     let flying = pending::header::word_at(m, cells::FLYING);
     let orders = has_room(m, t);
     let holds = holds_fit(m, n, t);
-    code_of(Tests {
+    decide(Tests {
         alone,
         next,
         own: t.own,
@@ -246,15 +245,12 @@ fn apply(m: &mut [u8], n: u64, t: Terms)
     }
 }
 
-pub fn replay_command(m: &mut [u8], n: u64, k: Command) -> u64
+pub fn replay_command(m: &mut [u8], n: u64, k: Command) -> Result<(), Refusal>
     requires { Between m.old }
-    ensures { Says nothing (call (gateway (cell m.old)) (replay_command n k)) result m.old m.new }
+    ensures { Says nothing (call (gateway (cell m.old)) (replay_command n k)) (code_of result) m.old m.new }
 {
     let t = terms_of(n, k);
-    let code = judge(m, n, t);
-    if code != 0 {
-        return code;
-    }
+    judge(m, n, t)?;
     apply(m, n, t);
-    0
+    Ok(())
 }

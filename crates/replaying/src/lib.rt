@@ -14,6 +14,7 @@ ghost use Rattle.edge.specs.Entering.{Lent};
 ghost use Rattle.playing.specs.Steps as S;
 ghost use Rattle.replaying.specs.Opened.{Opens};
 
+use outcome::Refusal;
 use stored::{put, reply, tail, word};
 
 // ---- a start
@@ -133,7 +134,7 @@ fn call_of_restart(m: &mut [u8], row: &[u8], given: &[u8], got: &mut [u8], out: 
 fn none(got: &mut [u8])
     ensures { got.new ≡ R.put_at got.old 2 11 }
 {
-    put(got, 2, outcome::MALFORMED);
+    put(got, 2, Refusal::Malformed as u64);
 }
 
 // 0 to 11

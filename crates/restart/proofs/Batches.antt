@@ -1,4 +1,5 @@
 -- The rows that `take_batch` writes are rows that `replay_command` takes, and reads as the commands of the batch (`ReadsBack` of specs/Claims.antt). Assumes nothing.
+use Rattle.std.specs.Prelude.{Option, Some, None}
 use Prim.Native.Nat.{ℕ, zero, suc, ◌+◌, ◌*◌, ◌^◌, ◌≤◌, ◌<◌}
 use mathlib.Core.Path.{◌≡◌, refl, sym, ap, subst, ◌∙◌}
 use mathlib.Core.Bool.{Bool, true, false, cond, ◌&&◌}
@@ -15,8 +16,6 @@ use mir.Val.{SFits}
 use mir.Facts.{sfits_to_z}
 use Rattle.orderbook.specs.declared.Side.{Side}
 use Rattle.orderbook.specs.declared.Side.TheVariants.{Buy, Sell}
-use Rattle.orderbook.specs.declared.MaybePrice as M
-use Rattle.orderbook.specs.declared.MaybeQty as Q
 use Rattle.orderbook.specs.declared.TimeInForce.{TimeInForce}
 use Rattle.orderbook.specs.declared.TimeInForce.TheVariants.{Gtc, Ioc, Fok, PostOnly}
 use Rattle.orderbook.specs.declared.Command.{Command}
@@ -83,13 +82,13 @@ tif_few Ioc = omega arith
 tif_few Fok = omega arith
 tif_few PostOnly = omega arith
 
-qty_bit : (d : Q.MaybeQty) → qty_flag d ≤ 1
-qty_bit Q.TheVariants.None = omega arith
-qty_bit (Q.TheVariants.Some q) = omega arith
+qty_bit : (d : Option ℕ) → qty_flag d ≤ 1
+qty_bit None = omega arith
+qty_bit (Some q) = omega arith
 
-price_bit : (p : M.MaybePrice) → price_flag p ≤ 1
-price_bit M.TheVariants.None = omega arith
-price_bit (M.TheVariants.Some p) = omega arith
+price_bit : (p : Option ℤ) → price_flag p ≤ 1
+price_bit None = omega arith
+price_bit (Some p) = omega arith
 
 -- of each kind
 module _ (o : ℕ) (o_fits : o < 2 ^ 32) where
@@ -99,7 +98,7 @@ module _ (o : ℕ) (o_fits : o < 2 ^ 32) where
   kind_fits : (c : Command) (k : ℕ) → get_or (command_row c) 0 0 ≡ k → (xs : List ℕ) → Written c xs → command_fits k xs ≡ true → command_fits (word_at xs 0) xs ≡ true
   kind_fits c k e xs h f = ap (λ n. command_fits n xs) (h 0 (lit< tt) ∙ e) ∙ f
 
-  limit_rowed : (id : ℕ) (s : Side) (p : ℤ) (q : ℕ) (t : TimeInForce) (d : Q.MaybeQty) → Word id → SFits w64 p → Word (word_of p) → Word q → Word (qty_word d) → Rowed (Limit id o s p q t d)
+  limit_rowed : (id : ℕ) (s : Side) (p : ℤ) (q : ℕ) (t : TimeInForce) (d : Option ℕ) → Word id → SFits w64 p → Word (word_of p) → Word q → Word (qty_word d) → Rowed (Limit id o s p q t d)
   unfolding owner_of
   limit_rowed id s p q t d a b c e f =
       record {
@@ -146,7 +145,7 @@ module _ (o : ℕ) (o_fits : o < 2 ^ 32) where
         fits = λ xs h. let k = Modify id o p q in both (owner_small k refl xs h) (kind_fits k 3 refl xs h refl);
       }
 
-  stop_rowed : (id : ℕ) (s : Side) (t : ℤ) (l : M.MaybePrice) (q : ℕ) → Word id → SFits w64 t → MaybeFits l → Word (word_of t) → Word (price_word l) → Word q → Rowed (Stop id o s t l q)
+  stop_rowed : (id : ℕ) (s : Side) (t : ℤ) (l : Option ℤ) (q : ℕ) → Word id → SFits w64 t → MaybeFits l → Word (word_of t) → Word (price_word l) → Word q → Rowed (Stop id o s t l q)
   unfolding owner_of
   stop_rowed id s t l q a b c e f g =
       record {
@@ -180,11 +179,11 @@ module _ (r : Row) (small : (k : ℕ) → r k < modulus) (o_fits : r C.command_o
   worded k = rw (of_int (r k) (small k)) (small k)
 
   quantity : (n k : ℕ) → Word (qty_word (maybe_qty (r n) (r k)))
-  quantity n k = split (λ b. Word (qty_word (cond b (Q.TheVariants.Some (r k)) Q.TheVariants.None))) (flag (r n)) (λ _. small k) (λ _. omega arith)
+  quantity n k = split (λ b. Word (qty_word (cond b (Some (r k)) None))) (flag (r n)) (λ _. small k) (λ _. omega arith)
 
   priced : (n k : ℕ) → MaybeFits (maybe_price (r n) (r k)) × Word (price_word (maybe_price (r n) (r k)))
   priced n k =
-      split (λ b. let p = cond b (M.TheVariants.Some (int (r k))) M.TheVariants.None in MaybeFits p × Word (price_word p)) (flag (r n)) (λ _. (signed k, worded k)) (λ _. (tt, omega arith))
+      split (λ b. let p = cond b (Some (int (r k))) None in MaybeFits p × Word (price_word p)) (flag (r n)) (λ _. (signed k, worded k)) (λ _. (tt, omega arith))
 
   one_of : (k : ℕ) (x y : Command) → Rowed x → Rowed y → Rowed (cond (eqb (r C.command_kind) k) x y)
   one_of k x y p q = split (λ b. Rowed (cond b x y)) (eqb (r C.command_kind) k) (λ _. p) (λ _. q)

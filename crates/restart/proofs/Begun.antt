@@ -1,8 +1,8 @@
 -- An accepted set-up or restore leaves a state that keeps the invariant and has the accounts and the fee. Assumes nothing.
+use Rattle.std.specs.Prelude.{Option, Some, None}
 use Prim.Native.Nat.{ℕ}
 use mathlib.Core.Bool.{Bool, true, false, cond, not, and-eq-true_iff}
 use mathlib.Core.Path.{◌≡◌, sym, ap, subst}
-use mathlib.Core.Option.{Option, none, some}
 use mathlib.Core.List.{List, [], ◌∷◌}
 use native.Mathlib.Omega.{arith}
 use lib.IntN.{ℤ, pos}
@@ -52,8 +52,8 @@ restore_not_0 fee limit l timing s = go (le_z (pos 0) fee) s
   where
     go : (b : Bool) (s : Option Saved) → fails (cond b (option (not_started malformed) (restore_saved fee limit l timing) s) (not_started bad_fee)) ≡ 0 → ⊥
     go false s e = omega (arith, e)
-    go true none e = omega (arith, e)
-    go true (some s) e = refused_not_0 (restore_tests fee limit l s) _ (restore_codes fee limit l s) e
+    go true None e = omega (arith, e)
+    go true (Some s) e = refused_not_0 (restore_tests fee limit l s) _ (restore_codes fee limit l s) e
 
 -- ---- what the contract says of a start
 

@@ -1,7 +1,6 @@
 -- Two states whose gateways agree on the books agree cell by cell. Assumes nothing.
+use Rattle.std.specs.Prelude.{Option, Some, None, option_map}
 use mathlib.Core.Path.{◌≡◌, refl, sym, ap, ap₂, ◌∙◌}
-use mathlib.Core.Option
-use mathlib.Core.Option.{Option, none, some}
 use mathlib.Core.List.{List, [], ◌∷◌, ◌++◌, map, map-append}
 use Prim.Native.Nat.{ℕ, zero, suc, ◌<◌}
 use native.Mathlib.Omega.{arith}
@@ -65,13 +64,13 @@ forget_hold fee n (o ∷ os) = ap (λ l. with_hold fee (forget n o) ∷ l) (forg
 abbrev owned : Balance → Funds
 owned b = record { cash = b.cash; position = b.position }
 
-own_back : (fee : ℤ) (a : ℕ) (os : List Order) (w : Option Funds) → Option.map owned (Option.map (balance_with fee a os) w) ≡ w
-own_back fee a os none = refl
-own_back fee a os (some f) = refl
+own_back : (fee : ℤ) (a : ℕ) (os : List Order) (w : Option Funds) → option_map owned (option_map (balance_with fee a os) w) ≡ w
+own_back fee a os None = refl
+own_back fee a os (Some f) = refl
 
 same_wallet : (a : ℕ) (c d : Core) → balance a d ≡ balance a c → wallet_at a d ≡ wallet_at a c
 same_wallet a c d e =
-    sym (own_back d.ledger.fee a d.ledger.orders (wallet_at a d)) ∙ ap (Option.map owned) e ∙ own_back c.ledger.fee a c.ledger.orders (wallet_at a c)
+    sym (own_back d.ledger.fee a d.ledger.orders (wallet_at a d)) ∙ ap (option_map owned) e ∙ own_back c.ledger.fee a c.ledger.orders (wallet_at a c)
 
 -- ---- the whole
 

@@ -1,7 +1,7 @@
 -- A chain of byte states follows the definitions' list of calls. Assumes nothing.
+use Rattle.std.specs.Prelude.{Option, Some, None}
 use mathlib.Core.Path.{◌≡◌, refl, sym, ap, subst, ◌∙◌}
 use mathlib.Core.Bool.{Bool, true, false, cond, and-false}
-use mathlib.Core.Option.{Option, none, some}
 use mathlib.Core.List.{List, [], ◌∷◌, map}
 use Prim.Native.Nat.{ℕ, ◌*◌}
 use native.Mathlib.Omega.{arith}
@@ -92,18 +92,18 @@ pub record Follows (is : List Item) (zs : List ℕ) (h : Chain zs (map replays i
   pub accepted : Accepted zs (map replays is) h
   pub ends : gateway (cell (ends_at zs (map replays is) h)) ≡ end
 
-none_some : {A B : Type 0} {x : A} → ◌≡◌ {A = Option A} none (some x) → B
+none_some : {A B : Type 0} {x : A} → ◌≡◌ {A = Option A} None (Some x) → B
 none_some e = absurd (let z : ◌≡◌ {A = ℕ} 0 1 = cc in omega (arith, z))
 
-pub replay_follows : (is : List Item) (zs : List ℕ) (h : Chain zs (map replays is)) (g end : Gateway) → Between zs → gateway (cell zs) ≡ g → replay is g ≡ some end → Follows is zs h end
+pub replay_follows : (is : List Item) (zs : List ℕ) (h : Chain zs (map replays is)) (g end : Gateway) → Between zs → gateway (cell zs) ≡ g → replay is g ≡ Some end → Follows is zs h end
 unfolding Ends
 replay_follows [] zs h g end b e r = record { accepted = tt; ends = e ∙ (let z : g ≡ end = cc in z) }
 replay_follows (i ∷ is) zs (m, h) g end b e r =
     go (λ n. replay_follows is m.left h n end (left_between zs (replays i) m b)) (call (gateway (cell zs)) (as_call i)) (heard_step zs b.state.holds (as_call i) m.code m.left m.enters.ends)
     (ap (λ x. on_done (call x (as_call i)) (replay is)) e ∙ r)
   where
-    go : ((n : Gateway) → gateway (cell m.left) ≡ n → replay is n ≡ some end → Follows is m.left h end) → (o : Outcome) → Ended o m.code zs m.left →
-        on_done o (replay is) ≡ some end → Follows (i ∷ is) zs (m, h) end
+    go : ((n : Gateway) → gateway (cell m.left) ≡ n → replay is n ≡ Some end → Follows is m.left h end) → (o : Outcome) → Ended o m.code zs m.left →
+        on_done o (replay is) ≡ Some end → Follows (i ∷ is) zs (m, h) end
     go f (refused k) t q = none_some q
     go f (done a js ms n) t q =
         let u = f n t.becomes.gateway_is q in

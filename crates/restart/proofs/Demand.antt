@@ -1,8 +1,8 @@
 -- Demand 3 of document 01 about the entry points (`Demand3` of specs/Claims.antt). Assumes nothing.
+use Rattle.std.specs.Prelude.{Some}
 use Prim.Native.Nat.{ℕ}
 use mathlib.Core.Path.{◌≡◌, refl, sym, ap, subst, ◌∙◌}
 use mathlib.Core.Bool.{true}
-use mathlib.Core.Option.{some}
 use mathlib.Core.Logic.{inl, inr}
 use mathlib.Core.List.{List, [], ◌∷◌, ◌++◌, map}
 use lib.IntN.{ℤ}
@@ -129,7 +129,7 @@ module _ (fee : ℤ) (limit : ℕ) (l : List Account) (xs : List ℕ) (start : O
           same_cells = cells_agree n (cell now) (cell (ends_at zs (map replays items) again)) one.state.sound two.state.sound same;
           same_books = same;
           exact = (exact now one, exact (ends_at zs (map replays items) again) two);
-          counted = r.counted ∙ ap (λ (g : Gateway). some g.core.ledger) (sym f.ends);
+          counted = r.counted ∙ ap (λ (g : Gateway). Some g.core.ledger) (sym f.ends);
         }
 
 pub demand_3 : Demand3

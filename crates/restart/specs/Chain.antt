@@ -1,12 +1,10 @@
 -- Chains of byte states: each is what a call of an entry point left of the last one, as its contract says. And what two states agree in, cell by cell.
-use Rattle.std.specs.Prelude.{ℕ, ◌<◌, ◌≡◌, Bool, true, cond, List, [], ◌∷◌, map, ℤ, get_or}
-use Rattle.std.proofs.Math.Option.{some, none}
+use Rattle.std.specs.Prelude.{ℕ, ◌<◌, ◌≡◌, Bool, true, cond, List, [], ◌∷◌, map, ℤ, get_or, Some, None, is_some}
 use Rattle.orderbook.specs.declared.Side.{Side}
 use Rattle.orderbook.specs.declared.Listed.{Listed}
 use Rattle.accounts.specs.declared.Account.{Account}
 use Rattle.accounts.specs.declared.Timing.{Timing}
 use Rattle.words.specs.Words.{int}
-use Rattle.gateway.specs.Basics.{is_some}
 use Rattle.gateway.specs.Limits.{owner_slots}
 use Rattle.gateway.specs.Ledger.{Order, Item, held}
 use Rattle.gateway.specs.Calls.{Call}
@@ -103,7 +101,7 @@ pub record SameCells (n : ℕ) (s t : Store) : Type 0 where
 
 -- cash held and seats held of every wallet are 01's sums over its live buys and its live sells, exactly
 pub record Exact (s : Store) : Type 0 where
-  pub sums : (a : ℕ) → a < owner_slots → is_some (get_or (ledger s).wallets a none) ≡ true → (z : Side) → int (s C.accounts a (held_cell z)) ≡ held (ledger s).fee a z (ledger s).orders
+  pub sums : (a : ℕ) → a < owner_slots → is_some (get_or (ledger s).wallets a None) ≡ true → (z : Side) → int (s C.accounts a (held_cell z)) ≡ held (ledger s).fee a z (ledger s).orders
 
 -- ---- the claim
 
@@ -116,4 +114,4 @@ pub record Restarted (fee : ℤ) (n : ℕ) (bs : List ℕ) (is : List Item) (xs 
   pub same_cells : SameCells n (cell xs) (cell (ends_at zs (map replays is) again))
   pub same_books : SameBooks n (gateway (cell xs)).core (gateway (cell (ends_at zs (map replays is) again))).core
   pub exact : Exact (cell xs) × Exact (cell (ends_at zs (map replays is) again))
-  pub counted : ledger_of fee bs is ≡ some (ledger (cell (ends_at zs (map replays is) again)))
+  pub counted : ledger_of fee bs is ≡ Some (ledger (cell (ends_at zs (map replays is) again)))

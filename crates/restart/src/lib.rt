@@ -39,7 +39,7 @@ pub fn set_up(
     requires { Holds m.old }
     ensures { Tries (set_up (int fee) limit last (account ∷ []) (listing list.now) timing) result m.old m.new }
 {
-    beginning::set_up_one(m, fee, limit, last, timing, account, list)
+    numbers::code_of(beginning::set_up_one(m, fee, limit, last, timing, account, list))
 }
 
 pub fn restore(
@@ -53,5 +53,5 @@ pub fn restore(
     requires { Holds m.old }
     ensures { Tries (restore (int fee) limit (account ∷ []) timing bytes.now) result m.old m.new }
 {
-    beginning::restore_one(m, fee, limit, timing, account, bytes)
+    numbers::code_of(beginning::restore_one(m, fee, limit, timing, account, bytes))
 }

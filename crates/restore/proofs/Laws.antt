@@ -1,9 +1,9 @@
 -- The start: what was judged is what the definition judges, and what is written is the gateway that it begins with. Assumes nothing.
+use Rattle.std.specs.Prelude.{Option, Some, None, is_some}
 use Prim.Native.Nat.{ℕ, ◌≤◌, ◌<◌}
 use mathlib.Core.Path.{◌≡◌, refl, sym, ap, subst, ◌∙◌}
 use mathlib.Core.Bool.{Bool, true, false, cond, not}
 use mathlib.Core.Logic.{⊎_elim}
-use mathlib.Core.Option.{Option, none, some}
 use mathlib.Core.List.{List, [], ◌∷◌}
 use native.Mathlib.Omega.{arith}
 use borrow.Author.Tests.{leb-true, eq-eqb, ne_eqb, not-true, not-false}
@@ -14,11 +14,11 @@ use lib.ListN.{get_or}
 use Rattle.accounts.specs.declared.Account.{Account}
 use Rattle.accounts.specs.declared.Timing.{Timing}
 use Rattle.table.proofs.Live.{same?}
-use Rattle.gateway.specs.Basics.{option, each, is_some}
+use Rattle.gateway.specs.Basics.{option, each}
 use Rattle.gateway.specs.Bytes.{decode}
 use Rattle.gateway.specs.Limits.{bad_fee, owner_slots, outside, malformed}
 use Rattle.gateway.specs.Core.{Pass}
-use Rattle.gateway.specs.Invariant.{Ok}
+use Rattle.gateway.specs.Invariant.{GatewayOk}
 use Rattle.gateway.specs.Calls.{Gateway}
 use Rattle.gateway.specs.Saved.{Saved}
 use Rattle.gateway.specs.Start.{charging, Started, not_started, started, accounts_of, restored_ledger, restore_tests, hold_notice_of, empty_depth, begin, restore_saved, restore}
@@ -31,6 +31,9 @@ use Rattle.store.specs.View.{gateway}
 use Rattle.sound.specs.Sound.{Becomes}
 use Rattle.start.specs.Start.{begun}
 use Rattle.outcome.specs.Answers.{verdict}
+use Rattle.outcome.specs.declared.Refusal.{Refusal}
+use Rattle.outcome.specs.Refusals.{refusal_code}
+use Rattle.outcome.proofs.Calls.{coded}
 use Rattle.roster.specs.declared.Roster.{Roster}
 use Rattle.roster.specs.Rostered.{Numbered, Gathered}
 use Rattle.opening.specs.Opening.{present, Stands}
@@ -43,7 +46,7 @@ use Rattle.saved.proofs.Laws.{all_bytes}
 use Rattle.totals.specs.Totals.{wallets_fit}
 use Rattle.refill.specs.Refill.{refilled, Fits, Empty}
 use Rattle.restore.specs.Judging.{entry_tests, roster_tests, code_of, all_code, restored, Restored}
-use Rattle.restore.proofs.Verdicts.{entry_codes, order_late, order_above, order_fine, order_judged, owners_below, orders_inside, limit_above, account_above, wallet_above, orders_decide}
+use Rattle.restore.proofs.Verdicts.{entry_codes, owners_below, orders_inside}
 use Rattle.restore.proofs.Rosters.{verdict_is}
 
 -- ---- judging
@@ -56,20 +59,20 @@ module _ (fee : ℤ) (limit : ℕ) (r : Roster) (bytes : List ℕ) (b : Bool) (b
   unfolding code_of
   no_checkpoint t = sym (ap (λ c. cond c (verdict (roster_tests fee limit r (saved_of bytes))) malformed) (sym b_is ∙ not-true b t))
 
-  module _ (t : not b ≡ false) (c : ℕ) (c_is : c ≡ verdict (entry_tests limit r.below (saved_of bytes))) where
-    so_far : code_of fee limit r bytes ≡ cond (eqb c 0) (cond (wallets_fit fee r 0 (saved_of bytes).orders) 0 7) c
+  module _ (t : not b ≡ false) where
+    so_far : (c : ℕ) → c ≡ verdict (entry_tests limit r.below (saved_of bytes)) → code_of fee limit r bytes ≡ cond (eqb c 0) (cond (wallets_fit fee r 0 (saved_of bytes).orders) 0 7) c
     unfolding code_of
-    so_far =
+    so_far c c_is =
         ap (λ d. cond d (verdict (roster_tests fee limit r (saved_of bytes))) malformed) (sym b_is ∙ not-false b t)
         ∙ verdict_append (entry_tests limit r.below (saved_of bytes)) ((outside, wallets_fit fee r 0 (saved_of bytes).orders) ∷ []) (entry_codes limit r.below (saved_of bytes))
         ∙ ap (λ k. cond (eqb k 0) (cond (wallets_fit fee r 0 (saved_of bytes).orders) 0 7) k) (sym c_is)
 
-    pub entry_fails : (c ≡ 0 → ⊥) → c ≡ code_of fee limit r bytes
-    entry_fails n = sym (so_far ∙ ap (λ d. cond d (cond (wallets_fit fee r 0 (saved_of bytes).orders) 0 7) c) (ne_eqb c 0 n))
+    pub entry_fails : (why : Refusal) → refusal_code why ≡ verdict (entry_tests limit r.below (saved_of bytes)) → refusal_code why ≡ code_of fee limit r bytes
+    entry_fails why e = sym (so_far (refusal_code why) e ∙ ap (λ d. cond d (cond (wallets_fit fee r 0 (saved_of bytes).orders) 0 7) (refusal_code why)) (coded why))
 
-    module _ (z : c ≡ 0) (f : Bool) (f_is : f ≡ wallets_fit fee r 0 (saved_of bytes).orders) where
+    module _ (z : 0 ≡ verdict (entry_tests limit r.below (saved_of bytes))) (f : Bool) (f_is : f ≡ wallets_fit fee r 0 (saved_of bytes).orders) where
       last_test : code_of fee limit r bytes ≡ cond f 0 7
-      last_test = so_far ∙ ap (λ d. cond d (cond (wallets_fit fee r 0 (saved_of bytes).orders) 0 7) c) (eq-eqb c 0 z) ∙ ap (λ d. cond d 0 7) (sym f_is)
+      last_test = so_far 0 z ∙ ap (λ d. cond d 0 7) (sym f_is)
 
       pub total_outside : not f ≡ true → 7 ≡ code_of fee limit r bytes
       total_outside n = sym (last_test ∙ ap (λ d. cond d 0 7) (not-true f n))
@@ -139,8 +142,8 @@ module _ (fee : ℤ) (limit : ℕ) (timing : Timing) (r : Roster) (l : List Acco
 
   decoded_is : (c : ℕ) (o : Option Saved) → c ≡ cond (is_some o) (verdict (roster_tests fee limit r (option nothing (λ s. s) o))) malformed →
       option (not_started malformed) (restore_saved fee limit l timing) o ≡ cond (eqb c 0) (started (restored fee limit timing l (option nothing (λ s. s) o))) (not_started c)
-  decoded_is c none e = sym (ap (λ k. cond (eqb k 0) (started (restored fee limit timing l nothing)) (not_started k)) e)
-  decoded_is c (some s) e = saved_is c s e
+  decoded_is c None e = sym (ap (λ k. cond (eqb k 0) (started (restored fee limit timing l nothing)) (not_started k)) e)
+  decoded_is c (Some s) e = saved_is c s e
 
   restore_is : (bytes : List ℕ) (c : ℕ) → c ≡ all_code fee limit r bytes → restore fee limit l timing bytes ≡ cond (eqb c 0) (started (restored fee limit timing l (saved_of bytes))) (not_started c)
   unfolding restore charging all_code code_of saved_of
@@ -158,21 +161,22 @@ table_decides fee limit timing k l s e = ap (λ t. begin timing (restored_ledger
 
 -- ---- the call
 
-module _ (fee : ℤ) (limit : ℕ) (timing : Timing) (r : Roster) (bytes : List ℕ) (c : ℕ) (c_is : c ≡ all_code fee limit r bytes) where
-  pub restore_refused : (xs : List ℕ) → (c ≡ 0 → ⊥) → Begins limit r (λ l. restore fee limit l timing bytes) c xs xs
+module _ (fee : ℤ) (limit : ℕ) (timing : Timing) (r : Roster) (bytes : List ℕ) where
+  pub restore_refused : (why : Refusal) → refusal_code why ≡ all_code fee limit r bytes → (xs : List ℕ) → Begins limit r (λ l. restore fee limit l timing bytes) (refusal_code why) xs xs
   unfolding Starts
-  restore_refused xs n =
+  restore_refused why e xs =
       record {
         starts = λ l h.
-            subst (λ (s : Started). Starts s c xs xs) (sym (restore_is fee limit timing r l h bytes c c_is ∙ ap (λ b. cond b (started (restored fee limit timing l (saved_of bytes))) (not_started c)) (ne_eqb c 0 n)))
+            subst (λ (s : Started). Starts s (refusal_code why) xs xs)
+            (sym (restore_is fee limit timing r l h bytes (refusal_code why) e ∙ ap (λ b. cond b (started (restored fee limit timing l (saved_of bytes))) (not_started (refusal_code why))) (coded why)))
             (record { code_is = refl; state_kept = refl; rest_kept = tt });
       }
 
-  module _ (z : c ≡ 0) where
+  module _ (z : 0 ≡ all_code fee limit r bytes) where
     -- the fee passes
     code_is_0 : code_of fee limit r bytes ≡ 0
     unfolding all_code
-    code_is_0 = go (le_z (pos 0) fee) (sym c_is ∙ z)
+    code_is_0 = go (le_z (pos 0) fee) (sym z)
       where
         go : (b : Bool) → cond b (code_of fee limit r bytes) bad_fee ≡ 0 → code_of fee limit r bytes ≡ 0
         go true e = e
@@ -221,12 +225,12 @@ module _ (fee : ℤ) (limit : ℕ) (timing : Timing) (r : Roster) (bytes : List 
                 subst (λ (s : Started). Starts s 0 xs ys) (sym (begins l h))
                 (record {
                   is_done = record { code_is = refl; becomes = record { state = d.becomes.state; gateway_is = d.becomes.gateway_is ∙ same l h }; tells = tt };
-                  between = record { state = d.becomes.state; ok = subst Ok (sym d.becomes.gateway_is) fine };
+                  between = record { state = d.becomes.state; ok = subst GatewayOk (sym d.becomes.gateway_is) fine };
                 });
           }
         where
           begins : (l : List Account) → Gathered limit l r → restore fee limit l timing bytes ≡ started (restored fee limit timing l (saved_of bytes))
-          begins l h = restore_is fee limit timing r l h bytes c c_is ∙ ap (λ b. cond b (started (restored fee limit timing l (saved_of bytes))) (not_started c)) (eq-eqb c 0 z)
+          begins l h = restore_is fee limit timing r l h bytes 0 z
 
           same : (l : List Account) → Gathered limit l r → restored fee limit timing (present r owner_slots) (saved_of bytes) ≡ restored fee limit timing l (saved_of bytes)
           same l h = table_decides fee limit timing (present r owner_slots) l (saved_of bytes) (gathered_table limit l r h limit_fits)
@@ -234,7 +238,7 @@ module _ (fee : ℤ) (limit : ℕ) (timing : Timing) (r : Roster) (bytes : List 
           own : Gathered limit (present r owner_slots) r
           own = record { numbered = num; below = entries.1.0 ∙ sym d.below; table = λ few. sym (present_table limit r num few) }
 
-          fine : Begin.Begins Ok (started (restored fee limit timing (present r owner_slots) (saved_of bytes)))
-          fine = subst (Begin.Begins Ok) (begins (present r owner_slots) own) (restore_begins fee limit (present r owner_slots) timing bytes d.fit (all_bytes bytes small))
+          fine : Begin.Begins GatewayOk (started (restored fee limit timing (present r owner_slots) (saved_of bytes)))
+          fine = subst (Begin.Begins GatewayOk) (begins (present r owner_slots) own) (restore_begins fee limit (present r owner_slots) timing bytes d.fit (all_bytes bytes small))
 
-pub ruleset laws = (order_late, order_above, order_fine, order_judged, limit_above, account_above, wallet_above, orders_decide, no_checkpoint, is_checkpoint, entry_fails, total_outside, all_fine, open_empty, is_restored, restore_refused, fee_below, fee_fine, arith)
+pub ruleset laws = (no_checkpoint, is_checkpoint, entry_fails, total_outside, all_fine, open_empty, is_restored, restore_refused, fee_below, fee_fine, arith)

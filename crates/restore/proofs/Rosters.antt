@@ -1,8 +1,8 @@
 -- A roster says what the definitions say of any list of accounts that it is of. Assumes nothing.
+use Rattle.std.specs.Prelude.{Option, Some, None}
 use Prim.Native.Nat.{ℕ, suc, ◌≤◌}
 use mathlib.Core.Path.{◌≡◌, refl, sym, ap, ap₂, ◌∙◌}
 use mathlib.Core.Bool.{Bool, true, false, cond, ◌&&◌}
-use mathlib.Core.Option.{Option, none, some}
 use mathlib.Core.List.{List, [], ◌∷◌, ◌++◌}
 use borrow.Author.Tests.{leb-true}
 use lib.Dec.{leb}
@@ -25,8 +25,8 @@ use Rattle.restore.specs.Judging.{roster_tests}
 fit_restored : (fee : ℤ) (a : ℕ) (fs ws : List (Option Funds)) (os : List Order) → Ledger.wallets_fit fee a (restored_wallets fs ws) os ≡ Ledger.wallets_fit fee a fs os
 fit_restored fee a [] ws os = refl
 fit_restored fee a (f ∷ fs) [] os = ap (λ b. wallet_fits fee a f os && b) (fit_restored fee (suc a) fs [] os)
-fit_restored fee a (none ∷ fs) (w ∷ ws) os = fit_restored fee (suc a) fs ws os
-fit_restored fee a (some f ∷ fs) (w ∷ ws) os = ap (λ b. wallet_fits fee a (some f) os && b) (fit_restored fee (suc a) fs ws os)
+fit_restored fee a (None ∷ fs) (w ∷ ws) os = fit_restored fee (suc a) fs ws os
+fit_restored fee a (Some f ∷ fs) (w ∷ ws) os = ap (λ b. wallet_fits fee a (Some f) os && b) (fit_restored fee (suc a) fs ws os)
 
 module _ (fee : ℤ) (limit : ℕ) (l : List Account) (r : Roster) (h : Gathered limit l r) where
   totals_are : limit ≤ owner_slots → (s : Saved) → holds_fit (restored_ledger fee (accounts_of limit l) s) ≡ wallets_fit fee r 0 s.orders

@@ -1,9 +1,9 @@
 -- What is judged of a checkpoint's bytes and a roster, and the gateway that starts from them.
-use Rattle.std.specs.Prelude.{ℕ, ◌≡◌, Bool, true, cond, List, [], ◌∷◌, ◌++◌, ℤ, pos, ltb, leb}
+use Rattle.std.specs.Prelude.{ℕ, ◌≡◌, Bool, true, cond, List, [], ◌∷◌, ◌++◌, ℤ, pos, ltb, leb, is_some}
 use Rattle.std.specs.Int.Signed.{le_z}
 use Rattle.accounts.specs.declared.Account.{Account}
 use Rattle.accounts.specs.declared.Timing.{Timing}
-use Rattle.gateway.specs.Basics.{each, is_some}
+use Rattle.gateway.specs.Basics.{each}
 use Rattle.gateway.specs.Bytes.{decode}
 use Rattle.gateway.specs.Core.{Tests}
 use Rattle.gateway.specs.Fits.{AccountsFit}

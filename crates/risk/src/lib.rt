@@ -22,13 +22,6 @@ pub fn near(price: u64, mark: u64, percent: u64) -> bool
     words::at_most(apart, words::signed_mul(mark, percent))
 }
 
-// The collar's width.
-#[derive(Clone, Copy)]
-pub enum MaybePercent {
-    None,
-    Some(u32),
-}
-
 // A message, in billionths of one; also a second, in nanoseconds.
 const TOKEN: u64 = 1000000000;
 
@@ -45,13 +38,6 @@ pub struct Taken {
     pub bucket: Bucket,
 }
 
-// A clock that goes back adds nothing.
-fn since(now: u64, then: u64) -> u64
-    ensures { result ≡ now - then }
-{
-    if now < then { 0 } else { now - then }
-}
-
 // A second fills the bucket, so that the sum fits.
 fn filled(tokens: u64, rate: u32, elapsed: u64) -> u64
     ensures { result ≡ T.filled rate elapsed tokens }
@@ -64,7 +50,7 @@ fn filled(tokens: u64, rate: u32, elapsed: u64) -> u64
         return burst;
     }
     let sum = tokens + rate as u64 * elapsed;
-    if sum < burst { sum } else { burst }
+    sum.min(burst)
 }
 
 // Whether a message passes.
@@ -88,7 +74,8 @@ impl Bucket {
     fn update(self, rate: u32, now: u64) -> Bucket
         ensures { result ≡ T.update rate now self }
     {
-        let elapsed = since(now, self.refilled);
+        // A clock that goes back adds nothing.
+        let elapsed = now.saturating_sub(self.refilled);
         Bucket {
             tokens: filled(self.tokens, rate, elapsed),
             refilled: self.refilled + elapsed,

@@ -1,18 +1,15 @@
 -- The roster, account by account. Assumes nothing.
+use Rattle.std.specs.Prelude.{Some}
 use Prim.Native.Nat.{ℕ, ◌≤◌, ◌<◌}
-use mathlib.Core.Path.{◌≡◌, refl, ap}
-use mathlib.Core.Bool.{true, false}
+use mathlib.Core.Path.{◌≡◌, refl}
+use mathlib.Core.Bool.{false}
 use native.Mathlib.Omega.{arith}
 use borrow.Author.Tests.{lt-ltb, le-ltb}
-use lib.ListN.{set, replicate}
+use lib.ListN.{set}
 use Rattle.accounts.specs.declared.Account.{Account}
 use Rattle.gateway.specs.Limits.{owner_slots}
-use Rattle.roster.specs.declared.Slot.{Slot}
 use Rattle.roster.specs.declared.Roster.{Roster}
-use Rattle.roster.specs.Rostered.{no_slot, nobody, enter}
-
-pub nobody_is : (s : Slot) → s ≡ no_slot → record { below = true; slots = replicate 256 s } ≡ nobody
-nobody_is s e = ap (λ (x : Slot). record { below = true; slots = replicate owner_slots x }) e
+use Rattle.roster.specs.Rostered.{enter}
 
 module _ (limit : ℕ) (r : Roster) (a : Account) where
   pub enter_above : limit ≤ a.id → record { below = false; slots = r.slots } ≡ enter limit r a
@@ -23,8 +20,8 @@ module _ (limit : ℕ) (r : Roster) (a : Account) where
   unfolding enter
   enter_past l h = rw (lt-ltb a.id limit l, le-ltb a.id owner_slots h) refl
 
-  pub enter_in : a.id < limit → a.id < owner_slots → record { below = r.below; slots = set r.slots a.id (record { there = true; account = a }) } ≡ enter limit r a
+  pub enter_in : a.id < limit → a.id < owner_slots → record { below = r.below; slots = set r.slots a.id (Some a) } ≡ enter limit r a
   unfolding enter
   enter_in l h = rw (lt-ltb a.id limit l, lt-ltb a.id owner_slots h) refl
 
-pub ruleset laws = (nobody_is, enter_above, enter_past, enter_in, arith)
+pub ruleset laws = (enter_above, enter_past, enter_in, arith)

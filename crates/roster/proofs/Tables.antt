@@ -1,9 +1,9 @@
 -- The roster of a list has the definitions' table of its accounts. Assumes nothing.
+use Rattle.std.specs.Prelude.{Option, Some, None}
 use Prim.Native.Nat.{ℕ, zero, suc, ◌+◌, ◌≤◌, ◌<◌}
 use mathlib.Core.Path.{◌≡◌, refl, sym, ap, subst, ◌∙◌}
-use mathlib.Core.Bool.{true, false, cond, ◌&&◌, false≢true, and-true, and-false, and_assoc}
+use mathlib.Core.Bool.{true, false, cond, ◌&&◌, and-true, and-false, and_assoc}
 use mathlib.Core.Logic.{⊎_elim}
-use mathlib.Core.Option.{Option, none, some}
 use mathlib.Core.List.{List, [], ◌∷◌, ◌++◌}
 use native.Mathlib.Omega.{arith}
 use native.Mathlib.Nat.{not-suc-le-zero}
@@ -19,9 +19,8 @@ use Rattle.gateway.proofs.Base.{split}
 use Rattle.store.specs.View.{listed}
 use Rattle.store.proofs.Listed.{listed_set, listed_ext}
 use Rattle.table.proofs.Live.{same?}
-use Rattle.roster.specs.declared.Slot.{Slot}
 use Rattle.roster.specs.declared.Roster.{Roster}
-use Rattle.roster.specs.Rostered.{no_slot, nobody, enter, entered, account_in, account_of, Numbered, Gathered}
+use Rattle.roster.specs.Rostered.{nobody, enter, entered, account_of, Numbered, Gathered}
 use Rattle.roster.proofs.Laws.{enter_above, enter_past, enter_in}
 
 -- a number past the table changes nothing
@@ -37,61 +36,54 @@ record Keeps (limit : ℕ) (r : Roster) (t : List (Option Account)) : Type 0 whe
   size : length t ≡ limit
 
 module _ (limit : ℕ) (r : Roster) (t : List (Option Account)) (k : Keeps limit r t) (a : Account) where
-  above : limit ≤ a.id → Keeps limit (enter limit r a) (set t a.id (some a))
+  above : limit ≤ a.id → Keeps limit (enter limit r a) (set t a.id (Some a))
   above l =
       let e = enter_above limit r a l in
-      let p = set_past t a.id (some a) (rw k.size l) in
-      subst (λ s. Keeps limit s (set t a.id (some a))) e
+      let p = set_past t a.id (Some a) (rw k.size l) in
+      subst (λ s. Keeps limit s (set t a.id (Some a))) e
       (record { numbered = record { size = k.numbered.size; at = k.numbered.at }; table = λ h. k.table h ∙ sym p; size = ap length p ∙ k.size })
 
-  past : a.id < limit → owner_slots ≤ a.id → Keeps limit (enter limit r a) (set t a.id (some a))
+  past : a.id < limit → owner_slots ≤ a.id → Keeps limit (enter limit r a) (set t a.id (Some a))
   past l h =
-      subst (λ s. Keeps limit s (set t a.id (some a))) (enter_past limit r a l h)
-      (record { numbered = k.numbered; table = λ f. absurd (not-suc-le-zero (let z : 1 ≤ 0 = omega arith in z)); size = length-set t a.id (some a) ∙ k.size })
+      subst (λ s. Keeps limit s (set t a.id (Some a))) (enter_past limit r a l h)
+      (record { numbered = k.numbered; table = λ f. absurd (not-suc-le-zero (let z : 1 ≤ 0 = omega arith in z)); size = length-set t a.id (Some a) ∙ k.size })
 
-  abbrev here : Slot
-  here = record { there = true; account = a }
-
-  within : a.id < limit → a.id < owner_slots → Keeps limit (enter limit r a) (set t a.id (some a))
+  within : a.id < limit → a.id < owner_slots → Keeps limit (enter limit r a) (set t a.id (Some a))
   within l h =
-      subst (λ s. Keeps limit s (set t a.id (some a))) (enter_in limit r a l h)
+      subst (λ s. Keeps limit s (set t a.id (Some a))) (enter_in limit r a l h)
       (record {
         numbered =
             record {
-              size = length-set r.slots a.id here ∙ k.numbered.size;
-              at = λ i f.
-                  ⊎_elim
-                  (λ (e : i ≡ a.id).
-                  let s : get_or (set r.slots a.id here) i no_slot ≡ here = ap (λ j. get_or (set r.slots a.id here) j no_slot) e ∙ same in
-                  (ap (λ (x : Slot). x.account.id) s ∙ sym e, rw e l))
-                  (λ n.
-                  let s : get_or (set r.slots a.id here) i no_slot ≡ get_or r.slots i no_slot = get_or-set_other r.slots a.id i here no_slot n in
-                  let b = k.numbered.at i (ap (λ (x : Slot). x.there) (sym s) ∙ f) in
-                  (ap (λ (x : Slot). x.account.id) s ∙ b.0, b.1))
-                  (same? i a.id);
+              size = length-set r.slots a.id (Some a) ∙ k.numbered.size;
+              at = λ i b f.
+                  ⊎_elim (λ (e : i ≡ a.id). let q : a ≡ b = here b (sym (ap (λ j. get_or (set r.slots a.id (Some a)) j None) e ∙ same) ∙ f) in (sym (ap (λ x. x.id) q) ∙ sym e, rw e l))
+                  (λ n. k.numbered.at i b (sym (get_or-set_other r.slots a.id i (Some a) None n) ∙ f)) (same? i a.id);
             };
         table = λ f.
-            listed_set (account_of r) (λ i. account_in (get_or (set r.slots a.id here) i no_slot)) limit a.id (some a) l (ap account_in same)
-            (λ j m n. ap account_in (get_or-set_other r.slots a.id j here no_slot n))
-            ∙ ap (λ x. set x a.id (some a)) (k.table f);
-        size = length-set t a.id (some a) ∙ k.size;
+            listed_set (account_of r) (λ i. get_or (set r.slots a.id (Some a)) i None) limit a.id (Some a) l same
+            (λ j m n. get_or-set_other r.slots a.id j (Some a) None n)
+            ∙ ap (λ x. set x a.id (Some a)) (k.table f);
+        size = length-set t a.id (Some a) ∙ k.size;
       })
     where
-      same : get_or (set r.slots a.id here) a.id no_slot ≡ here
-      same = get_or-set_same r.slots a.id here no_slot (rw k.numbered.size h)
+      same : get_or (set r.slots a.id (Some a)) a.id None ≡ Some a
+      same = get_or-set_same r.slots a.id (Some a) None (rw k.numbered.size h)
 
-  more : Keeps limit (enter limit r a) (set t a.id (some a))
+      here : (b : Account) → Some a ≡ Some b → a ≡ b
+      here b e = cc
+
+  more : Keeps limit (enter limit r a) (set t a.id (Some a))
   more =
-      split (λ b. (ltb a.id limit ≡ b) → Keeps limit (enter limit r a) (set t a.id (some a))) (ltb a.id limit)
+      split (λ b. (ltb a.id limit ≡ b) → Keeps limit (enter limit r a) (set t a.id (Some a))) (ltb a.id limit)
       (λ _ e.
-      split (λ b. (ltb a.id owner_slots ≡ b) → Keeps limit (enter limit r a) (set t a.id (some a))) (ltb a.id owner_slots)
+      split (λ b. (ltb a.id owner_slots ≡ b) → Keeps limit (enter limit r a) (set t a.id (Some a))) (ltb a.id owner_slots)
       (λ _ f. within (ltb-true a.id limit e) (ltb-true a.id owner_slots f)) (λ _ f. past (ltb-true a.id limit e) (ltb-false a.id owner_slots f)) refl)
       (λ _ e. above (ltb-false a.id limit e)) refl
 
 entered_keeps : (limit : ℕ) (r : Roster) (t : List (Option Account)) → Keeps limit r t → (l : List Account) → Keeps limit (entered limit r l) (entered_in t l)
 unfolding entered
 entered_keeps limit r t k [] = k
-entered_keeps limit r t k (a ∷ l) = entered_keeps limit (enter limit r a) (set t a.id (some a)) (more limit r t k a) l
+entered_keeps limit r t k (a ∷ l) = entered_keeps limit (enter limit r a) (set t a.id (Some a)) (more limit r t k a) l
 
 -- one account more, behind the others
 pub entered_more : (limit : ℕ) (r : Roster) (l : List Account) (a : Account) → enter limit (entered limit r l) a ≡ entered limit r (l ++ (a ∷ []))
@@ -122,12 +114,15 @@ listed_same x (suc n) = ap (λ l. l ++ (x ∷ [])) (listed_same x n) ∙ more n
     more zero = refl
     more (suc n) = ap (λ l. x ∷ l) (more n)
 
-nobody_keeps : (limit : ℕ) → Keeps limit nobody (replicate limit none)
+no_account : (a : Account) → None ≡ Some a → ⊥
+no_account a e = cc
+
+nobody_keeps : (limit : ℕ) → Keeps limit nobody (replicate limit None)
 nobody_keeps limit =
     record {
-      numbered = record { size = length-replicate owner_slots no_slot; at = λ i e. absurd (false≢true (ap (λ (s : Slot). s.there) (sym (get_d_replicate owner_slots i no_slot)) ∙ e)) };
-      table = λ f. listed_ext (λ i. none) (account_of nobody) limit (λ i l. ap account_in (get_d_replicate owner_slots i no_slot)) ∙ listed_same none limit;
-      size = length-replicate limit none;
+      numbered = record { size = length-replicate {A = Option Account} owner_slots None; at = λ i a e. absurd (no_account a (sym (get_d_replicate {A = Option Account} owner_slots i None) ∙ e)) };
+      table = λ f. listed_ext (λ i. None) (account_of nobody) limit (λ i l. get_d_replicate {A = Option Account} owner_slots i None) ∙ listed_same None limit;
+      size = length-replicate {A = Option Account} limit None;
     }
 
 -- ---- below the limit
@@ -135,8 +130,8 @@ nobody_keeps limit =
 enter_below : (limit : ℕ) (r : Roster) (a : Account) → (enter limit r a).below ≡ (r.below && ltb a.id limit)
 unfolding enter
 enter_below limit r a =
-    split (λ b. (cond b (cond (ltb a.id owner_slots) (record { below = r.below; slots = set r.slots a.id (record { there = true; account = a }) }) r) (record { below = false; slots = r.slots })).below ≡ (r.below && b)) (ltb a.id limit)
-    (λ _. split (λ b. (cond b (record { below = r.below; slots = set r.slots a.id (record { there = true; account = a }) }) r).below ≡ (r.below && true)) (ltb a.id owner_slots) (λ _. sym (and-true r.below)) (λ _. sym (and-true r.below)))
+    split (λ b. (cond b (cond (ltb a.id owner_slots) (record { below = r.below; slots = set r.slots a.id (Some a) }) r) (record { below = false; slots = r.slots })).below ≡ (r.below && b)) (ltb a.id limit)
+    (λ _. split (λ b. (cond b (record { below = r.below; slots = set r.slots a.id (Some a) }) r).below ≡ (r.below && true)) (ltb a.id owner_slots) (λ _. sym (and-true r.below)) (λ _. sym (and-true r.below)))
     (λ _. sym (and-false r.below))
 
 entered_below : (limit : ℕ) (r : Roster) (l : List Account) → (entered limit r l).below ≡ (r.below && all_below limit l)
@@ -150,4 +145,4 @@ entered_below limit r (a ∷ l) =
 pub gathered : (limit : ℕ) (l : List Account) (r : Roster) → r ≡ entered limit nobody l → Gathered limit l r
 gathered limit l r e =
     subst (Gathered limit l) (sym e)
-    (let k = entered_keeps limit nobody (replicate limit none) (nobody_keeps limit) l in record { numbered = k.numbered; below = entered_below limit nobody l; table = k.table })
+    (let k = entered_keeps limit nobody (replicate limit None) (nobody_keeps limit) l in record { numbered = k.numbered; below = entered_below limit nobody l; table = k.table })

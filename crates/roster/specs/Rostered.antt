@@ -1,25 +1,19 @@
 -- The roster of a list of accounts.
-use Rattle.std.specs.Prelude.{ℕ, ◌≤◌, ◌<◌, ◌≡◌, true, false, cond, List, [], ◌∷◌, ltb, length, get_or, set, replicate}
-use Rattle.std.proofs.Math.Option.{Option, none, some}
+use Rattle.std.specs.Prelude.{ℕ, ◌≤◌, ◌<◌, ◌≡◌, true, false, cond, List, [], ◌∷◌, ltb, length, get_or, set, replicate, Option, Some, None}
 use Rattle.accounts.specs.declared.Account.{Account}
-use Rattle.accounts.specs.declared.MaybeFunds as F
 use Rattle.gateway.specs.Limits.{owner_slots}
 use Rattle.gateway.specs.Start.{all_below, accounts_of}
 use Rattle.store.specs.View.{listed}
-use Rattle.roster.specs.declared.Slot.{Slot}
 use Rattle.roster.specs.declared.Roster.{Roster}
 
-abbrev pub no_slot : Slot
-no_slot = record { there = false; account = record { id = 0; token = 0; max_open_orders = 0; messages_per_second = 0; funds = F.TheVariants.None } }
-
 abbrev pub nobody : Roster
-nobody = record { below = true; slots = replicate owner_slots no_slot }
+nobody = record { below = true; slots = replicate owner_slots None }
 
 -- one account more
 unfoldable pub enter : ℕ → Roster → Account → Roster
 enter limit r a =
     cond (ltb a.id limit)
-    (cond (ltb a.id owner_slots) (record { below = r.below; slots = set r.slots a.id (record { there = true; account = a }) }) r)
+    (cond (ltb a.id owner_slots) (record { below = r.below; slots = set r.slots a.id (Some a) }) r)
     (record { below = false; slots = r.slots })
 
 -- and each account of a list, in order
@@ -27,17 +21,14 @@ unfoldable pub entered : ℕ → Roster → List Account → Roster
 entered limit r [] = r
 entered limit r (a ∷ l) = entered limit (enter limit r a) l
 
--- the account of a slot
-abbrev pub account_in : Slot → Option Account
-account_in s = cond s.there (some s.account) none
-
+-- the account of a number
 abbrev pub account_of : Roster → ℕ → Option Account
-account_of r i = account_in (get_or r.slots i no_slot)
+account_of r i = get_or r.slots i None
 
 -- each account stands at its number, below the owner limit
 pub record Numbered (limit : ℕ) (r : Roster) : Type 0 where
   pub size : length r.slots ≡ owner_slots
-  pub at : (i : ℕ) → (get_or r.slots i no_slot).there ≡ true → ((get_or r.slots i no_slot).account.id ≡ i) × (i < limit)
+  pub at : (i : ℕ) (a : Account) → account_of r i ≡ Some a → (a.id ≡ i) × (i < limit)
 
 -- r has the definitions' table of the accounts l, where the limit is at most 256
 pub record Gathered (limit : ℕ) (l : List Account) (r : Roster) : Type 0 where

@@ -9,9 +9,7 @@ pub fn put(out: &mut [u8], o: usize, row: &[u64])
     requires { o + 8 * length row.now ≤ length out.old }
     ensures { out.new ≡ put_row out.old o row.now }
 {
-    let mut j: usize = 0;
-    while j < row.len() {
-        le::put_u64(out, o + 8 * j, row[j]);
-        j += 1;
+    for (j, v) in row.iter().enumerate() {
+        le::put_u64(out, o + 8 * j, *v);
     }
 }

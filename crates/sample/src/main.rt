@@ -4,15 +4,14 @@
 
 ghost use Rattle.std.specs.Prelude.{◌≤◌, length};
 
-use le::Loaded;
 use risk::Bucket;
 use std::fs::File;
 use std::{fs, io};
 
 fn word(row: &[u8], at: usize) -> u64 {
     match le::load(row, at, 8) {
-        Loaded::Value(w) => w,
-        Loaded::Refused => 0,
+        Some(w) => w,
+        None => 0,
     }
 }
 

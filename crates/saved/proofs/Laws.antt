@@ -1,23 +1,21 @@
 -- The laws of the readers, one for each way through them. Assumes nothing.
+use Rattle.std.specs.Prelude.{Option, Some, None, is_some}
 use mathlib.Core.Path.{◌≡◌, refl, sym, ap, ap₂, ◌∙◌}
 use mathlib.Core.Bool.{Bool, true, false, cond, ◌&&◌, false≢true}
-use mathlib.Core.Option.{Option, none, some}
 use mathlib.Core.List.{List, [], ◌∷◌, ◌++◌, map, append_assoc}
-use Prim.Native.Nat.{ℕ, suc, ◌+◌, ◌*◌, ◌-◌, ◌^◌, ◌/◌, ◌%◌, ◌≤◌, ◌<◌}
+use Prim.Native.Nat.{ℕ, suc, ◌+◌, ◌*◌, ◌-◌, ◌/◌, ◌%◌, ◌≤◌, ◌<◌}
 use native.Mathlib.Nat.{le_refl}
 use native.Mathlib.Omega.{arith}
 use borrow.Author.Tests.{leb-true, le-leb, lt-leb, eq-eqb, ne_eqb, not-true, not-false}
-use lib.Bits.{bit_and, and_mask}
-use lib.Dec.{eqb, ltb, leb}
+use lib.Dec.{eqb, leb}
 use lib.ListN.{length, get_or, take, drop, length-append, length-drop}
 use lib.Seq.{take_all, drop_at}
 use mir.Syntax.{w64}
 use mir.Val.{to_z}
 use Rattle.words.specs.Words.{int}
-use Rattle.orderbook.specs.declared.MaybePrice.TheVariants.{None, Some}
 use Rattle.le.specs.Le.{le}
 use Rattle.le.specs.Row.{gets}
-use Rattle.gateway.specs.Basics.{option, is_some}
+use Rattle.gateway.specs.Basics.{option}
 use Rattle.gateway.specs.Limits.{owner_slots, most_orders}
 use Rattle.gateway.specs.Fits.{Bytes}
 use Rattle.gateway.specs.Ledger.{Order}
@@ -29,38 +27,12 @@ use Rattle.store.specs.View.{flag, side, maybe_price}
 use Rattle.orders.specs.declared.Live.{Live}
 use Rattle.saved.specs.declared.Purse.{Purse}
 use Rattle.saved.specs.declared.fields.Flags.{Flags}
-use Rattle.saved.specs.Parts.{wallet_count, order_count, orders_start, sized, rows_at, raw_of, rises, row_fits, rows_fit}
+use Rattle.saved.specs.Parts.{wallet_count, order_count, orders_start, sized, rows_at, raw_of, rows_fit}
 use Rattle.saved.specs.Contents.{saved_of, wallet_at, order_at, wallet_of, Reads, order_section, Start}
 use Rattle.saved.proofs.Offsets.{rows_count}
 use Rattle.saved.proofs.Decoded.{whole_is, sized_long, is_sized, long, decoded, last_is, mark_is, wallets_count, orders_count, wallet_nth, order_nth, wallets_few, orders_few}
-use Rattle.saved.proofs.Rising.{rises_first, rises_next}
 
 -- ---- fields
-
-pub unpacked : (f : ℕ) → ◌≡◌ {A = Flags} (record { buy = bit_and f 1; priced = f / 2 ^ 1 }) (record { buy = f % 2; priced = f / 2 })
-unpacked f = ap (λ b. record { buy = b; priced = f / 2 }) (and_mask f 1)
-
-module _ (f p : ℕ) where
-  pub price_there : f ≡ 1 → true ≡ price_ok f p
-  price_there e = rw (eq-eqb f 1 e) refl
-
-  pub price_absent : (f ≡ 1 → ⊥) → f ≡ 0 → eqb p 0 ≡ price_ok f p
-  price_absent d e = rw (ne_eqb f 1 d, eq-eqb f 0 e) refl
-
-  pub price_other : (f ≡ 1 → ⊥) → (f ≡ 0 → ⊥) → false ≡ price_ok f p
-  price_other d e = rw (ne_eqb f 1 d, ne_eqb f 0 e) refl
-
-pub code_set : (f : ℕ) → f ≡ 1 → flag 1 ≡ eqb f 1
-code_set f e = sym (eq-eqb f 1 e)
-
-pub code_unset : (f : ℕ) → (f ≡ 1 → ⊥) → flag 0 ≡ eqb f 1
-code_unset f e = sym (ne_eqb f 1 e)
-
-pub side_buy : (f : ℕ) → f ≡ 1 → side 0 ≡ side_from f
-side_buy f e = rw (eq-eqb f 1 e) refl
-
-pub side_sell : (f : ℕ) → (f ≡ 1 → ⊥) → side 1 ≡ side_from f
-side_sell f e = rw (ne_eqb f 1 e) refl
 
 price_is : (n f w : ℕ) → flag n ≡ eqb f 1 → maybe_price n w ≡ price_from f w
 unfolding int
@@ -134,36 +106,6 @@ module _ (xs : List ℕ) where
 
   pub head_is : (f p : ℕ) (b : Bool) → f ≡ le 1 xs 8 → p ≡ le 8 xs 9 → b ≡ price_ok f p → b ≡ price_ok (le 1 xs 8) (le 8 xs 9)
   head_is f p b h k e = e ∙ ap₂ price_ok h k
-
-  -- rows
-
-  and_true : (b : Bool) → b ≡ (b && true)
-  and_true true = refl
-  and_true false = refl
-
-  pub wallet_first : (j : ℕ) → j ≡ 0 → true ≡ row_fits (λ x. true) wallet_widths xs 21 j
-  wallet_first j e = rises_first wallet_widths xs 21 j e ∙ and_true (rises wallet_widths xs 21 j)
-
-  pub wallet_next : (j a b : ℕ) → (j ≡ 0 → ⊥) → a ≡ le 4 xs (21 + 20 * (j - 1)) → b ≡ le 4 xs (21 + 20 * j) → ltb a b ≡ row_fits (λ x. true) wallet_widths xs 21 j
-  wallet_next j a b f h k = rises_next wallet_widths xs 21 j f a b h k ∙ and_true (rises wallet_widths xs 21 j)
-
-  pub order_first : (o j : ℕ) → j ≡ 0 → true ≡ rises order_widths xs o j
-  order_first o j e = rises_first order_widths xs o j e
-
-  pub order_next : (o j a b : ℕ) → (j ≡ 0 → ⊥) → a ≡ le 8 xs (o + 37 * (j - 1)) → b ≡ le 8 xs (o + 37 * j) → ltb a b ≡ rises order_widths xs o j
-  order_next o j a b f h k = rises_next order_widths xs o j f a b h k
-
-  pub flags_are : (at b p : ℕ) (f : Flags) (t : Bool) → b ≡ le 1 xs (at + 20) → f ≡ record { buy = b % 2; priced = b / 2 } → p ≡ le 8 xs (at + 21) → t ≡ price_ok f.priced p → t ≡ flags_ok (gets order_widths xs at)
-  flags_are at b p f t eb ef ep e =
-      let e3 : at + 20 ≡ at + 8 + 4 + 8 = omega arith in
-      let e4 : at + 21 ≡ at + 8 + 4 + 8 + 1 = omega arith in
-      e ∙ ap₂ price_ok (ap (λ (x : Flags). x.priced) ef ∙ ap (λ x. x / 2) (eb ∙ ap (le 1 xs) e3)) (ep ∙ ap (le 8 xs) e4)
-
-  pub order_fine : (o j : ℕ) (u t : Bool) → u ≡ rises order_widths xs o j → u ≡ true → t ≡ flags_ok (gets order_widths xs (o + 37 * j)) → t ≡ row_fits flags_ok order_widths xs o j
-  order_fine o j u t e q h = h ∙ ap (λ (x : Bool). x && flags_ok (gets order_widths xs (o + 37 * j))) (sym q ∙ e)
-
-  pub order_falls : (o j : ℕ) (u : Bool) → u ≡ rises order_widths xs o j → u ≡ false → false ≡ row_fits flags_ok order_widths xs o j
-  order_falls o j u e q = ap (λ (x : Bool). x && flags_ok (gets order_widths xs (o + 37 * j))) (sym q ∙ e)
 
   -- tables
 
@@ -300,7 +242,7 @@ unfolding order_section
 none_there xs b e t = go (decode xs) (sym e ∙ t)
   where
     go : (o : Option Saved) → is_some o ≡ false → [] ≡ option [] (λ (s : Saved). rows order_widths (map order_row s.orders)) o
-    go none q = refl
-    go (some s) q = absurd (false≢true (sym q))
+    go None q = refl
+    go (Some s) q = absurd (false≢true (sym q))
 
-pub ruleset laws = (unpacked, price_there, price_absent, price_other, code_set, code_unset, side_buy, side_sell, wallet_read, order_read, in_sized, in_whole, count_room, count_told, wallets_within, orders_within, sized_short, sized_middle, sized_all, head_is, wallet_first, wallet_next, order_first, order_next, flags_are, order_fine, order_falls, wallets_many, wallets_fine, orders_many, orders_fine, not_sized, bad_head, bad_wallets, by_orders, last_told, mark_told, wallets_told, wallets_small, orders_told, orders_small, start_told, start_within, wallet_room, wallet_told, order_room, number_told, order_told, none_there, section_told, was_true, is_sized, not-true, not-false, arith)
+pub ruleset laws = (wallet_read, order_read, in_sized, in_whole, count_room, count_told, wallets_within, orders_within, sized_short, sized_middle, sized_all, head_is, wallets_many, wallets_fine, orders_many, orders_fine, not_sized, bad_head, bad_wallets, by_orders, last_told, mark_told, wallets_told, wallets_small, orders_told, orders_small, start_told, start_within, wallet_room, wallet_told, order_room, number_told, order_told, none_there, section_told, was_true, is_sized, not-true, not-false, arith)

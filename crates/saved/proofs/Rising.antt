@@ -2,12 +2,10 @@
 use mathlib.Core.Path.{◌≡◌, refl, sym, ap, ap₂, ◌∙◌}
 use mathlib.Core.Bool.{Bool, true, false, ◌&&◌, false≢true}
 use mathlib.Core.List.{List, ◌∷◌}
-use Prim.Native.Nat.{ℕ, zero, suc, ◌+◌, ◌*◌, ◌-◌, ◌≤◌, ◌<◌}
+use Prim.Native.Nat.{ℕ, suc, ◌+◌, ◌*◌, ◌-◌, ◌≤◌, ◌<◌}
 use native.Mathlib.Nat.{mul-suc}
 use native.Mathlib.Numerals.{add-one}
 use native.Mathlib.Omega.{arith}
-use borrow.Author.Tests.{le-leb}
-use lib.Dec.{ltb}
 use Rattle.le.specs.Row.{span}
 use Rattle.gateway.specs.Bytes.{keys_rise, all_rows}
 use Rattle.saved.specs.Parts.{row_at, rows_at, key_at, least_key, rises, row_fits, rows_fit}
@@ -67,15 +65,3 @@ module _ (fine : List ℕ → Bool) (ws xs : List ℕ) (o n : ℕ) where
   passed_last j l p =
       let d : 0 ≡ n - j = omega arith in
       ap (λ k. keys_rise (least_key ws xs o j) (rows_at ws xs (o + span ws * j) k) && all_rows fine (rows_at ws xs (o + span ws * j) k)) d ∙ sym p
-
--- ---- one row's key
-
-module _ (ws xs : List ℕ) (o : ℕ) where
-  pub rises_first : (j : ℕ) → j ≡ 0 → true ≡ rises ws xs o j
-  rises_first j e = sym (ap (rises ws xs o) e ∙ le-leb 0 (key_at ws xs o 0) (omega arith))
-
-  pub rises_next : (j : ℕ) → (j ≡ 0 → ⊥) → (a b : ℕ) → a ≡ key_at ws xs o (j - 1) → b ≡ key_at ws xs o j → ltb a b ≡ rises ws xs o j
-  rises_next zero f a b h k = absurd (f refl)
-  rises_next (suc i) f a b h k =
-      let e : suc i - 1 ≡ i = omega arith in
-      ap₂ ltb (h ∙ ap (key_at ws xs o) e) k

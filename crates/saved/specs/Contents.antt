@@ -1,7 +1,6 @@
 -- What a reader finds in a checkpoint's bytes that are well formed.
-use Rattle.std.specs.Prelude.{ℕ, ◌≤◌, ◌≡◌, List, [], map, pos, length, get_or, drop}
+use Rattle.std.specs.Prelude.{ℕ, ◌≤◌, ◌≡◌, List, [], map, pos, length, get_or, drop, None}
 use Rattle.orderbook.specs.declared.Side.TheVariants.{Sell}
-use Rattle.orderbook.specs.declared.MaybePrice.TheVariants.{None}
 use Rattle.accounts.specs.declared.Funds.{Funds}
 use Rattle.words.specs.Words.{int}
 use Rattle.gateway.specs.Basics.{option}

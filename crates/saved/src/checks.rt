@@ -74,12 +74,10 @@ fn wallets_rise(xs: &[u8], n: usize) -> bool
     requires { 21 + 20 * n ≤ length xs.now }
     ensures { result ≡ P.rows_fit (λ x. true) (P.rows_at wallet_widths xs.now P.wallets_start n) }
 {
-    let mut j: usize = 0;
-    while j < n {
+    for j in 0..n {
         if !wallet_rises(xs, j) {
             return false;
         }
-        j += 1;
     }
     true
 }
@@ -133,12 +131,10 @@ fn rows_fit(xs: &[u8], o: usize, n: usize) -> bool
     requires { o + 37 * n ≤ length xs.now }
     ensures { result ≡ P.rows_fit flags_ok (P.rows_at order_widths xs.now o n) }
 {
-    let mut j: usize = 0;
-    while j < n {
+    for j in 0..n {
         if !order_fits(xs, o, j) {
             return false;
         }
-        j += 1;
     }
     true
 }

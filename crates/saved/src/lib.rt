@@ -4,8 +4,7 @@
 mod checks;
 mod fields;
 
-ghost use Rattle.std.specs.Prelude.{◌≡◌, true, ◌+◌, ◌*◌, ◌≤◌, ◌<◌, length};
-ghost use Rattle.gateway.specs.Basics.{is_some};
+ghost use Rattle.std.specs.Prelude.{◌≡◌, true, ◌+◌, ◌*◌, ◌≤◌, ◌<◌, length, is_some};
 ghost use Rattle.gateway.specs.Limits.{owner_slots, most_orders};
 ghost use Rattle.gateway.specs.Bytes.{decode};
 ghost use Rattle.store.specs.View.{maybe_price};

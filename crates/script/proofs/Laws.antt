@@ -1,4 +1,5 @@
 -- Messages and events by their rows' words. Assumes nothing.
+use Rattle.std.specs.Prelude.{Option, Some, None}
 use mathlib.Core.Path.{◌≡◌, refl, sym, ap, subst, ◌∙◌}
 use mathlib.Core.Bool.{Bool, true, false}
 use mathlib.Core.List.{List}
@@ -11,23 +12,16 @@ use lib.IntN.{ℤ}
 use Rattle.orderbook.specs.declared.Side.{Side}
 use Rattle.orderbook.specs.declared.Event.{Event}
 use Rattle.orderbook.specs.declared.Event.TheVariants as Ev
-use Rattle.orderbook.specs.declared.MaybePrice.{MaybePrice}
-use Rattle.orderbook.specs.declared.MaybePrice.TheVariants as MP
 use Rattle.orderbook.specs.declared.CancelReason as CancelReason
 use Rattle.orderbook.specs.declared.RejectReason as RejectReason
 use Rattle.orderbook.specs.declared.Phase as Phase
 use Rattle.orderbook.specs.declared.TimeInForce as TimeInForce
-use Rattle.orderbook.specs.declared.MaybeQty as MaybeQty
 use Rattle.protocol.specs.declared.Inbound.{Inbound}
 use Rattle.protocol.specs.declared.Inbound.TheVariants as In
 use Rattle.protocol.specs.declared.NewOrder.{NewOrder}
 use Rattle.protocol.specs.declared.OrderKind.{OrderKind}
 use Rattle.protocol.specs.declared.OrderKind.TheVariants as Kind
-use Rattle.protocol.specs.declared.codes.MaybeTimeInForce as MaybeTimeInForce
 use Rattle.protocol.specs.Codes.{tif_of, reject_reason_of, cancel_reason_of, phase_of}
-use Rattle.protocol.specs.declared.codes.MaybePhase as MaybePhase
-use Rattle.protocol.specs.declared.codes.MaybeRejectReason as MaybeRejectReason
-use Rattle.protocol.specs.declared.codes.MaybeCancelReason as MaybeCancelReason
 use Rattle.words.specs.Words.{int}
 use Rattle.store.specs.View.{side, maybe_price, maybe_qty}
 use Rattle.script.specs.Script.{tif_at, limit, stop, order_kind, new_order, login, modify, message_by, message_of, word_at, small_at, code_at, price_at, reject_at, cancel_at, phase_at, traded, rested, replenished, stop_placed, cancelled, modified, event_by, event_of}
@@ -38,28 +32,28 @@ side_read r w v e f = f ∙ ap side e
 pub price_read : (r : ℤ) (w v : ℕ) → w ≡ v → r ≡ int w → r ≡ int v
 price_read r w v e f = f ∙ ap int e
 
-pub no_price : (w v u : ℕ) → w ≡ v → w ≡ 0 → MP.None ≡ maybe_price v u
+pub no_price : (w v u : ℕ) → w ≡ v → w ≡ 0 → None ≡ maybe_price v u
 no_price w v u e z = rw (← e, z) refl
 
-pub some_price : (w v u : ℕ) (p : ℤ) → w ≡ v → (w ≡ 0 → ⊥) → p ≡ int u → MP.Some p ≡ maybe_price v u
+pub some_price : (w v u : ℕ) (p : ℤ) → w ≡ v → (w ≡ 0 → ⊥) → p ≡ int u → Some p ≡ maybe_price v u
 some_price w v u p e z f = rw (← e, ne_eqb w 0 z, f) refl
 
-pub reject_some : (xs : List ℕ) (k : ℕ) (m : MaybeRejectReason.MaybeRejectReason) (p : RejectReason.RejectReason) → k ≡ code_at xs 2 → m ≡ reject_reason_of k → m ≡ MaybeRejectReason.TheVariants.Some p → p ≡ reject_at xs
+pub reject_some : (xs : List ℕ) (k : ℕ) (m : Option RejectReason.RejectReason) (p : RejectReason.RejectReason) → k ≡ code_at xs 2 → m ≡ reject_reason_of k → m ≡ Some p → p ≡ reject_at xs
 reject_some xs k m p e f g = rw (← e, ← f, g) refl
 
-pub reject_none : (xs : List ℕ) (k : ℕ) (m : MaybeRejectReason.MaybeRejectReason) → k ≡ code_at xs 2 → m ≡ reject_reason_of k → m ≡ MaybeRejectReason.TheVariants.None → RejectReason.TheVariants.InvalidQuantity ≡ reject_at xs
+pub reject_none : (xs : List ℕ) (k : ℕ) (m : Option RejectReason.RejectReason) → k ≡ code_at xs 2 → m ≡ reject_reason_of k → m ≡ None → RejectReason.TheVariants.InvalidQuantity ≡ reject_at xs
 reject_none xs k m e f g = rw (← e, ← f, g) refl
 
-pub cancel_some : (xs : List ℕ) (k : ℕ) (m : MaybeCancelReason.MaybeCancelReason) (p : CancelReason.CancelReason) → k ≡ code_at xs 3 → m ≡ cancel_reason_of k → m ≡ MaybeCancelReason.TheVariants.Some p → p ≡ cancel_at xs
+pub cancel_some : (xs : List ℕ) (k : ℕ) (m : Option CancelReason.CancelReason) (p : CancelReason.CancelReason) → k ≡ code_at xs 3 → m ≡ cancel_reason_of k → m ≡ Some p → p ≡ cancel_at xs
 cancel_some xs k m p e f g = rw (← e, ← f, g) refl
 
-pub cancel_none : (xs : List ℕ) (k : ℕ) (m : MaybeCancelReason.MaybeCancelReason) → k ≡ code_at xs 3 → m ≡ cancel_reason_of k → m ≡ MaybeCancelReason.TheVariants.None → CancelReason.TheVariants.Requested ≡ cancel_at xs
+pub cancel_none : (xs : List ℕ) (k : ℕ) (m : Option CancelReason.CancelReason) → k ≡ code_at xs 3 → m ≡ cancel_reason_of k → m ≡ None → CancelReason.TheVariants.Requested ≡ cancel_at xs
 cancel_none xs k m e f g = rw (← e, ← f, g) refl
 
-pub phase_some : (xs : List ℕ) (i k : ℕ) (m : MaybePhase.MaybePhase) (p : Phase.Phase) → k ≡ code_at xs i → m ≡ phase_of k → m ≡ MaybePhase.TheVariants.Some p → p ≡ phase_at xs i
+pub phase_some : (xs : List ℕ) (i k : ℕ) (m : Option Phase.Phase) (p : Phase.Phase) → k ≡ code_at xs i → m ≡ phase_of k → m ≡ Some p → p ≡ phase_at xs i
 phase_some xs i k m p e f g = rw (← e, ← f, g) refl
 
-pub phase_none : (xs : List ℕ) (i k : ℕ) (m : MaybePhase.MaybePhase) → k ≡ code_at xs i → m ≡ phase_of k → m ≡ MaybePhase.TheVariants.None → Phase.TheVariants.Continuous ≡ phase_at xs i
+pub phase_none : (xs : List ℕ) (i k : ℕ) (m : Option Phase.Phase) → k ≡ code_at xs i → m ≡ phase_of k → m ≡ None → Phase.TheVariants.Continuous ≡ phase_at xs i
 phase_none xs i k m e f g = rw (← e, ← f, g) refl
 
 -- ---- an event by its kind
@@ -105,16 +99,16 @@ module _ (xs : List ℕ) (k : ℕ) (e : k ≡ word_at xs 0) where
 
 -- ---- messages
 
-pub no_qty : (w v u : ℕ) → w ≡ v → w ≡ 0 → MaybeQty.TheVariants.None ≡ maybe_qty v u
+pub no_qty : (w v u : ℕ) → w ≡ v → w ≡ 0 → None ≡ maybe_qty v u
 no_qty w v u e z = rw (← e, z) refl
 
-pub some_qty : (w v u q : ℕ) → w ≡ v → (w ≡ 0 → ⊥) → q ≡ u → MaybeQty.TheVariants.Some q ≡ maybe_qty v u
+pub some_qty : (w v u q : ℕ) → w ≡ v → (w ≡ 0 → ⊥) → q ≡ u → Some q ≡ maybe_qty v u
 some_qty w v u q e z f = rw (← e, ne_eqb w 0 z, f) refl
 
-pub tif_some : (xs : List ℕ) (k : ℕ) (m : MaybeTimeInForce.MaybeTimeInForce) (p : TimeInForce.TimeInForce) → k ≡ code_at xs 6 → m ≡ tif_of k → m ≡ MaybeTimeInForce.TheVariants.Some p → p ≡ tif_at xs
+pub tif_some : (xs : List ℕ) (k : ℕ) (m : Option TimeInForce.TimeInForce) (p : TimeInForce.TimeInForce) → k ≡ code_at xs 6 → m ≡ tif_of k → m ≡ Some p → p ≡ tif_at xs
 tif_some xs k m p e f g = rw (← e, ← f, g) refl
 
-pub tif_none : (xs : List ℕ) (k : ℕ) (m : MaybeTimeInForce.MaybeTimeInForce) → k ≡ code_at xs 6 → m ≡ tif_of k → m ≡ MaybeTimeInForce.TheVariants.None → TimeInForce.TheVariants.Gtc ≡ tif_at xs
+pub tif_none : (xs : List ℕ) (k : ℕ) (m : Option TimeInForce.TimeInForce) → k ≡ code_at xs 6 → m ≡ tif_of k → m ≡ None → TimeInForce.TheVariants.Gtc ≡ tif_at xs
 tif_none xs k m e f g = rw (← e, ← f, g) refl
 
 pub login_is : (xs : List ℕ) (v a t : ℕ) → v ≡ word_at xs 1 → a ≡ small_at xs 2 → t ≡ word_at xs 3 → In.Login (v % 65536) a t ≡ login xs

@@ -1,4 +1,5 @@
 -- Whether a row is one, test by test; and commands and accounts by their rows' words. Assumes nothing.
+use Rattle.std.specs.Prelude.{Option, Some, None}
 use mathlib.Core.Path.{◌≡◌, refl, sym, ap, ◌∙◌}
 use mathlib.Core.Bool.{Bool, true, false, not, ◌&&◌}
 use mathlib.Core.List.{List}
@@ -12,7 +13,7 @@ use Rattle.orderbook.specs.declared.Command.{Command}
 use Rattle.orderbook.specs.declared.Command.TheVariants as Co
 use Rattle.orderbook.specs.declared.Phase.{Phase}
 use Rattle.accounts.specs.declared.Account.{Account}
-use Rattle.accounts.specs.declared.MaybeFunds as F
+use Rattle.accounts.specs.declared.Funds.{Funds}
 use Rattle.words.specs.Words.{int}
 use Rattle.script.specs.Script.{word_at, small_at, phase_at}
 use Rattle.script.specs.Strict.{at_most, kind_fits, message_fits, is_message, event_fits, is_event, command_fits, owned_fits, is_command, account_fits, is_account}
@@ -123,13 +124,13 @@ module _ (xs : List ℕ) (k : ℕ) (e : k ≡ word_at xs 0) where
 
 -- ---- an account
 
-pub no_funds : (w v a b : ℕ) → w ≡ v → w ≡ 0 → F.TheVariants.None ≡ funds v a b
+pub no_funds : (w v a b : ℕ) → w ≡ v → w ≡ 0 → None ≡ funds v a b
 no_funds w v a b e z = rw (← e, z) refl
 
-pub some_funds : (w v a b : ℕ) (p q : ℤ) → w ≡ v → (w ≡ 0 → ⊥) → p ≡ int a → q ≡ int b → F.TheVariants.Some (record { cash = p; position = q }) ≡ funds v a b
+pub some_funds : (w v a b : ℕ) (p q : ℤ) → w ≡ v → (w ≡ 0 → ⊥) → p ≡ int a → q ≡ int b → Some (record { cash = p; position = q }) ≡ funds v a b
 some_funds w v a b p q e z f g = rw (← e, ne_eqb w 0 z, f, g) refl
 
-pub account_is : (xs : List ℕ) (i t o m : ℕ) (f : F.MaybeFunds) → i ≡ small_at xs 0 → t ≡ word_at xs 1 → o ≡ small_at xs 2 → m ≡ small_at xs 3 → f ≡ funds (word_at xs 4) (word_at xs 5) (word_at xs 6) →
+pub account_is : (xs : List ℕ) (i t o m : ℕ) (f : Option Funds) → i ≡ small_at xs 0 → t ≡ word_at xs 1 → o ≡ small_at xs 2 → m ≡ small_at xs 3 → f ≡ funds (word_at xs 4) (word_at xs 5) (word_at xs 6) →
     record { id = i; token = t; max_open_orders = o; messages_per_second = m; funds = f } ≡ account_of xs
 unfolding account_of
 account_is xs i t o m f a b d e g = λ j. record { id = a j; token = b j; max_open_orders = d j; messages_per_second = e j; funds = g j }

@@ -1,10 +1,9 @@
 -- A command by the 12 cells of its row in the batch, and an account by 7 words.
-use Rattle.std.specs.Prelude.{ℕ, ◌*◌, ◌/◌, cond, List, eqb, length, take, drop}
+use Rattle.std.specs.Prelude.{ℕ, ◌*◌, ◌/◌, cond, List, eqb, length, take, drop, Option, Some, None}
 use Rattle.orderbook.specs.declared.Command.{Command}
 use Rattle.orderbook.specs.declared.Command.TheVariants as Co
 use Rattle.accounts.specs.declared.Account.{Account}
 use Rattle.accounts.specs.declared.Funds.{Funds}
-use Rattle.accounts.specs.declared.MaybeFunds as F
 use Rattle.words.specs.Words.{int}
 use Rattle.store.specs.View.{listed, flag, side, maybe_price, maybe_qty}
 use Rattle.script.specs.Script.{word_at, small_at, price_at, tif_at, phase_at}
@@ -42,8 +41,8 @@ command_of xs = command_by (word_at xs 0) xs
 
 -- ---- accounts
 
-abbrev pub funds : ℕ → ℕ → ℕ → F.MaybeFunds
-funds there cash position = cond (flag there) (F.TheVariants.Some (record { cash = int cash; position = int position })) F.TheVariants.None
+abbrev pub funds : ℕ → ℕ → ℕ → Option Funds
+funds there cash position = cond (flag there) (Some (record { cash = int cash; position = int position })) None
 
 unfoldable pub account_of : List ℕ → Account
 account_of xs =

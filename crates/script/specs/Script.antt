@@ -1,5 +1,5 @@
 -- Rows of 16 little-endian words: a message or an event, its kind and then its fields. A kind above the last reads as the last, and another code that no case has as the first.
-use Rattle.std.specs.Prelude.{ℕ, ◌*◌, ◌%◌, cond, List, eqb, ℤ, length}
+use Rattle.std.specs.Prelude.{ℕ, ◌*◌, ◌%◌, cond, List, eqb, ℤ, length, Option, Some, None, unwrap_or}
 use Rattle.orderbook.specs.declared.Event.{Event}
 use Rattle.orderbook.specs.declared.Event.TheVariants as Ev
 use Rattle.orderbook.specs.declared.CancelReason as CancelReason
@@ -11,11 +11,7 @@ use Rattle.protocol.specs.declared.Inbound.TheVariants as In
 use Rattle.protocol.specs.declared.NewOrder.{NewOrder}
 use Rattle.protocol.specs.declared.OrderKind.{OrderKind}
 use Rattle.protocol.specs.declared.OrderKind.TheVariants as Kind
-use Rattle.protocol.specs.declared.codes.MaybeTimeInForce as MaybeTimeInForce
 use Rattle.protocol.specs.Codes.{tif_of, reject_reason_of, cancel_reason_of, phase_of}
-use Rattle.protocol.specs.declared.codes.MaybePhase as MaybePhase
-use Rattle.protocol.specs.declared.codes.MaybeRejectReason as MaybeRejectReason
-use Rattle.protocol.specs.declared.codes.MaybeCancelReason as MaybeCancelReason
 use Rattle.words.specs.Words.{int}
 use Rattle.le.specs.Le.{le}
 use Rattle.store.specs.View.{side, maybe_price, maybe_qty}
@@ -36,9 +32,8 @@ price_at xs i = int (word_at xs i)
 
 -- ---- messages
 
-abbrev pub tif_or : MaybeTimeInForce.MaybeTimeInForce → TimeInForce.TimeInForce
-tif_or (MaybeTimeInForce.TheVariants.Some x) = x
-tif_or MaybeTimeInForce.TheVariants.None = TimeInForce.TheVariants.Gtc
+abbrev pub tif_or : Option TimeInForce.TimeInForce → TimeInForce.TimeInForce
+tif_or t = unwrap_or t TimeInForce.TheVariants.Gtc
 
 abbrev pub tif_at : List ℕ → TimeInForce.TimeInForce
 tif_at xs = tif_or (tif_of (code_at xs 6))
@@ -74,17 +69,14 @@ message_of xs = message_by (word_at xs 0) xs
 
 -- ---- events
 
-abbrev pub reject_or : MaybeRejectReason.MaybeRejectReason → RejectReason.RejectReason
-reject_or (MaybeRejectReason.TheVariants.Some x) = x
-reject_or MaybeRejectReason.TheVariants.None = RejectReason.TheVariants.InvalidQuantity
+abbrev pub reject_or : Option RejectReason.RejectReason → RejectReason.RejectReason
+reject_or why = unwrap_or why RejectReason.TheVariants.InvalidQuantity
 
-abbrev pub cancel_or : MaybeCancelReason.MaybeCancelReason → CancelReason.CancelReason
-cancel_or (MaybeCancelReason.TheVariants.Some x) = x
-cancel_or MaybeCancelReason.TheVariants.None = CancelReason.TheVariants.Requested
+abbrev pub cancel_or : Option CancelReason.CancelReason → CancelReason.CancelReason
+cancel_or why = unwrap_or why CancelReason.TheVariants.Requested
 
-abbrev pub phase_or : MaybePhase.MaybePhase → Phase.Phase
-phase_or (MaybePhase.TheVariants.Some x) = x
-phase_or MaybePhase.TheVariants.None = Phase.TheVariants.Continuous
+abbrev pub phase_or : Option Phase.Phase → Phase.Phase
+phase_or p = unwrap_or p Phase.TheVariants.Continuous
 
 abbrev pub reject_at : List ℕ → RejectReason.RejectReason
 reject_at xs = reject_or (reject_reason_of (code_at xs 2))

@@ -10,11 +10,8 @@ ghost use Rattle.store.specs.View.{side, maybe_price, maybe_qty};
 ghost use Rattle.script.specs.Script as P;
 ghost use Rattle.script.specs.Script.{word_at, small_at, code_at, price_at, message_of, event_of};
 
-use orderbook::{
-    CancelReason, Event, MaybePrice, MaybeQty, Phase, RejectReason, Side, TimeInForce,
-};
-use protocol::codes::{MaybeCancelReason, MaybePhase, MaybeRejectReason, MaybeTimeInForce};
-use protocol::{Inbound, NewOrder, OrderKind, codes};
+use orderbook::{CancelReason, Event, Phase, RejectReason, Side, TimeInForce};
+use protocol::{Inbound, NewOrder, OrderKind};
 
 const TWO_32: u64 = 4_294_967_296;
 
@@ -53,24 +50,24 @@ pub fn price(row: &[u8], i: usize) -> i64
     words::to_i64(word(row, i))
 }
 
-pub fn maybe_price(row: &[u8], i: usize) -> MaybePrice
+pub fn maybe_price(row: &[u8], i: usize) -> Option<i64>
     requires { 8 * i + 16 ≤ length row.now }
     ensures { result ≡ maybe_price (word_at row.now i) (word_at row.now (i + 1)) }
 {
     if word(row, i) == 0 {
-        return MaybePrice::None;
+        return None;
     }
-    MaybePrice::Some(price(row, i + 1))
+    Some(price(row, i + 1))
 }
 
-fn maybe_qty(row: &[u8], i: usize) -> MaybeQty
+fn maybe_qty(row: &[u8], i: usize) -> Option<u64>
     requires { 8 * i + 16 ≤ length row.now }
     ensures { result ≡ maybe_qty (word_at row.now i) (word_at row.now (i + 1)) }
 {
     if word(row, i) == 0 {
-        return MaybeQty::None;
+        return None;
     }
-    MaybeQty::Some(word(row, i + 1))
+    Some(word(row, i + 1))
 }
 
 // ---- messages
@@ -79,10 +76,7 @@ fn tif(row: &[u8]) -> TimeInForce
     requires { 56 ≤ length row.now }
     ensures { result ≡ P.tif_at row.now }
 {
-    match codes::tif_of(code(row, 6)) {
-        MaybeTimeInForce::Some(t) => t,
-        MaybeTimeInForce::None => TimeInForce::Gtc,
-    }
+    TimeInForce::try_from(code(row, 6)).unwrap_or(TimeInForce::Gtc)
 }
 
 fn limit(row: &[u8]) -> OrderKind
@@ -180,30 +174,21 @@ pub fn reject_reason(row: &[u8]) -> RejectReason
     requires { length row.now ≡ 128 }
     ensures { result ≡ P.reject_at row.now }
 {
-    match codes::reject_reason_of(code(row, 2)) {
-        MaybeRejectReason::Some(why) => why,
-        MaybeRejectReason::None => RejectReason::InvalidQuantity,
-    }
+    RejectReason::try_from(code(row, 2)).unwrap_or(RejectReason::InvalidQuantity)
 }
 
 pub fn cancel_reason(row: &[u8]) -> CancelReason
     requires { length row.now ≡ 128 }
     ensures { result ≡ P.cancel_at row.now }
 {
-    match codes::cancel_reason_of(code(row, 3)) {
-        MaybeCancelReason::Some(why) => why,
-        MaybeCancelReason::None => CancelReason::Requested,
-    }
+    CancelReason::try_from(code(row, 3)).unwrap_or(CancelReason::Requested)
 }
 
 pub fn phase(row: &[u8], i: usize) -> Phase
     requires { 8 * i + 8 ≤ length row.now }
     ensures { result ≡ P.phase_at row.now i }
 {
-    match codes::phase_of(code(row, i)) {
-        MaybePhase::Some(phase) => phase,
-        MaybePhase::None => Phase::Continuous,
-    }
+    Phase::try_from(code(row, i)).unwrap_or(Phase::Continuous)
 }
 
 fn traded(row: &[u8]) -> Event

@@ -4,7 +4,7 @@ ghost use Rattle.std.specs.Prelude.{◌≡◌, ◌<◌, length};
 ghost use Rattle.script.specs.Script.{word_at};
 ghost use Rattle.script.specs.Records as P;
 
-use accounts::{Account, Funds, MaybeFunds};
+use accounts::{Account, Funds};
 use orderbook::Command;
 
 // The bytes of an account's row.
@@ -94,14 +94,14 @@ pub fn command(row: &[u8]) -> Command
 
 // ---- accounts
 
-fn funds(row: &[u8]) -> MaybeFunds
+fn funds(row: &[u8]) -> Option<Funds>
     requires { length row.now ≡ 56 }
     ensures { result ≡ P.funds (word_at row.now 4) (word_at row.now 5) (word_at row.now 6) }
 {
     if crate::word(row, 4) == 0 {
-        return MaybeFunds::None;
+        return None;
     }
-    MaybeFunds::Some(Funds {
+    Some(Funds {
         cash: crate::price(row, 5),
         position: crate::price(row, 6),
     })

@@ -233,9 +233,7 @@ fn is_account_at(list: &[u8], j: usize) -> bool
 fn all_accounts(list: &[u8]) -> bool
     ensures { result ≡ S.all_fit (S.is_account_at list.now) (account_rows list.now) }
 {
-    let mut j = crate::records::account_rows(list);
-    while 0 < j {
-        j -= 1;
+    for j in (0..crate::records::account_rows(list)).rev() {
         if !is_account_at(list, j) {
             return false;
         }

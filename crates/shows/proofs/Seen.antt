@@ -1,16 +1,14 @@
 -- What is read of an order where it rests, and the tests that it decides. Assumes nothing.
+use Rattle.std.specs.Prelude.{Option, Some, None, is_some}
 use mathlib.Core.Path.{◌≡◌, sym, ap, ◌∙◌}
 use mathlib.Core.Bool.{Bool, true, false, not}
-use mathlib.Core.Option.{Option, none, some}
 use mathlib.Core.List.{List}
 use Prim.Native.Nat.{ℕ, ◌+◌, ◌-◌, ◌≤◌, ◌<◌}
 use native.Mathlib.Omega.{arith}
 use borrow.Author.Tests.{le-leb}
 use lib.ListN.{length}
 use lib.Dec.{leb}
-use Rattle.table.specs.declared.Found.{Found}
-use Rattle.table.specs.declared.Found.TheVariants.{At, Nothing}
-use Rattle.gateway.specs.Basics.{option, is_some}
+use Rattle.gateway.specs.Basics.{option}
 use Rattle.gateway.specs.Limits.{most_changed}
 use Rattle.gateway.specs.Depth as D
 use Rattle.store.specs.Cells as C
@@ -27,22 +25,19 @@ use Rattle.shows.proofs.Changed.{remember_most}
 
 -- ---- an order that rests
 
-module _ (xs : List ℕ) (n : ℕ) (r : Found) (seen : Seen xs n r) (i : ℕ) (e : r ≡ At i) where
+module _ (xs : List ℕ) (n : ℕ) (r : Option ℕ) (seen : Seen xs n r) (i : ℕ) (e : r ≡ Some i) where
   abbrev os : List D.Resting
   os = (depth (cell xs)).resting
 
-  at : Seen xs n (At i)
+  at : Seen xs n (Some i)
   at = rw e at seen
 
   pub row_small : Between xs → i < order_room
   row_small b = omega (arith, at.row.0, b.state.sound.tables.ordered.bounds.orders_fit)
 
-  pub rests_already : false ≡ not (is_some (D.find_resting n os))
-  rests_already = sym (ap (λ (o : Option D.Resting). not (is_some o)) at.order)
-
   module _ (o : Resting) (o_is : o ≡ resting_row (cell xs C.orders i)) where
-    pub found_is : D.find_resting n os ≡ some (resting_of (number_at i (cell xs)) o)
-    found_is = at.order ∙ sym (ap (λ (x : Resting). some (resting_of (number_at i (cell xs)) x)) o_is)
+    pub found_is : D.find_resting n os ≡ Some (resting_of (number_at i (cell xs)) o)
+    found_is = at.order ∙ sym (ap (λ (x : Resting). Some (resting_of (number_at i (cell xs)) x)) o_is)
 
     pub covered : (q : ℕ) → leb q o.visible ≡ D.shows n q os
     covered q = sym (ap (option true (λ (x : D.Resting). leb q x.visible)) found_is)
@@ -65,12 +60,9 @@ module _ (xs : List ℕ) (n : ℕ) (r : Found) (seen : Seen xs n r) (i : ℕ) (e
 
 -- ---- one that does not
 
-module _ (xs : List ℕ) (n : ℕ) (r : Found) (seen : Seen xs n r) (e : r ≡ Nothing) where
-  none_is : D.find_resting n (depth (cell xs)).resting ≡ none
-  none_is = let w : Seen xs n Nothing = rw e at seen in w.order
-
-  pub rests_not : true ≡ not (is_some (D.find_resting n (depth (cell xs)).resting))
-  rests_not = sym (ap (λ (o : Option D.Resting). not (is_some o)) none_is)
+module _ (xs : List ℕ) (n : ℕ) (r : Option ℕ) (seen : Seen xs n r) (e : r ≡ None) where
+  none_is : D.find_resting n (depth (cell xs)).resting ≡ None
+  none_is = let w : Seen xs n None = rw e at seen in w.order
 
   pub uncovered : (q : ℕ) → true ≡ D.shows n q (depth (cell xs)).resting
   uncovered q = sym (ap (option true (λ (x : D.Resting). leb q x.visible)) none_is)
@@ -92,14 +84,27 @@ module _ (xs : List ℕ) (n : ℕ) (r : Found) (seen : Seen xs n r) (e : r ≡ N
   pub both_none : (k : ℕ) (t : Bool) → t ≡ touched_few k (depth (cell xs)) → t ≡ both_few n k (depth (cell xs))
   both_none k t t_is = t_is ∙ ap (λ (l : List D.Key). leb (length (touched k (depth (cell xs)).resting l)) most_changed) (sym (untouched (depth (cell xs)).changed))
 
+-- ---- whether it rests
+
+pub absent_is : (xs : List ℕ) (n : ℕ) (r : Option ℕ) → Seen xs n r → (t : Bool) → is_some r ≡ not t → t ≡ not (is_some (D.find_resting n (depth (cell xs)).resting))
+absent_is xs n r seen t e = flip t e ∙ ap not (go r seen)
+  where
+    flip : (u : Bool) → is_some r ≡ not u → u ≡ not (is_some r)
+    flip true h = ap not (sym h)
+    flip false h = ap not (sym h)
+
+    go : (x : Option ℕ) → Seen xs n x → is_some x ≡ is_some (D.find_resting n (depth (cell xs)).resting)
+    go None s = sym (ap is_some s.order)
+    go (Some i) s = sym (ap is_some s.order)
+
 -- ---- two, where there is room for two
 
 touched_most : (n : ℕ) (os : List D.Resting) (ks : List D.Key) → length (touched n os ks) ≤ length ks + 1
 touched_most n os ks = go (D.find_resting n os)
   where
     go : (x : Option D.Resting) → length (option ks (λ o. D.remember (D.key_of o) ks) x) ≤ length ks + 1
-    go none = omega arith
-    go (some o) = remember_most (D.key_of o) ks
+    go None = omega arith
+    go (Some o) = remember_most (D.key_of o) ks
 
 pub both_short : (xs : List ℕ) (maker taker k : ℕ) → k ≡ word (cell xs) C.changed_rows → k < most_changed - 1 → true ≡ both_few maker taker (depth (cell xs))
 both_short xs maker taker k k_is l =
@@ -109,4 +114,4 @@ both_short xs maker taker k k_is l =
     (le-leb (length (touched taker os (touched maker os ks))) most_changed
     (omega (arith, touched_most taker os (touched maker os ks), touched_most maker os ks, listed_length (λ i. changed_key (cell xs C.changed i)) (word (cell xs) C.changed_rows))))
 
-pub ruleset seen_laws = (row_small, rests_already, covered, room_found, other_found, both_found, rests_not, uncovered, room_none, other_none, both_none, both_short, arith)
+pub ruleset seen_laws = (row_small, absent_is, covered, room_found, other_found, both_found, uncovered, room_none, other_none, both_none, both_short, arith)

@@ -1,22 +1,18 @@
 -- What is stored of a level, and the tests that it decides. Assumes nothing.
-use mathlib.Core.Path.{◌≡◌, refl, sym, ap, ap₂, ◌∙◌}
+use Rattle.std.specs.Prelude.{Option, Some, None}
+use mathlib.Core.Path.{◌≡◌, refl, sym, ap, ◌∙◌}
 use mathlib.Core.Bool.{Bool, true, false, not, ◌&&◌}
 use mathlib.Core.Logic.{⊎_elim}
-use mathlib.Core.Option.{some}
 use mathlib.Core.List.{List}
 use Prim.Native.Nat.{ℕ, suc, ◌+◌, ◌-◌, ◌^◌, ◌≤◌, ◌<◌}
 use native.Mathlib.Omega.{arith}
 use borrow.Author.Tests.{eq-eqb, ne_eqb, le-leb, lt-leb, lt-ltb, le-ltb}
 use lib.ListN.{length}
 use lib.Dec.{eqb, ltb, leb}
-use lib.IntN.{ℤ}
 use Rattle.le.proofs.Laws.{lt_or_le}
 use Rattle.orderbook.specs.declared.Side.{Side}
-use Rattle.words.specs.Words.{int, half, ◌⊖◌, modulus}
-use Rattle.table.specs.Live.{look}
+use Rattle.words.specs.Words.{int, modulus}
 use Rattle.table.proofs.Live.{same?}
-use Rattle.table.specs.declared.Found.{Found}
-use Rattle.table.specs.declared.Found.TheVariants.{At, Nothing}
 use Rattle.gateway.specs.Basics.{option}
 use Rattle.gateway.specs.Limits.{most_orders, most_levels, most_changed}
 use Rattle.gateway.specs.Depth as D
@@ -33,9 +29,7 @@ use Rattle.orders.specs.declared.Resting.{Resting}
 use Rattle.orders.specs.Orders.{resting_row, resting_of, number_at}
 use Rattle.levels.specs.declared.Row.{Row}
 use Rattle.levels.specs.Levels as L
-use Rattle.levels.proofs.Best.{level_of}
 use Rattle.pending.specs.Pending as Pending
-use Rattle.sound.specs.Sound.{State}
 use Rattle.sound.proofs.Listed.{size_levels}
 use Rattle.marketdata.specs.Marketdata.{replenished, IsLevel}
 use Rattle.marketdata.proofs.Events.{Seen}
@@ -50,18 +44,18 @@ below q v l =
 
 -- ---- code 7 for an order that shows its next part
 
-module _ {xs : List ℕ} (b : Between xs) (n : ℕ) (r : Found) (seen : Seen xs n r) where
+module _ {xs : List ℕ} (b : Between xs) (n : ℕ) (r : Option ℕ) (seen : Seen xs n r) where
   abbrev before : D.Depth
   before = depth (cell xs)
 
-  module _ (i : ℕ) (e : r ≡ At i) (o : Resting) (o_is : o ≡ resting_row (cell xs C.orders i)) (l : Row) (l_is : IsLevel (side o.side) (int o.price) before l) where
+  module _ (i : ℕ) (e : r ≡ Some i) (o : Resting) (o_is : o ≡ resting_row (cell xs C.orders i)) (l : Row) (l_is : IsLevel (side o.side) (int o.price) before l) where
     abbrev mine : D.Resting
     mine = resting_of (number_at i (cell xs)) o
 
-    found : D.find_resting n before.resting ≡ some mine
+    found : D.find_resting n before.resting ≡ Some mine
     found = found_is xs n r seen i e o o_is
 
-    there : D.find_resting mine.number before.resting ≡ some mine
+    there : D.find_resting mine.number before.resting ≡ Some mine
     there = ap (λ k. D.find_resting k before.resting) (look_key D.resting_number n mine before.resting found) ∙ found
 
     -- its level shows it
@@ -74,9 +68,9 @@ module _ {xs : List ℕ} (b : Between xs) (n : ℕ) (r : Found) (seen : Seen xs 
         ∙ sym (shown_fits mine before b.ok.rest_is.feed.ascending there b.ok.rest_is.feed.fit v o.leaves)
         ∙ sym (ap (λ x. D.levels_fit (option before (λ o. replenished v o before) x).resting) found)
 
-  pub reshow_none : r ≡ Nothing → (v : ℕ) → true ≡ D.levels_fit (D.where_resting n (replenished v) before).resting
+  pub reshow_none : r ≡ None → (v : ℕ) → true ≡ D.levels_fit (D.where_resting n (replenished v) before).resting
   reshow_none e v =
-      let w : Seen xs n Nothing = rw e at seen in
+      let w : Seen xs n None = rw e at seen in
       sym (ap (λ x. D.levels_fit (option before (λ o. replenished v o before) x).resting) w.order ∙ b.ok.rest_is.feed.fit)
 
 -- ---- codes 7 and 5 for an order that comes to rest

@@ -1,10 +1,8 @@
 -- What an event asks of the depth before it is applied.
-use Rattle.std.specs.Prelude.{ℕ, ◌+◌, ◌≤◌, ◌≡◌, Bool, List, leb, ℤ, length}
-use Rattle.orderbook.specs.declared.Side.{Side}
+use Rattle.std.specs.Prelude.{ℕ, ◌+◌, ◌≤◌, ◌≡◌, Bool, List, leb, length}
 use Rattle.gateway.specs.Basics.{option}
 use Rattle.gateway.specs.Limits.{most_changed}
-use Rattle.gateway.specs.Depth.{Resting, Depth, Key, level_in, levels, key_of, find_resting, remember}
-use Rattle.levels.specs.declared.Row.{Row}
+use Rattle.gateway.specs.Depth.{Resting, Depth, Key, key_of, find_resting, remember}
 
 -- the changed levels ks with that of the order n, where it rests
 abbrev pub touched : ℕ → List Resting → List Key → List Key

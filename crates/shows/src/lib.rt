@@ -2,9 +2,8 @@
 // depth's tables (code 5). `at` is the place of the resting order `id`.
 #![tactic(auto)]
 
-ghost use Rattle.std.specs.Prelude.{◌≡◌, not, length, leb};
+ghost use Rattle.std.specs.Prelude.{◌≡◌, not, length, leb, is_some};
 ghost use Rattle.words.specs.Words.{int};
-ghost use Rattle.gateway.specs.Basics.{is_some};
 ghost use Rattle.gateway.specs.Limits.{most_levels, most_changed};
 ghost use Rattle.gateway.specs.Depth as D;
 ghost use Rattle.store.specs.Cells as C;
@@ -20,27 +19,23 @@ ghost use Rattle.shows.specs.Shows as P;
 
 use orders::Resting;
 use store::{cells, limits};
-use table::Found;
 
 // ---- code 8
 
 // No order of that number rests.
-pub fn is_absent(m: &[u8], id: u64, at: Found) -> bool
+pub fn is_absent(m: &[u8], id: u64, at: Option<usize>) -> bool
     requires { Between m.now × Sees C.order_resting resting D.resting_number (cell m.now) id at }
     ensures { result ≡ not (is_some (D.find_resting id (depth (cell m.now)).resting)) }
 {
-    match at {
-        Found::At(_) => false,
-        Found::Nothing => true,
-    }
+    at.is_none()
 }
 
 // A fill of `qty` is at most what the order shows.
-pub fn covers(m: &[u8], id: u64, at: Found, qty: u64) -> bool
+pub fn covers(m: &[u8], id: u64, at: Option<usize>, qty: u64) -> bool
     requires { Between m.now × Sees C.order_resting resting D.resting_number (cell m.now) id at }
     ensures { result ≡ D.shows id qty (depth (cell m.now)).resting }
 {
-    if let Found::At(i) = at {
+    if let Some(i) = at {
         let o = orders::resting_at(m, i);
         return qty <= o.visible;
     }
@@ -61,11 +56,11 @@ fn level_room(m: &[u8], side: u64, price: u64) -> bool
 }
 
 // Room for the level of an order that goes or shows something else.
-pub fn has_room(m: &[u8], id: u64, at: Found) -> bool
+pub fn has_room(m: &[u8], id: u64, at: Option<usize>) -> bool
     requires { Between m.now × Sees C.order_resting resting D.resting_number (cell m.now) id at }
     ensures { result ≡ P.touched_few id (depth (cell m.now)) }
 {
-    if let Found::At(i) = at {
+    if let Some(i) = at {
         let o = orders::resting_at(m, i);
         return level_room(m, o.side, o.price);
     }
@@ -108,22 +103,28 @@ fn levels_room(m: &[u8], o: Resting, p: Resting) -> bool
 }
 
 // Room for the level of o and that of an order, where it rests.
-fn other_room(m: &[u8], o: Resting, id: u64, at: Found) -> bool
+fn other_room(m: &[u8], o: Resting, id: u64, at: Option<usize>) -> bool
     requires { Between m.now × Sees C.order_resting resting D.resting_number (cell m.now) id at }
     ensures { result ≡ leb (length (P.touched id (depth (cell m.now)).resting (D.remember (Pending.key o.side o.price) (depth (cell m.now)).changed))) most_changed }
 {
-    if let Found::At(i) = at {
+    if let Some(i) = at {
         let p = orders::resting_at(m, i);
         return levels_room(m, o, p);
     }
     level_room(m, o.side, o.price)
 }
 
-fn exact_room(m: &[u8], maker: u64, maker_at: Found, taker: u64, taker_at: Found) -> bool
+fn exact_room(
+    m: &[u8],
+    maker: u64,
+    maker_at: Option<usize>,
+    taker: u64,
+    taker_at: Option<usize>,
+) -> bool
     requires { Between m.now × Sees C.order_resting resting D.resting_number (cell m.now) maker maker_at × Sees C.order_resting resting D.resting_number (cell m.now) taker taker_at }
     ensures { result ≡ P.both_few maker taker (depth (cell m.now)) }
 {
-    if let Found::At(i) = maker_at {
+    if let Some(i) = maker_at {
         let o = orders::resting_at(m, i);
         return other_room(m, o, taker, taker_at);
     }
@@ -131,7 +132,13 @@ fn exact_room(m: &[u8], maker: u64, maker_at: Found, taker: u64, taker_at: Found
 }
 
 // Room for the levels of two orders.
-pub fn pair_room(m: &[u8], maker: u64, maker_at: Found, taker: u64, taker_at: Found) -> bool
+pub fn pair_room(
+    m: &[u8],
+    maker: u64,
+    maker_at: Option<usize>,
+    taker: u64,
+    taker_at: Option<usize>,
+) -> bool
     requires { Between m.now × Sees C.order_resting resting D.resting_number (cell m.now) maker maker_at × Sees C.order_resting resting D.resting_number (cell m.now) taker taker_at }
     ensures { result ≡ P.both_few maker taker (depth (cell m.now)) }
 {
@@ -144,11 +151,11 @@ pub fn pair_room(m: &[u8], maker: u64, maker_at: Found, taker: u64, taker_at: Fo
 // ---- code 7
 
 // The level of an order that shows its next part stays in range.
-pub fn reshow_fits(m: &[u8], id: u64, at: Found, visible: u64) -> bool
+pub fn reshow_fits(m: &[u8], id: u64, at: Option<usize>, visible: u64) -> bool
     requires { Between m.now × Sees C.order_resting resting D.resting_number (cell m.now) id at }
     ensures { result ≡ D.levels_fit (D.where_resting id (replenished visible) (depth (cell m.now))).resting }
 {
-    if let Found::At(i) = at {
+    if let Some(i) = at {
         let o = orders::resting_at(m, i);
         let l = marketdata::level_of(m, o.side, o.price);
         return l.qty - o.visible <= limits::GREATEST - visible;

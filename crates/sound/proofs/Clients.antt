@@ -1,17 +1,16 @@
 -- Accounts and sessions: each operation keeps the state sound. Assumes nothing.
+use Rattle.std.specs.Prelude.{Option, Some, None, is_some}
 use mathlib.Core.Path.{◌≡◌, refl, ◌∙◌}
 use mathlib.Core.Bool.{true, cond}
 use mathlib.Core.List.{List}
-use mathlib.Core.Option.{none}
 use Prim.Native.Nat.{ℕ, ◌+◌, ◌-◌, ◌^◌, ◌<◌}
 use native.Mathlib.Omega.{arith}
 use borrow.Author.Tests.{ne_eqb}
 use Rattle.orderbook.specs.declared.Side.TheVariants.{Buy, Sell}
 use Rattle.accounts.specs.declared.Account.{Account}
-use Rattle.accounts.specs.declared.MaybeFunds as F
+use Rattle.accounts.specs.declared.Funds.{Funds}
 use Rattle.risk.specs.declared.Bucket.{Bucket}
 use Rattle.risk.specs.Throttle as Throttle
-use Rattle.gateway.specs.Basics.{is_some}
 use Rattle.gateway.specs.Limits.{owner_slots, session_slots}
 use Rattle.gateway.specs.Rest.{account_of}
 use Rattle.gateway.proofs.Base.{split}
@@ -103,9 +102,9 @@ batch_there {s} {t} e f j l =
     let h : j < word s C.waiting = rw (e C.header 0 C.waiting (λ q. omega arith) (λ q. omega arith)) at l in
     record { owner_fits = rw (e C.batch j C.command_owner (λ q. omega arith) (λ q. omega arith)) (f j h).owner_fits }
 
-funds_spared : (i : ℕ) (f : F.MaybeFunds) (s : Store) (a : ℕ) → caches (P.set_funds i f s) a ≡ caches s a
-funds_spared i F.TheVariants.None s a = spared i (P.funds_cells F.TheVariants.None) s (refl, refl, refl) a
-funds_spared i (F.TheVariants.Some f) s a = spared i (P.funds_cells (F.TheVariants.Some f)) s (refl, refl, refl) a
+funds_spared : (i : ℕ) (f : Option Funds) (s : Store) (a : ℕ) → caches (P.set_funds i f s) a ≡ caches s a
+funds_spared i None s a = spared i (P.funds_cells None) s (refl, refl, refl) a
+funds_spared i (Some f) s a = spared i (P.funds_cells (Some f)) s (refl, refl, refl) a
 
 module _ (s : Store) (d : Sound s) where
   made : {t : Store} → Elsewhere s t → ((a : ℕ) → caches t a ≡ caches s a) → Linked t → Limited t → Sound t
@@ -133,7 +132,7 @@ module _ (s : Store) (d : Sound s) where
 
   -- ---- sessions
 
-  pub connect_sound : (i t : ℕ) → session (s C.sessions i) ≡ none → Sound (P.connect i t s)
+  pub connect_sound : (i t : ℕ) → session (s C.sessions i) ≡ None → Sound (P.connect i t s)
   connect_sound i t e =
       made (in_sessions i (P.connect_cells t) s) (session_caches i (P.connect_cells t) s) (linked_connect i t s e d.clients.linked) (limited_connect i t s d.clients.limited)
 
@@ -150,7 +149,7 @@ module _ (s : Store) (d : Sound s) where
         write_cell C.accounts a C.account_session v t b C.account_open_orders (λ e. omega arith) z,
       )
 
-  pub log_in_sound : (i a : ℕ) → i < session_slots → a < owner_slots → is_some (session (s C.sessions i)) ≡ true → account_of (session (s C.sessions i)) ≡ none → s C.accounts a C.account_session ≡ 0 → Sound (P.log_in i a s)
+  pub log_in_sound : (i a : ℕ) → i < session_slots → a < owner_slots → is_some (session (s C.sessions i)) ≡ true → account_of (session (s C.sessions i)) ≡ None → s C.accounts a C.account_session ≡ 0 → Sound (P.log_in i a s)
   log_in_sound i a li la e n z =
       made (λ b j c x y. rw (ne_eqb b C.accounts x, ne_eqb b C.sessions y) refl) (account_session_spared a (i + 1) (write C.sessions i C.session_account (a + 1) s))
       (linked_log_in i a s li la e n z d.clients.linked) (limited_log_in i a s d.clients.limited)

@@ -1,4 +1,5 @@
 -- What leaves a part of the state alone keeps the part of the invariant that speaks of it. Assumes nothing.
+use Rattle.std.specs.Prelude.{Option, is_some}
 use mathlib.Core.Path.{◌≡◌, refl, sym, ap, ◌∙◌, subst}
 use mathlib.Core.List.{List}
 use mathlib.Core.Logic.{inl}
@@ -9,10 +10,8 @@ use lib.ListN.{length, get_or}
 use Rattle.orderbook.specs.declared.Side.{Side}
 use Rattle.orderbook.specs.declared.Side.TheVariants.{Buy, Sell}
 use Rattle.words.specs.Words.{int, wrap}
-use Rattle.table.specs.declared.Found.{Found}
 use Rattle.table.proofs.Live.{live_ext, ascends_ext}
 use Rattle.gateway.specs.Limits.{owner_slots, session_slots, most_levels}
-use Rattle.gateway.specs.Basics.{is_some}
 use Rattle.gateway.specs.Ledger.{number_of, find, order_hold, held, open_of}
 use Rattle.gateway.specs.Depth as Depth
 use Rattle.gateway.specs.Calls.{Gateway}
@@ -256,7 +255,7 @@ pub in_place : {xs ys : List ℕ} {t : Store} {g : Gateway} → State xs → Is 
 in_place st h d e q = record { becomes = becomes h d e; stays = stays_bytes st.sound.tables.ordered.bounds q h }
 
 -- ---- a place survives where no row moves: the order is there as before
-module _ {xs ys : List ℕ} {g : Gateway} (b : InPlace xs ys g) (n : ℕ) (at : Found) where
+module _ {xs ys : List ℕ} {g : Gateway} (b : InPlace xs ys g) (n : ℕ) (at : Option ℕ) where
   sorted : Sorted (cell ys)
   sorted = b.becomes.state.sound.tables.ordered.sorted
 

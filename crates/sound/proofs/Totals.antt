@@ -1,8 +1,8 @@
 -- What the live orders hold and how many there are, where one of them comes, changes or goes. Assumes nothing.
+use Rattle.std.specs.Prelude.{Option, Some, None, is_some}
 use mathlib.Core.Path.{◌≡◌, refl, sym, ap, ◌∙◌}
 use mathlib.Core.Bool.{true, false, cond, ◌&&◌}
 use mathlib.Core.Logic.{⊎_elim}
-use mathlib.Core.Option.{Option, none, some}
 use mathlib.Core.List.{List, [], ◌∷◌, ◌++◌}
 use Prim.Native.Nat.{ℕ, suc, ◌+◌, ◌≤◌, ◌<◌}
 use native.Mathlib.Omega.{arith}
@@ -17,7 +17,6 @@ use Rattle.words.proofs.Wrap.{diff_of, int_wrap, wrap_shift}
 use Rattle.table.specs.Live.{Each}
 use Rattle.table.proofs.Lists.{each_map}
 use Rattle.table.proofs.Live.{same?}
-use Rattle.gateway.specs.Basics.{is_some}
 use Rattle.gateway.specs.Limits.{owner_slots}
 use Rattle.gateway.specs.Ledger.{Order, order_hold, same_side, held, fits, open_of}
 use Rattle.gateway.proofs.Base.{split}
@@ -83,9 +82,9 @@ module _ (a : ℕ) where
 
 -- ---- a total that fits is exact: what code 7 judges
 
-some_not_none : {A : Type 0} (o : Option A) → is_some o ≡ true → o ≡ none → ⊥
-some_not_none none t e = let z : ◌≡◌ {A = ℕ} 0 1 = cc in omega (arith, z)
-some_not_none (some a) t e = let z : ◌≡◌ {A = ℕ} 0 1 = cc in omega (arith, z)
+some_not_none : {A : Type 0} (o : Option A) → is_some o ≡ true → o ≡ None → ⊥
+some_not_none None t e = let z : ◌≡◌ {A = ℕ} 0 1 = cc in omega (arith, z)
+some_not_none (Some a) t e = let z : ◌≡◌ {A = ℕ} 0 1 = cc in omega (arith, z)
 
 pub total_exact : (s : Store) (a : ℕ) (z : Side) → Held s → a < owner_slots → fits (held (ledger s).fee a z (ledger s).orders) ≡ true →
     int (s C.accounts a (held_cell z)) ≡ held (ledger s).fee a z (ledger s).orders

@@ -1,8 +1,8 @@
 -- The state that begins is sound and holds the definitions' start; an account more is one more of the start's accounts. Assumes nothing.
+use Rattle.std.specs.Prelude.{Option, Some, None}
 use mathlib.Core.Path.{◌≡◌, refl, sym, ap, ◌∙◌}
 use mathlib.Core.Bool.{true, cond}
 use mathlib.Core.List.{List, [], ◌∷◌, ◌++◌}
-use mathlib.Core.Option.{Option, none, some}
 use Prim.Native.Nat.{ℕ, zero, suc, ◌+◌, ◌^◌, ◌≤◌, ◌<◌}
 use native.Mathlib.Nat.{not-suc-le-zero}
 use native.Mathlib.Omega.{arith}
@@ -13,7 +13,6 @@ use lib.ListN.{length, set, replicate}
 use Rattle.accounts.specs.declared.Account.{Account}
 use Rattle.accounts.specs.declared.Funds.{Funds}
 use Rattle.accounts.specs.declared.Timing.{Timing}
-use Rattle.orderbook.specs.declared.MaybePrice.TheVariants.{None}
 use Rattle.orderbook.specs.declared.Side.{Side}
 use Rattle.orderbook.specs.declared.Side.TheVariants.{Buy, Sell}
 use Rattle.risk.specs.declared.Bucket.{Bucket}
@@ -57,11 +56,11 @@ listed_same x (suc n) = ap (λ l. l ++ (x ∷ [])) (listed_same x n) ∙ more n
     more zero = refl
     more (suc n) = ap (λ l. x ∷ l) (more n)
 
-by_slot_nobody : {A : Type 0} (f : Option Account → A) (n m : ℕ) → by_slot f n (replicate m none) ≡ replicate n (f none)
+by_slot_nobody : {A : Type 0} (f : Option Account → A) (n m : ℕ) → by_slot f n (replicate m None) ≡ replicate n (f None)
 by_slot_nobody f zero zero = refl
 by_slot_nobody f zero (suc m) = refl
-by_slot_nobody f (suc n) zero = ap (λ l. f none ∷ l) (by_slot_nobody f n zero)
-by_slot_nobody f (suc n) (suc m) = ap (λ l. f none ∷ l) (by_slot_nobody f n m)
+by_slot_nobody f (suc n) zero = ap (λ l. f None ∷ l) (by_slot_nobody f n zero)
+by_slot_nobody f (suc n) (suc m) = ap (λ l. f None ∷ l) (by_slot_nobody f n m)
 
 module _ (fee limit last : ℕ) (t : Timing) (few : limit ≤ owner_slots) where
   abbrev s : Store
@@ -76,7 +75,7 @@ module _ (fee limit last : ℕ) (t : Timing) (few : limit ≤ owner_slots) where
             record {
               timing = t;
               clock = 0;
-              sessions = replicate session_slots none;
+              sessions = replicate session_slots None;
               buckets = bs;
               batch = [];
               delivered = last;
@@ -84,19 +83,19 @@ module _ (fee limit last : ℕ) (t : Timing) (few : limit ≤ owner_slots) where
               depth = record { resting = []; changed = [] };
               trades = [];
               notices = [];
-              collar = none;
+              collar = None;
             };
       }
 
-  nobody : {A : Type 0} (f : Option Account → A) → listed (λ i. f none) owner_slots ≡ by_slot f owner_slots (replicate limit none)
-  nobody f = listed_same (f none) owner_slots ∙ sym (by_slot_nobody f owner_slots limit)
+  nobody : {A : Type 0} (f : Option Account → A) → listed (λ i. f None) owner_slots ≡ by_slot f owner_slots (replicate limit None)
+  nobody f = listed_same (f None) owner_slots ∙ sym (by_slot_nobody f owner_slots limit)
 
-  cells_view : gateway s ≡ shape (listed (λ i. funds_in none) owner_slots) (listed (λ i. bucket_of none) owner_slots) (listed (λ i. none) limit)
+  cells_view : gateway s ≡ shape (listed (λ i. funds_in None) owner_slots) (listed (λ i. bucket_of None) owner_slots) (listed (λ i. None) limit)
   unfolding fill listed live
   cells_view = refl
 
   pub begun_view : gateway s ≡ begun (int fee) limit last t []
-  begun_view = cells_view ∙ (λ z. shape (nobody funds_in z) (nobody bucket_of z) (listed_same {A = Option Account} none limit z))
+  begun_view = cells_view ∙ (λ z. shape (nobody funds_in z) (nobody bucket_of z) (listed_same {A = Option Account} None limit z))
 
   pub begun_sound : Sound s
   unfolding fill used size entries live wrap
@@ -129,9 +128,9 @@ module _ (fee limit last : ℕ) (t : Timing) (few : limit ≤ owner_slots) where
 
 -- ---- an account more
 
-entered_more : (t : List (Option Account)) (l : List Account) (a : Account) → entered t (l ++ (a ∷ [])) ≡ set (entered t l) a.id (some a)
+entered_more : (t : List (Option Account)) (l : List Account) (a : Account) → entered t (l ++ (a ∷ [])) ≡ set (entered t l) a.id (Some a)
 entered_more t [] a = refl
-entered_more t (b ∷ l) a = entered_more (set t b.id (some b)) l a
+entered_more t (b ∷ l) a = entered_more (set t b.id (Some b)) l a
 
 by_slot_set : {A : Type 0} (f : Option Account → A) (n : ℕ) (t : List (Option Account)) (i : ℕ) (x : Option Account) → i < n → i < length t → by_slot f n (set t i x) ≡ set (by_slot f n t) i (f x)
 by_slot_set f zero t i x h l = absurd (not-suc-le-zero h)
@@ -150,18 +149,18 @@ module _ (fee limit last : ℕ) (t : Timing) (few : limit ≤ owner_slots) (l : 
       ((ap (by_slot bucket_of owner_slots) more ∙ slot bucket_of) z)
       (more z))
     where
-      more : accounts_of limit (l ++ (a ∷ [])) ≡ set (accounts_of limit l) a.id (some a)
-      more = entered_more (replicate limit none) l a
+      more : accounts_of limit (l ++ (a ∷ [])) ≡ set (accounts_of limit l) a.id (Some a)
+      more = entered_more (replicate limit None) l a
 
-      slot : {A : Type 0} (f : Option Account → A) → by_slot f owner_slots (set (accounts_of limit l) a.id (some a)) ≡ set (by_slot f owner_slots (accounts_of limit l)) a.id (f (some a))
-      slot f = by_slot_set f owner_slots (accounts_of limit l) a.id (some a) (omega arith) (rw (accounts_length limit l) h)
+      slot : {A : Type 0} (f : Option Account → A) → by_slot f owner_slots (set (accounts_of limit l) a.id (Some a)) ≡ set (by_slot f owner_slots (accounts_of limit l)) a.id (f (Some a))
+      slot f = by_slot_set f owner_slots (accounts_of limit l) a.id (Some a) (omega arith) (rw (accounts_length limit l) h)
 
   -- nothing is held
   nothing_held : (a : ℕ) (ws : List (Option Funds)) → wallets_fit (int fee) a ws [] ≡ true
   unfolding fits place_of
   nothing_held a [] = refl
-  nothing_held a (none ∷ ws) = nothing_held (suc a) ws
-  nothing_held a (some w ∷ ws) = nothing_held (suc a) ws
+  nothing_held a (None ∷ ws) = nothing_held (suc a) ws
+  nothing_held a (Some w ∷ ws) = nothing_held (suc a) ws
 
   -- it is what set-up gives for these accounts and no orders
   pub begun_started : le_z (pos 0) (int fee) ≡ true → all_below limit l ≡ true → set_up (int fee) limit last l [] t ≡ started (begun (int fee) limit last t l)

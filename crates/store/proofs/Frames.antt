@@ -9,7 +9,7 @@ use Rattle.words.specs.Words.{int}
 use Rattle.gateway.specs.Limits.{owner_slots, session_slots, most_in_flight}
 use Rattle.store.specs.Layout.{blocks, rows, width}
 use Rattle.store.specs.Cells as C
-use Rattle.store.specs.View.{Row, Store, Same, listed, optional, maybe_price, word, account, wallet, bucket, session, flight, command, order, resting, trade, changed_key, marked, in_slot, ledger, flights, depth, gateway, Bounds}
+use Rattle.store.specs.View.{Row, Store, Same, listed, optional, maybe_price, word, account, wallet, bucket, session, flight, command, order, resting, trade, changed_key, marked, in_slot, flights, gateway, Bounds}
 use Rattle.store.proofs.Listed.{listed_ext}
 
 -- two rows agree in their first n cells

@@ -1,10 +1,7 @@
 -- The gateway of the definitions that the cells hold. It forgets the caches: holds, held totals, open counts, levels, links, tops and hints.
-use Rattle.std.specs.Prelude.{ℕ, zero, suc, ◌+◌, ◌-◌, ◌%◌, ◌≤◌, ◌≡◌, Bool, cond, not, ◌&&◌, List, [], ◌∷◌, ◌++◌, map, eqb}
-use Rattle.std.proofs.Math.Option.{Option, none, some}
+use Rattle.std.specs.Prelude.{ℕ, zero, suc, ◌+◌, ◌-◌, ◌%◌, ◌≤◌, ◌≡◌, Bool, cond, not, ◌&&◌, List, [], ◌∷◌, ◌++◌, map, eqb, Option, Some, None, ℤ}
 use Rattle.orderbook.specs.declared.Side.{Side}
 use Rattle.orderbook.specs.declared.Side.TheVariants.{Buy, Sell}
-use Rattle.orderbook.specs.declared.MaybePrice as P
-use Rattle.orderbook.specs.declared.MaybeQty as Q
 use Rattle.orderbook.specs.declared.TimeInForce.{TimeInForce}
 use Rattle.orderbook.specs.declared.TimeInForce.TheVariants.{Gtc, Ioc, Fok, PostOnly}
 use Rattle.orderbook.specs.declared.Command.{Command}
@@ -12,7 +9,6 @@ use Rattle.orderbook.specs.declared.Command.TheVariants.{Limit, Market, Cancel, 
 use Rattle.protocol.specs.declared.TradeTick.{TradeTick}
 use Rattle.accounts.specs.declared.Account.{Account}
 use Rattle.accounts.specs.declared.Funds.{Funds}
-use Rattle.accounts.specs.declared.MaybeFunds as F
 use Rattle.risk.specs.declared.Bucket.{Bucket}
 use Rattle.words.specs.Words.{int, half, ◌⊖◌}
 use Rattle.table.specs.Live.{live}
@@ -56,17 +52,17 @@ abbrev pub flag : ℕ → Bool
 flag n = not (eqb n 0)
 
 abbrev pub maybe : {A : Type 0} → ℕ → A → Option A
-maybe n a = cond (flag n) (some a) none
+maybe n a = cond (flag n) (Some a) None
 
 -- one more than the number, or 0
 abbrev pub optional : ℕ → Option ℕ
 optional n = maybe n (n - 1)
 
-abbrev pub maybe_price : ℕ → ℕ → P.MaybePrice
-maybe_price n w = cond (flag n) (P.TheVariants.Some (int w)) P.TheVariants.None
+abbrev pub maybe_price : ℕ → ℕ → Option ℤ
+maybe_price n w = cond (flag n) (Some (int w)) None
 
-abbrev pub maybe_qty : ℕ → ℕ → Q.MaybeQty
-maybe_qty n q = cond (flag n) (Q.TheVariants.Some q) Q.TheVariants.None
+abbrev pub maybe_qty : ℕ → ℕ → Option ℕ
+maybe_qty n q = cond (flag n) (Some q) None
 
 abbrev pub side : ℕ → Side
 side n = cond (flag n) Sell Buy
@@ -86,8 +82,8 @@ account i r =
       messages_per_second = r C.account_rate;
       funds =
           cond (flag (r C.account_funded))
-          (F.TheVariants.Some (record { cash = int (r C.account_funds_cash); position = int (r C.account_funds_position) }))
-          F.TheVariants.None;
+          (Some (record { cash = int (r C.account_funds_cash); position = int (r C.account_funds_position) }))
+          None;
     })
 
 abbrev pub wallet : Row → Option Funds

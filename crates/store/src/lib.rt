@@ -98,10 +98,8 @@ pub fn fill(m: &mut [u8], b: usize, i: usize, k: usize, vs: &[u64])
     requires { Holds m.old × Cells b i k (length vs.now) }
     ensures { Is m.new (fill b i k vs.now (cell m.old)) }
 {
-    let mut j: usize = 0;
-    while j < vs.len() {
-        set(m, b, i, k + j, vs[j]);
-        j += 1;
+    for (j, v) in vs.iter().enumerate() {
+        set(m, b, i, k + j, *v);
     }
 }
 
@@ -110,10 +108,8 @@ pub fn read(m: &[u8], b: usize, i: usize, k: usize, vs: &mut [u64])
     requires { Holds m.now × Cells b i k (length vs.old) }
     ensures { vs.new ≡ listed (λ j. cell m.now b i (k + j)) (length vs.old) }
 {
-    let mut j: usize = 0;
-    while j < vs.len() {
-        vs[j] = get(m, b, i, k + j);
-        j += 1;
+    for (j, v) in vs.iter_mut().enumerate() {
+        *v = get(m, b, i, k + j);
     }
 }
 
@@ -122,10 +118,8 @@ pub fn clear(m: &mut [u8])
     requires { Holds m.old }
     ensures { Is m.new zeros }
 {
-    let mut i: usize = 0;
-    while i < 58449 {
+    for i in 0..58449 {
         le::put_u64(m, 8 * i, 0);
-        i += 1;
     }
 }
 

@@ -4,22 +4,12 @@ use mathlib.Core.Bool.{false≢true}
 use lib.Bits.{bit_and, and_mask}
 use types.Run.{OneOf}
 use borrow.Author.Tests.{not-true, not-false}
-use Rattle.le.specs.Checked.{loaded, stored}
-use Rattle.le.specs.declared.Loaded.{Loaded}
-use Rattle.le.specs.declared.Loaded.TheVariants.{Value, Refused}
+use Rattle.le.specs.Checked.{stored}
 use Rattle.le.proofs.Laws.{lt_or_le}
 use Rattle.stored.specs.declared.Tally.{Tally}
 use Rattle.stored.specs.Rows as R
 
 -- ---- words
-
-pub load_some : (xs : List ℕ) (o w : ℕ) (l : Loaded) → l ≡ loaded xs o 8 → l ≡ Value w → w ≡ R.load_at xs o
-unfolding R.load_at
-load_some xs o w l e f = ap R.value (sym f ∙ e)
-
-pub load_none : (xs : List ℕ) (o : ℕ) (l : Loaded) → l ≡ loaded xs o 8 → l ≡ Refused → 0 ≡ R.load_at xs o
-unfolding R.load_at
-load_none xs o l e f = ap R.value (sym f ∙ e)
 
 pub word_in : (xs : List ℕ) (i w : ℕ) → i < 65536 → w ≡ R.load_at xs (8 * i) → w ≡ R.word_at xs i
 unfolding R.word_at
@@ -37,11 +27,9 @@ pub put_out : (xs : List ℕ) (i w : ℕ) → 16 ≤ i → xs ≡ R.put_at xs i 
 unfolding R.put_at
 put_out xs i w h = rw (le-ltb i 16 h) refl
 
+-- for the crates above
 pub put_then : (xs ys zs : List ℕ) (i v j w : ℕ) → ys ≡ R.put_at xs i v → zs ≡ R.put_at ys j w → zs ≡ R.put_at (R.put_at xs i v) j w
 put_then xs ys zs i v j w e f = f ∙ ap (λ (x : List ℕ). R.put_at x j w) e
-
-pub plain_is : (xs ys : List ℕ) (w : ℕ) → w ≡ R.word_at xs 0 → ys ≡ R.put_at xs 0 (w % 32) → ys ≡ R.plain xs
-plain_is xs ys w e f = f ∙ ap (λ (v : ℕ). R.put_at xs 0 (v % 32)) e
 
 -- the loop of `tail`
 module _ (xs : List ℕ) (from : ℕ) where
@@ -136,15 +124,6 @@ module _ (xs : List ℕ) (k n m : ℕ) (e : k ≡ R.word_at xs 0) where
     unfolding R.bytes_at
     bytes_else a b f = rw (← e, ne_eqb k 6 h6, ne_eqb k 0 (λ q. h (inl q)), ne_eqb k 18 (λ q. h (inr q)), ne_eqb k 19 a, ne_eqb k 20 b, f) refl
 
--- ---- a row without its answer
-
-module _ (xs ys : List ℕ) (g : Bool) (e : ys ≡ R.put_at xs 2 18446744073709551615) (f : g ≡ R.is_given xs) where
-  pub cleared_given : g ≡ true → ys ≡ R.unanswered xs
-  cleared_given h = rw (← f, h) e
-
-  pub cleared_open : (zs : List ℕ) → g ≡ false → zs ≡ R.put_at ys 3 0 → zs ≡ R.unanswered xs
-  cleared_open zs h k = rw (← f, h, ← e) k
-
 -- ---- the count
 
 module _ (xs : List ℕ) (s : Bool) (e : s ≡ R.is_start xs) where
@@ -186,8 +165,4 @@ tells_yes b A t e = (λ _. t.0 e, λ _. refl)
 pub tells_no : (b : Bool) (A : Type 0) → R.Tells b A → b ≡ false → R.Tells false A
 tells_no b A t e = (λ f. absurd (false≢true f), λ h. sym e ∙ t.1 h)
 
--- the row that a code alone answers
-pub code_told : (row bare got : List ℕ) (k : ℕ) (r : Bool) → bare ≡ R.unanswered row → got ≡ R.put_at bare 2 k → R.Tells r (row ≡ got) → R.Tells r (row ≡ R.put_at (R.unanswered row) 2 k)
-code_told row bare got k r e f = subst (λ (x : List ℕ). R.Tells r (row ≡ x)) (f ∙ ap (λ (y : List ℕ). R.put_at y 2 k) e)
-
-pub ruleset laws = (rules, not-true, not-false, load_some, load_none, word_in, word_out, put_in, put_out, put_then, plain_is, moved_none, moved_more, moved_all, grows_in, grows_out, grow_yes, grow_no, grown_none, grown_more, grown_all, given_yes, given_no, start_yes, start_no, is_given, is_start, bytes_level, bytes_order, bytes_one, bytes_else, cleared_given, cleared_open, begins_both, begins_not, calls_is, counted_first, counted_more, agree_not, agree_given, agree_rows, tells_yes, tells_no)
+pub ruleset laws = (rules, not-true, not-false, word_in, word_out, put_in, put_out, moved_none, moved_more, moved_all, grows_in, grows_out, grow_yes, grow_no, grown_none, grown_more, grown_all, given_yes, given_no, start_yes, start_no, is_given, is_start, bytes_level, bytes_order, bytes_one, bytes_else, begins_both, begins_not, calls_is, counted_first, counted_more, agree_not, agree_given, agree_rows, tells_yes, tells_no)

@@ -1,8 +1,6 @@
 -- The words of a row of a stored file, what agrees, and the count. Assumes nothing.
-use Rattle.std.specs.Prelude.{◌≡◌, ℕ, zero, suc, ◌+◌, ◌*◌, ◌/◌, ◌%◌, ◌^◌, min, Bool, true, false, cond, ◌&&◌, ◌||◌, List, length, replicate, ◌==◌, nat_lt, ◌<◌, ◌≢◌, Option, Some, None}
+use Rattle.std.specs.Prelude.{◌≡◌, ℕ, zero, suc, ◌+◌, ◌*◌, ◌/◌, ◌%◌, ◌^◌, min, Bool, true, false, cond, ◌&&◌, ◌||◌, List, length, replicate, ◌==◌, nat_lt, ◌<◌, ◌≢◌, Option, Some, None, unwrap_or}
 use Rattle.le.specs.Checked.{loaded, stored}
-use Rattle.le.specs.declared.Loaded.{Loaded}
-use Rattle.le.specs.declared.Loaded.TheVariants.{Value, Refused}
 use Rattle.stored.specs.declared.Differing.{Differing}
 use Rattle.stored.specs.declared.Tally.{Tally}
 
@@ -12,12 +10,8 @@ sum n m = (n + m) % 2 ^ 64
 -- ---- the words of a row
 
 -- what was loaded, or 0
-abbrev pub value : Loaded → ℕ
-value (Value w) = w
-value Refused = 0
-
 unfoldable pub load_at : List ℕ → ℕ → ℕ
-load_at xs o = value (loaded xs o 8)
+load_at xs o = unwrap_or (loaded xs o 8) 0
 
 -- the word i, or 0 where there is none
 unfoldable pub word_at : List ℕ → ℕ → ℕ

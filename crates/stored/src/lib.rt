@@ -22,10 +22,7 @@ pub fn word(row: &[u8], i: usize) -> u64
 fn load(row: &[u8], at: usize) -> u64
     ensures { result ≡ R.load_at row.now at }
 {
-    match le::load(row, at, 8) {
-        le::Loaded::Value(w) => w,
-        le::Loaded::Refused => 0,
-    }
+    le::load(row, at, 8).unwrap_or(0)
 }
 
 pub fn small(row: &[u8], i: usize) -> u32
@@ -54,10 +51,8 @@ pub fn tail(row: &[u8], from: usize) -> [u8; 128]
     ensures { result ≡ R.tail_of row.now from }
 {
     let mut to = [0u8; 128];
-    let mut i: usize = 0;
-    while i < 16 {
+    for i in 0..16 {
         put(&mut to, i, word(row, from + i));
-        i += 1;
     }
     to
 }
@@ -143,10 +138,7 @@ pub fn at_most(n: u64, most: usize) -> usize
     ensures upper_bound { result ≤ most }
     ensures value { result ≡ min n most }
 {
-    if (most as u64) < n {
-        return most;
-    }
-    n as usize
+    n.min(most as u64) as usize
 }
 
 // The bytes of n places of the call: of a level 24, of a listed order 64, of a checkpoint 1, of all else 96. No more are lent than there are.
@@ -187,20 +179,14 @@ pub fn answers(row: &[u8; 128], got: &[u8; 128], at: &mut Difference<'_>) -> boo
 pub fn is_start(row: &[u8]) -> bool
     ensures { result ≡ R.is_start row.now }
 {
-    match word(row, 0) % 32 {
-        0 | 20 => true,
-        _ => false,
-    }
+    matches!(word(row, 0) % 32, 0 | 20)
 }
 
 // The call's rows are its arguments.
 fn is_given(row: &[u8]) -> bool
     ensures { result ≡ R.is_given row.now }
 {
-    match word(row, 0) {
-        0 | 16 | 18 | 20 => true,
-        _ => false,
-    }
+    matches!(word(row, 0), 0 | 16 | 18 | 20)
 }
 
 // The answers agree, and so do the rows where they are not given.
@@ -274,10 +260,8 @@ pub fn grow_row(row: &mut [u8])
     ensures { row.new ≡ R.grow_row row.old }
 {
     let words = word(row, 15);
-    let mut i: usize = 0;
-    while i < 16 {
+    for i in 0..16 {
         grow(row, i, words);
-        i += 1;
     }
 }
 

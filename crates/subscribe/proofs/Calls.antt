@@ -1,6 +1,7 @@
 -- The whole call. Assumes nothing.
+use Rattle.outcome.specs.declared.Refusal.TheVariants.{TooShort}
+use Rattle.std.specs.Prelude.{Some, Ok, Err}
 use mathlib.Core.Path.{◌≡◌, refl, sym, ap, ◌∙◌}
-use mathlib.Core.Option.{some}
 use mathlib.Core.List.{List}
 use Prim.Native.Nat.{ℕ, ◌+◌, ◌≤◌, ◌<◌}
 use native.Mathlib.Omega.{arith}
@@ -72,14 +73,14 @@ module _ (xs : List ℕ) (s : ℕ) (out : List ℕ) {ys mid : List ℕ} (n : ℕ
 
 -- ---- the call
 
-module _ (xs out : List ℕ) (s a time n p : ℕ) (h : Speaks s (some a) xs) (count : n ≡ length (subscribe_mail s (gateway (cell xs)))) (room : p ≡ places (length out)) where
+module _ (xs out : List ℕ) (s a time n p : ℕ) (h : Speaks s (Some a) xs) (count : n ≡ length (subscribe_mail s (gateway (cell xs)))) (room : p ≡ places (length out)) where
   abbrev next : Gateway
   next = with_rest (heard s time) (gateway (cell xs))
 
   count_heard : n ≡ length (subscribe_mail s next)
   count_heard = count ∙ ap length (sym (mail_heard s time (gateway (cell xs))))
 
-  pub subscribe_short : p < n → Gives (call (gateway (cell xs)) (receive_from s In.Subscribe time (places (length out)))) (record { code = 6; count = 0 }) xs xs out out
+  pub subscribe_short : p < n → Gives (call (gateway (cell xs)) (receive_from s In.Subscribe time (places (length out)))) (Err TooShort) xs xs out out
   unfolding hear
   subscribe_short l =
       sends_short xs out (receive_from s In.Subscribe time (places (length out))) tt h.between (subscribe_mail s next) (subscribed s next.rest)
@@ -93,7 +94,7 @@ module _ (xs out : List ℕ) (s a time n p : ℕ) (h : Speaks s (some a) xs) (co
     mail_room l = omega (arith, count_heard, ap (λ (g : Gateway). length (subscribe_mail s g)) d.gateway_is)
 
     pub subscribe_done : {zs end : List ℕ} → n ≤ p → Sends 0 (subscribe_mail s (gateway (cell ys))) (subscribed s) ys zs out end →
-        Gives (call (gateway (cell xs)) (receive_from s In.Subscribe time (places (length out)))) (record { code = 0; count = n }) xs zs out end
+        Gives (call (gateway (cell xs)) (receive_from s In.Subscribe time (places (length out)))) (Ok n) xs zs out end
     unfolding hear
     subscribe_done l q =
         sends_done xs out (receive_from s In.Subscribe time (places (length out))) tt h.between (subscribe_mail s next) (subscribed s next.rest)

@@ -1,7 +1,7 @@
 -- A session that is heard changes nothing that is told. Assumes nothing.
+use Rattle.std.specs.Prelude.{Option, Some, None, option_map}
 use mathlib.Core.Path.{◌≡◌, refl, ap, ap₂, ◌∙◌}
 use mathlib.Core.Bool.{Bool, cond, ◌&&◌}
-use mathlib.Core.Option.{Option, none, some, map}
 use mathlib.Core.List.{List, [], ◌∷◌, ◌++◌}
 use Prim.Native.Nat.{ℕ}
 use Rattle.gateway.specs.Basics.{option, each}
@@ -17,17 +17,17 @@ use Rattle.subscribe.specs.Subscribe.{subscribe_mail}
 -- ---- heard
 
 module _ (t : ℕ) where
-  heard_account : (x : Option Session) → account_of (map (Rest.set_received t) x) ≡ account_of x
-  heard_account none = refl
-  heard_account (some x) = refl
+  heard_account : (x : Option Session) → account_of (option_map (Rest.set_received t) x) ≡ account_of x
+  heard_account None = refl
+  heard_account (Some x) = refl
 
-  heard_open : (x : Option Session) → is_open (map (Rest.set_received t) x) ≡ is_open x
-  heard_open none = refl
-  heard_open (some x) = refl
+  heard_open : (x : Option Session) → is_open (option_map (Rest.set_received t) x) ≡ is_open x
+  heard_open None = refl
+  heard_open (Some x) = refl
 
-  heard_subscribed : (x : Option Session) → is_subscribed (map (Rest.set_received t) x) ≡ is_subscribed x
-  heard_subscribed none = refl
-  heard_subscribed (some x) = refl
+  heard_subscribed : (x : Option Session) → is_subscribed (option_map (Rest.set_received t) x) ≡ is_subscribed x
+  heard_subscribed None = refl
+  heard_subscribed (Some x) = refl
 
 each_same : {A : Type 0} (f h : A → List Mail) → ((a : A) → f a ≡ h a) → (xs : List A) → each f xs ≡ each h xs
 each_same f h e [] = refl
@@ -44,8 +44,8 @@ module _ (s t : ℕ) (c : Core) (r : Rest) where
       tell i = cond (is_open (session_at i after)) (balance_to i (balance a c)) []
 
       go : (o : Option ℕ) → option [] tell o ≡ option [] (λ i. cond (is_open (session_at i r)) (balance_to i (balance a c)) []) o
-      go none = refl
-      go (some i) = ap (λ b. cond b (balance_to i (balance a c)) []) (changed_keeps (Rest.set_received t) is_open (heard_open t) s i r.sessions)
+      go None = refl
+      go (Some i) = ap (λ b. cond b (balance_to i (balance a c)) []) (changed_keeps (Rest.set_received t) is_open (heard_open t) s i r.sessions)
 
   pub publish_heard : publish_mail c after ≡ publish_mail c r
   publish_heard =

@@ -1,22 +1,18 @@
 -- The levels of each side go out, behind their number. Assumes nothing.
+use Rattle.std.specs.Prelude.{Option, Some, None, option_map}
 use mathlib.Core.Path.{◌≡◌, refl, sym, ap, subst, ◌∙◌}
 use mathlib.Core.List.{List, [], ◌∷◌, ◌++◌, map, map-map}
-use mathlib.Core.Option
-use mathlib.Core.Option.{Option, none, some}
 use Prim.Native.Nat.{ℕ, zero, suc, ◌+◌, ◌≤◌, ◌<◌}
 use native.Mathlib.Omega.{arith}
 use lib.ListN.{length, length-append, length-map, get_or}
-use lib.IntN.{ℤ}
 use Rattle.orderbook.specs.declared.Side.{Side}
 use Rattle.orderbook.specs.declared.Side.TheVariants.{Buy, Sell}
 use Rattle.protocol.specs.declared.Outbound.TheVariants as Out
-use Rattle.protocol.specs.declared.LevelUpdate.{LevelUpdate}
-use Rattle.words.specs.Words.{int, half, ◌⊖◌}
 use Rattle.gateway.specs.Limits.{session_slots, most_orders}
 use Rattle.gateway.specs.Depth as D
 use Rattle.gateway.specs.Rest as Rest
 use Rattle.gateway.specs.Rest.{Session, Rest, send, with_sessions, update_session, stamped}
-use Rattle.gateway.specs.Entry.{update_of, level_to, snapshot}
+use Rattle.gateway.specs.Entry.{level_to, snapshot}
 use Rattle.gateway.specs.Calls.{Gateway}
 use Rattle.store.specs.Cells as C
 use Rattle.store.specs.Layout.{cell}
@@ -31,7 +27,7 @@ use Rattle.sound.proofs.Kept.{becomes}
 use Rattle.sound.proofs.Clients.{session_sound}
 use Rattle.sound.proofs.Listed.{size_levels, firsts_below, firsts_at}
 use Rattle.rows.specs.Rows.{put_rows}
-use Rattle.mailbox.specs.Mailbox.{places, mail_row, put_mail, mailed}
+use Rattle.mailbox.specs.Mailbox.{places, mail_row, mailed}
 use Rattle.mailbox.proofs.Rows.{mailed_append, length_mailed}
 use Rattle.outcome.specs.Parts.{with_rest, rest_of, Sends}
 use Rattle.outcome.proofs.Changed.{changed_at}
@@ -42,16 +38,6 @@ use Rattle.feed.specs.Feed.{Told}
 use Rattle.feed.proofs.Stamps.{sends_kept, sends_room}
 use Rattle.subscribe.specs.Subscribe.{levels_to, Posts, level_count, first_to}
 use Rattle.subscribe.proofs.Few.{level_few}
-
--- ---- one level
-
-pub update_is : (xs : List ℕ) (z : Side) (r : Row) (seq : ℕ) → seq ≡ word (cell xs) C.delivered → (w : ℕ) → int w ≡ r.key ⊖ half → (p : ℤ) → p ≡ int w →
-    record { seq = seq; side = z; price = p; qty = r.qty; orders = r.orders } ≡ update_of (rest_of xs).delivered z (L.level r)
-update_is xs z r seq e w f p q = let g = q ∙ f in λ i. record { seq = e i; side = z; price = g i; qty = r.qty; orders = r.orders }
-
-pub level_posts : (xs out : List ℕ) {end : List ℕ} (i s : ℕ) (z : Side) (l : D.Level) (u : LevelUpdate) → u ≡ update_of (rest_of xs).delivered z l →
-    end ≡ put_mail i (send s (Out.LevelUpdate u)) out → end ≡ put_mail i (level_to s (rest_of xs).delivered z l) out
-level_posts xs out i s z l u e h = h ∙ ap (λ v. put_mail i (send s (Out.LevelUpdate v)) out) e
 
 -- ---- a side
 
@@ -96,9 +82,9 @@ first_sends xs {ys} out {end} i s n seq e f h =
 
 -- ---- who was sent a message now is stamped once
 
-twice_one : (t : ℕ) (x : Option Session) → Option.map (Rest.set_sent t) (Option.map (Rest.set_sent t) x) ≡ Option.map (Rest.set_sent t) x
-twice_one t none = refl
-twice_one t (some x) = refl
+twice_one : (t : ℕ) (x : Option Session) → option_map (Rest.set_sent t) (option_map (Rest.set_sent t) x) ≡ option_map (Rest.set_sent t) x
+twice_one t None = refl
+twice_one t (Some x) = refl
 
 twice : (t s : ℕ) (xs : List (Option Session)) → changed_at (Rest.set_sent t) s (changed_at (Rest.set_sent t) s xs) ≡ changed_at (Rest.set_sent t) s xs
 twice t s [] = refl
@@ -163,4 +149,4 @@ module _ (xs : List ℕ) (s : ℕ) (out : List ℕ) (i : ℕ) where
 pub subscribed_becomes : {xs ys : List ℕ} → State xs → (s : ℕ) → s < session_slots → Is ys (Clients.set_subscribed s (cell xs)) → Becomes ys (with_rest (update_session s Rest.set_subscribed) (gateway (cell xs)))
 subscribed_becomes {xs} st s l h = becomes h (session_sound (cell xs) st.sound s C.session_subscribed 1 (omega arith)) (subscribed_view s (cell xs) l)
 
-pub ruleset snapshots = (level_posts, levels_many, levels_fit, first_sends, subscribed_becomes, arith)
+pub ruleset snapshots = (levels_many, levels_fit, first_sends, subscribed_becomes, arith)

@@ -2,7 +2,6 @@
 #![tactic(auto)]
 
 ghost use Rattle.std.specs.Prelude.{◌≡◌, ◌+◌, ◌≤◌, ◌<◌, length};
-ghost use Rattle.std.proofs.Math.Option.{some};
 ghost use Rattle.protocol.specs.declared.Inbound.TheVariants as In;
 ghost use Rattle.gateway.specs.Limits.{session_slots, most_orders};
 ghost use Rattle.gateway.specs.Rest as Rest;
@@ -23,7 +22,7 @@ ghost use Rattle.subscribe.specs.Subscribe as P;
 
 use levels::Row;
 use orderbook::Side;
-use outcome::Reply;
+use outcome::Refusal;
 use protocol::{LevelUpdate, Outbound};
 use store::cells;
 
@@ -58,10 +57,8 @@ fn post_side(m: &[u8], out: &mut [u8], i: usize, s: usize, side: Side) -> usize
 {
     let n = levels::used(m, side);
     let mut k: usize = i;
-    let mut j: usize = 0;
-    while j < n {
+    for j in 0..n {
         let r = levels::read_row(m, side, levels::listed::nth(side, n, j));
-        j += 1;
         if r.orders != 0 {
             post_level(m, out, k, s, side, r);
             k += 1;
@@ -135,18 +132,21 @@ fn apply(m: &mut [u8], out: &mut [u8], s: usize)
 }
 
 // A message of session s, logged in for account a.
-pub fn subscribe(m: &mut [u8], s: usize, a: usize, time: u64, out: &mut [u8]) -> Reply
-    requires { Speaks s (some a) m.old }
+pub fn subscribe(
+    m: &mut [u8],
+    s: usize,
+    a: usize,
+    time: u64,
+    out: &mut [u8],
+) -> Result<usize, Refusal>
+    requires { Speaks s (Some a) m.old }
     ensures { Gives (call (gateway (cell m.old)) (receive_from s In.Subscribe time (places (length out.old)))) result m.old m.new out.old out.new }
 {
     let n = count(m, s);
     if mailbox::room(out) < n {
-        return Reply {
-            code: outcome::TOO_SHORT,
-            count: 0,
-        };
+        return Err(Refusal::TooShort);
     }
     outcome::hear(m, s, time);
     apply(m, out, s);
-    Reply { code: 0, count: n }
+    Ok(n)
 }

@@ -1,4 +1,5 @@
 -- Sums of words are exact. Assumes nothing.
+use Rattle.std.specs.Prelude.{is_some}
 use Prim.Native.Nat.{ℕ, suc, ◌+◌, ◌*◌, ◌/◌, ◌%◌, ◌≤◌, ◌<◌, ◌-◌}
 use mathlib.Core.Path.{◌≡◌, refl, sym, ap, ◌∙◌}
 use mathlib.Core.Bool.{Bool, true, false, cond}
@@ -9,7 +10,6 @@ use lib.IntN.{ℤ, pos, ◌+ℤ◌}
 use lib.Signed.{le_z}
 use Rattle.words.specs.Words.{base, half, modulus, least, most, int, ◌⊖◌, place_of, fit}
 use Rattle.words.proofs.Diff.{pos_is, negsuc_is, ⊖_same, ⊖_add, ⊖_le, leb_same}
-use Rattle.gateway.specs.Basics.{is_some}
 use Rattle.gateway.specs.Ledger.{fits}
 use Rattle.sums.specs.declared.Sum.{Sum}
 use Rattle.sums.specs.Sums.{Sums, HasRoom, Small, Adds, Judges}

@@ -1,10 +1,10 @@
 -- A list in three parts, rows of smaller keys than k, what stands at k, and rows of larger ones: what `without`, `insert`, `replace` and
 -- `look` make of it.
 -- Assumes nothing.
+use Rattle.std.specs.Prelude.{Some, None}
 use mathlib.Core.Path.{◌≡◌, refl, sym, ap, ◌∙◌}
 use mathlib.Core.List.{List, [], ◌∷◌, ◌++◌, append-nil, append_assoc}
 use mathlib.Core.Bool.{Bool, true, false, cond}
-use mathlib.Core.Option.{none, some}
 use Prim.Native.Nat.{ℕ, zero, suc, ◌+◌, ◌≤◌, ◌<◌}
 use native.Mathlib.Omega.{arith}
 use lib.Dec.{ltb}
@@ -56,11 +56,11 @@ module _ {A : Type 0} (key : A → ℕ) where
   insert_high r (x ∷ m) e = rw (lt-ltb (key r) (key x) e.0)
 
   -- a row that is looked for is found, and nothing is where no row has the key
-  pub look_here : (k : ℕ) (l : List A) (r : A) (m : List A) → Each (λ x. key x ≡ k → ⊥) l → key r ≡ k → look key k (l ++ (r ∷ m)) ≡ some r
+  pub look_here : (k : ℕ) (l : List A) (r : A) (m : List A) → Each (λ x. key x ≡ k → ⊥) l → key r ≡ k → look key k (l ++ (r ∷ m)) ≡ Some r
   unfolding look
   look_here k l r m e h = look_other k l (r ∷ m) e ∙ rw (eq-eqb (key r) k h)
 
-  pub look_nowhere : (k : ℕ) (l : List A) → Each (λ x. key x ≡ k → ⊥) l → look key k l ≡ none
+  pub look_nowhere : (k : ℕ) (l : List A) → Each (λ x. key x ≡ k → ⊥) l → look key k l ≡ None
   unfolding look
   look_nowhere k l e = rw (← append-nil l) (look_other k l [] e)
 

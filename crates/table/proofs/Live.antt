@@ -1,9 +1,9 @@
 -- The live rows of a table: a row added, changed, struck out, looked up, and the dead ones squeezed out.
 -- Assumes nothing.
+use Rattle.std.specs.Prelude.{Some, None}
 use mathlib.Core.Path.{◌≡◌, refl, sym, ap, ap₂, ◌∙◌}
 use mathlib.Core.Logic.{◌⊎◌, inl, inr, ⊎_elim}
 use mathlib.Core.List.{List, [], ◌∷◌, ◌++◌, append-nil, append_assoc}
-use mathlib.Core.Option.{none, some}
 use Prim.Native.Nat.{ℕ, zero, suc, ◌+◌, ◌-◌, ◌≤◌, ◌<◌}
 use native.Mathlib.Nat.{eq-or-lt_of_le, add-zero, add-suc, not-suc-le-zero}
 use native.Mathlib.Numerals.{add-one}
@@ -214,14 +214,14 @@ module _ {A : Type 0} (mark key : A → ℕ) where
 
   -- ---- a row looked up
 
-  pub look_some : (f : ℕ → A) (k i n : ℕ) → Ascends key f n → i < n → key (f i) ≡ k → 0 < mark (f i) → look key k (live mark f n) ≡ some (f i)
+  pub look_some : (f : ℕ → A) (k i n : ℕ) → Ascends key f n → i < n → key (f i) ≡ k → 0 < mark (f i) → look key k (live mark f n) ≡ Some (f i)
   look_some f k i n s h e m =
       ap (look key k) (split mark f i n h)
       ∙ rw (pick_live (mark (f i)) (f i) m)
       (look_here key k (live mark f i) (f i) (live mark (λ j. f (i + 1 + j)) (n - (i + 1)))
       (each_live mark (λ r. key r ≡ k → ⊥) f i (λ j l a q. omega (arith, s j i l h))) e)
 
-  pub look_none : (f : ℕ → A) (k n : ℕ) → ((j : ℕ) → j < n → key (f j) ≡ k → mark (f j) ≡ 0) → look key k (live mark f n) ≡ none
+  pub look_none : (f : ℕ → A) (k n : ℕ) → ((j : ℕ) → j < n → key (f j) ≡ k → mark (f j) ≡ 0) → look key k (live mark f n) ≡ None
   look_none f k n h = look_nowhere key k (live mark f n) (each_live mark (λ r. key r ≡ k → ⊥) f n (λ j l a q. omega (arith, h j l q)))
 
 module _ {A : Type 0} (key : A → ℕ) where

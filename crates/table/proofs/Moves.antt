@@ -1,13 +1,14 @@
--- Bytes moved one by one, and rows moved by their bytes.
+-- Rows moved by their bytes.
 -- Assumes nothing.
 use mathlib.Core.Path.{◌≡◌, refl, ap}
-use mathlib.Core.Logic.{inl, inr}
+use mathlib.Core.Logic.{inl, inr, ⊎_elim}
 use mathlib.Core.List.{List}
 use Prim.Native.Nat.{ℕ, ◌+◌, ◌*◌, ◌-◌, ◌/◌, ◌%◌, ◌≤◌, ◌<◌}
 use native.Mathlib.Nat.{mul-suc, mul_assoc, mul-sub, mul-mod_right, mul-le-mul_left, mod-add-div}
 use native.Mathlib.Numerals.{add-one}
 use native.Mathlib.Omega.{arith}
 use lib.ListN.{length}
+use Rattle.std.specs.List.{CopiedTo, SameBelow, SameFrom}
 use Rattle.le.specs.Le.{le, put, Bytes}
 use Rattle.le.proofs.Laws.{outside_refl, outside_trans, outside_wider, outside_put, same_trans, same_outside, same_join, same_part, same_put}
 use Rattle.table.specs.Table.{Moved, Opened, Closed}
@@ -36,56 +37,17 @@ rest s {i} {n} h =
     let e : l + 1 ≡ n = omega arith in
     omega (arith, minus s a, next s l, ap (λ (k : ℕ). s * k) e)
 
--- ---- bytes moved one by one
-
-pub moved_none : (xs : List ℕ) (o p : ℕ) → Moved xs xs o p 0
-moved_none xs o p = record { same = record { at = λ k l. absurd (omega arith) }; frame = outside_refl p (p + 0) xs }
+-- ---- bytes
 
 pub moved_still : (xs : List ℕ) (o n : ℕ) → Moved xs xs o o n
 moved_still xs o n = record { same = record { at = λ k l. refl }; frame = outside_refl o (o + n) xs }
 
-pub moved_byte : (ys : List ℕ) (o p : ℕ) → Bytes ys → p + 1 ≤ length ys → Moved ys (put 1 ys p (le 1 ys o)) o p 1
-moved_byte ys o p b h =
-    record { same = same_put 1 ys ys o p b h; frame = outside_put p (p + 1) 1 ys p (le 1 ys o) (omega arith) (omega arith) }
-
--- the low part first, where bytes move down
-pub moved_low : {xs ys zs : List ℕ} (o p a b : ℕ) → p ≤ o → Moved xs ys o p a → Moved ys zs (o + a) (p + a) b → Moved xs zs o p (a + b)
-moved_low o p a b h s t =
+pub moved_within : (xs ys : List ℕ) (o p n : ℕ) → length ys ≡ length xs → CopiedTo xs ys o p n × SameBelow xs ys p × SameFrom xs ys (p + n) → Moved xs ys o p n
+moved_within xs ys o p n l h =
     record {
-      same =
-          same_join
-          (same_trans s.same (same_outside a p t.frame (inl (omega arith))))
-          (same_trans (same_outside b (o + a) s.frame (inr (omega arith))) t.same);
-      frame =
-          outside_trans
-          (outside_wider p (p + (a + b)) (omega arith) (omega arith) s.frame)
-          (outside_wider p (p + (a + b)) (omega arith) (omega arith) t.frame);
+      same = record { at = λ k m. let e : p + k - p ≡ k = omega arith in rw e at (h.0 (p + k) 0 (omega arith) (omega arith)) };
+      frame = record { len = l; at = λ i w. ⊎_elim (λ m. h.1 i 0 m) (λ m. h.2 i 0 m) w };
     }
-
--- the high part first, where they move up
-pub moved_high : {xs ys zs : List ℕ} (o p a b : ℕ) → o ≤ p → Moved xs ys (o + a) (p + a) b → Moved ys zs o p a → Moved xs zs o p (a + b)
-moved_high o p a b h s t =
-    record {
-      same =
-          same_join
-          (same_trans (same_outside a o s.frame (inl (omega arith))) t.same)
-          (same_trans s.same (same_outside b (p + a) t.frame (inr (omega arith))));
-      frame =
-          outside_trans
-          (outside_wider p (p + (a + b)) (omega arith) (omega arith) s.frame)
-          (outside_wider p (p + (a + b)) (omega arith) (omega arith) t.frame);
-    }
-
--- the next a bytes, where the last n - k have moved up
-pub moved_up : {xs ys zs : List ℕ} (o p n k a : ℕ) → o ≤ p → a ≤ k → k ≤ n → Moved xs ys (o + k) (p + k) (n - k) → Moved ys zs (o + (k - a)) (p + (k - a)) a →
-    Moved xs zs (o + (k - a)) (p + (k - a)) (n - (k - a))
-moved_up {xs} {ys} o p n k a h l m s t =
-    let d : ℕ = k - a in
-    let e : o + k ≡ o + d + a = omega arith in
-    let e' : p + k ≡ p + d + a = omega arith in
-    let w : n - d ≡ a + (n - k) = omega arith in
-    let u : Moved xs ys (o + d + a) (p + d + a) (n - k) = rw (e, e') at s in
-    rw w (moved_high (o + d) (p + d) a (n - k) (omega arith) u t)
 
 -- ---- rows
 

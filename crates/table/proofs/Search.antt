@@ -1,5 +1,6 @@
 -- The search for a key among ascending ones.
 -- Assumes nothing.
+use Rattle.std.specs.Prelude.{Option, Some, None}
 use mathlib.Core.Path.{◌≡◌, refl, sym, ap, subst, ◌∙◌}
 use mathlib.Core.Logic.{inl, inr, ⊎_elim}
 use mathlib.Core.List.{List}
@@ -11,8 +12,6 @@ use lib.Arith.{lt_of_le-ne}
 use Rattle.le.proofs.Laws.{lt_or_le}
 use Rattle.table.specs.Live.{live, look, Ascends}
 use Rattle.table.specs.Table.{Room, Sorted, Between, Least, Counted, Finds, found}
-use Rattle.table.specs.declared.Found.{Found}
-use Rattle.table.specs.declared.Found.TheVariants.{At, Nothing}
 use Rattle.table.proofs.Moves.{next, mono, step}
 use Rattle.table.proofs.Live.{look_some, look_none}
 
@@ -139,7 +138,7 @@ module _ {ks : ℕ → ℕ} {n : ℕ} where
       record { inside = omega arith; top = omega (arith, b.inside, b.top); below = b.below; above = λ j p q. b.above j (omega arith) q }
 
   -- what is not at i is nowhere
-  pub finds_none : (ms : ℕ → ℕ) {k i : ℕ} → Ascends (λ k. k) ks n → Between ks n k i i → (i < n → ks i ≡ k → ms i ≡ 0) → Finds ks ms n k Nothing
+  pub finds_none : (ms : ℕ → ℕ) {k i : ℕ} → Ascends (λ k. k) ks n → Between ks n k i i → (i < n → ks i ≡ k → ms i ≡ 0) → Finds ks ms n k None
   finds_none ms {k} {i} s b d = λ j l e.
       ⊎_elim
       (λ q. absurd (omega (arith, b.below j q)))
@@ -151,11 +150,11 @@ module _ {ks : ℕ → ℕ} {n : ℕ} where
       (lt_or_le j i)
 
   -- a key above the last one is nowhere
-  pub finds_past : (ms : ℕ → ℕ) {k : ℕ} → Ascends (λ k. k) ks n → ks (n - 1) < k → Finds ks ms n k Nothing
+  pub finds_past : (ms : ℕ → ℕ) {k : ℕ} → Ascends (λ k. k) ks n → ks (n - 1) < k → Finds ks ms n k None
   finds_past ms s h = λ j l e. absurd (omega (arith, ascends_le s j (n - 1) (omega arith) (omega arith)))
 
   -- where the row that has the key is dead, there is none
-  pub finds_dead : (ms : ℕ → ℕ) {k : ℕ} (i : ℕ) → Ascends (λ k. k) ks n → i < n → ks i ≡ k → ms i ≡ 0 → Finds ks ms n k Nothing
+  pub finds_dead : (ms : ℕ → ℕ) {k : ℕ} (i : ℕ) → Ascends (λ k. k) ks n → i < n → ks i ≡ k → ms i ≡ 0 → Finds ks ms n k None
   finds_dead ms i s h e d = λ j l q.
       ⊎_elim
       (λ (p : j < i). absurd (omega (arith, s j i p h)))
@@ -173,7 +172,7 @@ module _ {ks : ℕ → ℕ} {n : ℕ} where
 
 -- what is found is what the list of the live rows has
 pub finds_look : {A : Type 0} (mark key : A → ℕ) (f : ℕ → A) {ks ms : ℕ → ℕ} (n k : ℕ) → ((j : ℕ) → j < n → key (f j) ≡ ks j) → ((j : ℕ) → j < n → mark (f j) ≡ ms j)
-    → Ascends key f n → (r : Found) → Finds ks ms n k r → look key k (live mark f n) ≡ found f r
-finds_look mark key f n k ek em s (At i) h =
+    → Ascends key f n → (r : Option ℕ) → Finds ks ms n k r → look key k (live mark f n) ≡ found f r
+finds_look mark key f n k ek em s (Some i) h =
     look_some mark key f k i n s h.0 (ek i h.0 ∙ h.1) (rw (em i h.0) h.2)
-finds_look mark key f n k ek em s Nothing h = look_none mark key f k n (λ j l e. em j l ∙ h j l (sym (ek j l) ∙ e))
+finds_look mark key f n k ek em s None h = look_none mark key f k n (λ j l e. em j l ∙ h j l (sym (ek j l) ∙ e))

@@ -1,7 +1,6 @@
 -- Rows with a key and a mark, over the type of a row. A row whose mark is 0 is dead. All rows live is the mark `λ r. 1`.
 -- Assumes nothing.
-use Rattle.std.specs.Prelude.{◌≡◌, cond, List, [], ◌∷◌, ◌++◌, ℕ, zero, suc, ◌+◌, ◌≤◌, ◌<◌, eqb, ltb}
-use Rattle.std.proofs.Math.Option.{Option, none, some}
+use Rattle.std.specs.Prelude.{◌≡◌, cond, List, [], ◌∷◌, ◌++◌, ℕ, zero, suc, ◌+◌, ◌≤◌, ◌<◌, eqb, ltb, Option, Some, None}
 
 module _ {A : Type 0} where
   abbrev pub pick : ℕ → A → List A
@@ -46,8 +45,8 @@ module _ {A : Type 0} (key : A → ℕ) where
 
   -- the first row of l whose key is k
   unfoldable pub look : ℕ → List A → Option A
-  look k [] = none
-  look k (r ∷ l) = cond (eqb (key r) k) (some r) (look k l)
+  look k [] = None
+  look k (r ∷ l) = cond (eqb (key r) k) (Some r) (look k l)
 
   -- l with r before the first row of a larger key
   unfoldable pub insert : A → List A → List A

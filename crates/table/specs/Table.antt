@@ -1,11 +1,8 @@
 -- A table in a list of bytes: n rows of `stride` bytes from `base` on. A row's key is its first 8 bytes; its mark is one byte of it.
 -- Assumes nothing.
-use Rattle.std.specs.Prelude.{◌≡◌, ◌⊎◌, List, ℕ, ◌+◌, ◌*◌, ◌-◌, ◌%◌, ◌≤◌, ◌<◌, length, get_or}
-use Rattle.std.proofs.Math.Option.{Option, none, some}
+use Rattle.std.specs.Prelude.{◌≡◌, ◌⊎◌, List, ℕ, ◌+◌, ◌*◌, ◌-◌, ◌%◌, ◌≤◌, ◌<◌, length, get_or, Option, Some, None}
 use Rattle.le.specs.Le.{le, Outside, Same}
 use Rattle.table.specs.Live.{Ascends, kept}
-use Rattle.table.specs.declared.Found.{Found}
-use Rattle.table.specs.declared.Found.TheVariants.{At, Nothing}
 
 abbrev pub key_at : ℕ → ℕ → List ℕ → ℕ → ℕ
 key_at base stride xs i = le 8 xs (base + stride * i)
@@ -48,13 +45,13 @@ pub record Counted (ks : ℕ → ℕ) (k lo w many c : ℕ) : Type 0 where
   pub above : (i : ℕ) → c ≤ i → i < many → k ≤ ks (lo + w * i + (w - 1))
 
 -- what a search for the key k finds among n rows
-abbrev pub Finds : (ℕ → ℕ) → (ℕ → ℕ) → ℕ → ℕ → Found → Type 0
-Finds ks ms n k (At i) = (i < n) × (ks i ≡ k) × (0 < ms i)
-Finds ks ms n k Nothing = (j : ℕ) → j < n → ks j ≡ k → ms j ≡ 0
+abbrev pub Finds : (ℕ → ℕ) → (ℕ → ℕ) → ℕ → ℕ → Option ℕ → Type 0
+Finds ks ms n k (Some i) = (i < n) × (ks i ≡ k) × (0 < ms i)
+Finds ks ms n k None = (j : ℕ) → j < n → ks j ≡ k → ms j ≡ 0
 
-abbrev pub found : {A : Type 0} → (ℕ → A) → Found → Option A
-found f (At i) = some (f i)
-found f Nothing = none
+abbrev pub found : {A : Type 0} → (ℕ → A) → Option ℕ → Option A
+found f (Some i) = Some (f i)
+found f None = None
 
 -- the n bytes of xs from o on stand in ys from p on, and nothing else has changed
 pub record Moved (xs ys : List ℕ) (o p n : ℕ) : Type 0 where

@@ -6,12 +6,6 @@ ghost use Rattle.std.specs.Prelude.{◌≡◌, ◌+◌, ◌*◌, ◌%◌, ◌≤
 ghost use Rattle.le.specs.Le.{put};
 ghost use Rattle.table.specs.Table.{key_at, mark_at, Room, Sorted, Between, Least, Counted, Finds, Moved, Opened, Closed, Compacted};
 
-#[derive(Clone, Copy)]
-pub enum Found {
-    At(usize),
-    Nothing,
-}
-
 pub fn key_at(m: &[u8], base: usize, stride: usize, i: usize) -> u64
     requires { base + stride * i + 8 ≤ length m.now }
     ensures { result ≡ key_at base stride m.now i }
@@ -32,10 +26,8 @@ fn count(m: &[u8], base: usize, stride: usize, lo: usize, w: usize, many: usize,
     ensures { Counted (key_at base stride m.now) key lo w many result }
 {
     let mut c: usize = 0;
-    let mut i: usize = 0;
-    while i < many {
+    for i in 0..many {
         let at = lo + w * i + (w - 1);
-        i += 1;
         if key_at(m, base, stride, at) < key {
             c += 1;
         }
@@ -71,7 +63,7 @@ fn bound_in(
 fn lesser(d: u64, n: usize) -> usize
     ensures { Least d n result }
 {
-    if d < n as u64 { d as usize } else { n }
+    d.min(n as u64) as usize
 }
 
 // Keys are distinct, so that a key's row is at most as far from the first row, and from the last, as the keys are: where few numbers lie
@@ -105,27 +97,27 @@ pub fn lower_bound(m: &[u8], base: usize, stride: usize, n: usize, key: u64) -> 
 }
 
 // A key above the last one is not searched for.
-pub fn find(m: &[u8], base: usize, stride: usize, mark: usize, n: usize, key: u64) -> Found
+pub fn find(m: &[u8], base: usize, stride: usize, mark: usize, n: usize, key: u64) -> Option<usize>
     requires { Sorted base stride n m.now × (mark < stride) }
     ensures { Finds (key_at base stride m.now) (mark_at base stride mark m.now) n key result }
 {
     if n == 0 {
-        return Found::Nothing;
+        return None;
     }
     if key_at(m, base, stride, n - 1) < key {
-        return Found::Nothing;
+        return None;
     }
     let i = lower_bound(m, base, stride, n, key);
     if n <= i {
-        return Found::Nothing;
+        return None;
     }
     if key_at(m, base, stride, i) != key {
-        return Found::Nothing;
+        return None;
     }
     if mark_at(m, base, stride, mark, i) == 0 {
-        return Found::Nothing;
+        return None;
     }
-    Found::At(i)
+    Some(i)
 }
 
 // As `find`, but the row `hint` is tried first. Where it has the key, nothing is searched.
@@ -137,65 +129,41 @@ pub fn find_hinted(
     n: usize,
     key: u64,
     hint: usize,
-) -> Found
+) -> Option<usize>
     requires { Sorted base stride n m.now × (mark < stride) }
     ensures { Finds (key_at base stride m.now) (mark_at base stride mark m.now) n key result }
 {
     if hint < n {
         if key_at(m, base, stride, hint) == key {
             if mark_at(m, base, stride, mark, hint) == 0 {
-                return Found::Nothing;
+                return None;
             }
-            return Found::At(hint);
+            return Some(hint);
         }
     }
     find(m, base, stride, mark, n, key)
 }
 
-fn move_byte(m: &mut [u8], from: usize, to: usize)
-    requires { (from + 1 ≤ length m.old) × (to + 1 ≤ length m.old) }
-    ensures { Moved m.old m.new from to 1 }
-{
-    let v = le::get_u8(m, from);
-    le::put_u8(m, to, v);
-}
-
-// Bytes are moved from the last to the first, or from the first to the last, so that none is overwritten before it has moved.
-fn move_up(m: &mut [u8], from: usize, to: usize, len: usize)
-    requires { (from ≤ to) × (to + len ≤ length m.old) }
+fn move_bytes(m: &mut [u8], from: usize, to: usize, len: usize)
+    requires { (from + len ≤ length m.old) × (to + len ≤ length m.old) }
     ensures { Moved m.old m.new from to len }
 {
-    let mut k: usize = len;
-    while 0 < k {
-        k -= 1;
-        move_byte(m, from + k, to + k);
-    }
+    m.copy_within(from..from + len, to);
 }
 
-fn move_down(m: &mut [u8], from: usize, to: usize, len: usize)
-    requires { (to ≤ from) × (from + len ≤ length m.old) }
-    ensures { Moved m.old m.new from to len }
-{
-    let mut k: usize = 0;
-    while k < len {
-        move_byte(m, from + k, to + k);
-        k += 1;
-    }
-}
-
-// Rows of 32 bytes have functions of their own: with the distance known there, the loop is compiled to a call of memmove.
+// Rows of 32 bytes have functions of their own: with the distance known there, the loop is compiled to moves of many bytes at once.
 fn up_32(m: &mut [u8], from: usize, len: usize)
     requires { from + 32 + len ≤ length m.old }
     ensures { Moved m.old m.new from (from + 32) len }
 {
-    move_up(m, from, from + 32, len);
+    move_bytes(m, from, from + 32, len);
 }
 
 fn down_32(m: &mut [u8], to: usize, len: usize)
     requires { to + 32 + len ≤ length m.old }
     ensures { Moved m.old m.new (to + 32) to len }
 {
-    move_down(m, to + 32, to, len);
+    move_bytes(m, to + 32, to, len);
 }
 
 // Room for a row at i, which the caller writes: the rows from i on move one place up.
@@ -210,7 +178,7 @@ pub fn open_at(m: &mut [u8], base: usize, stride: usize, n: usize, i: usize)
         up_32(m, from, end - from);
         return;
     }
-    move_up(m, from, to, end - from);
+    move_bytes(m, from, to, end - from);
 }
 
 // The row i goes: those behind it move one place down.
@@ -225,7 +193,7 @@ pub fn close_at(m: &mut [u8], base: usize, stride: usize, n: usize, i: usize)
         down_32(m, to, end - from);
         return;
     }
-    move_down(m, from, to, end - from);
+    move_bytes(m, from, to, end - from);
 }
 
 pub fn strike(m: &mut [u8], base: usize, stride: usize, mark: usize, i: usize)
@@ -241,7 +209,7 @@ pub fn move_row(m: &mut [u8], base: usize, stride: usize, i: usize, w: usize)
     ensures { Moved m.old m.new (base + stride * i) (base + stride * w) stride }
 {
     if w < i {
-        move_down(m, base + stride * i, base + stride * w, stride);
+        move_bytes(m, base + stride * i, base + stride * w, stride);
     }
 }
 
@@ -251,12 +219,9 @@ pub fn compact(m: &mut [u8], base: usize, stride: usize, mark: usize, n: usize) 
     ensures { Compacted base stride mark n result m.old m.new }
 {
     let mut w: usize = 0;
-    let mut i: usize = 0;
-    while i < n {
-        let at = i;
-        i += 1;
-        if mark_at(m, base, stride, mark, at) != 0 {
-            move_row(m, base, stride, at, w);
+    for i in 0..n {
+        if mark_at(m, base, stride, mark, i) != 0 {
+            move_row(m, base, stride, i, w);
             w += 1;
         }
     }

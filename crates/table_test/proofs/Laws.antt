@@ -1,10 +1,10 @@
 -- What each operation makes of the test's table, from the laws of `table`.
 -- Assumes nothing.
+use Rattle.std.specs.Prelude.{Option, Some}
 use mathlib.Core.Path.{◌≡◌, refl, ap, ◌∙◌, subst}
 use mathlib.Core.Logic.{inl, inr}
 use mathlib.Core.List.{List}
 use mathlib.Core.Bool.{true}
-use mathlib.Core.Option.{some}
 use Prim.Native.Nat.{ℕ, ◌+◌, ◌*◌, ◌-◌, ◌^◌, ◌≤◌, ◌<◌}
 use native.Mathlib.Omega.{arith}
 use lib.ListN.{length}
@@ -14,8 +14,6 @@ use Rattle.le.proofs.Laws.{outside_put, local_wider, local_map, le_put, le_outsi
 use Rattle.le.proofs.Rows.{outside_puts, gets_local, gets_puts, gets_field}
 use Rattle.table.specs.Live.{live, without, look, insert, replace, Ascends, Gap}
 use Rattle.table.specs.Table.{key_at, mark_at, Sorted, Between, Finds, Opened, Closed, Compacted}
-use Rattle.table.specs.declared.Found.{Found}
-use Rattle.table.specs.declared.Found.TheVariants.{At}
 use Rattle.table.proofs.Live.{live_ext, live_insert, live_close, live_strike, live_replace, look_some, ascends_ext, ascends_change, ascends_open, ascends_close}
 use Rattle.table.proofs.Search.{between_above}
 use Rattle.table.proofs.Packed.{Packed, packed_live, packed_count, packed_ascends}
@@ -105,8 +103,8 @@ unfolding read
 key_is xs j = refl
 
 -- what was found, where it is At i
-pub found_at : (xs : List ℕ) {n k i : ℕ} {f : Found} → f ≡ At i → Finds (key_at 8 24 xs) (mark_at 8 24 16 xs) n k f → Finds (key_at 8 24 xs) (mark_at 8 24 16 xs) n k (At i)
-found_at xs {n} {k} e h = subst (λ (g : Found). Finds (key_at 8 24 xs) (mark_at 8 24 16 xs) n k g) e h
+pub found_at : (xs : List ℕ) {n k i : ℕ} {f : Option ℕ} → f ≡ Some i → Finds (key_at 8 24 xs) (mark_at 8 24 16 xs) n k f → Finds (key_at 8 24 xs) (mark_at 8 24 16 xs) n k (Some i)
+found_at xs {n} {k} e h = subst (λ (g : Option ℕ). Finds (key_at 8 24 xs) (mark_at 8 24 16 xs) n k g) e h
 
 -- a field is set
 
@@ -118,7 +116,7 @@ set_mark : (xs : List ℕ) (o v : ℕ) → v < 256 ^ 1 → o + 17 ≤ length xs 
 unfolding read
 set_mark xs o v f h = ap row (gets_field widths 2 xs o v (omega arith) f h)
 
-pub change_to : {xs : List ℕ} (n i k v : ℕ) → Table xs → n ≡ count xs → v < 256 ^ 8 → Finds (key_at 8 24 xs) (mark_at 8 24 16 xs) n k (At i)
+pub change_to : {xs : List ℕ} (n i k v : ℕ) → Table xs → n ≡ count xs → v < 256 ^ 8 → Finds (key_at 8 24 xs) (mark_at 8 24 16 xs) n k (Some i)
     → To (put 8 xs (8 + 24 * i + 8) v) (revalued (look key k (entries xs)) v (entries xs))
 unfolding entries
 change_to {xs} n i k v t e f h =
@@ -128,14 +126,14 @@ change_to {xs} n i k v t e f h =
     let p : Outside o (o + 24) xs ys = outside_put o (o + 24) 8 xs (o + 8) v (omega arith) (omega arith) in
     let here : row_at ys i ≡ record { key = (row_at xs i).key; value = v; mark = (row_at xs i).mark } = set_value xs o v f (omega (arith, t.room, t.few)) in
     let m : 0 < mark (row_at xs i) = rw (mark_is xs i) h.2 in
-    let some_row : look key k (live mark (row_at xs) (count xs)) ≡ some (row_at xs i) =
+    let some_row : look key k (live mark (row_at xs) (count xs)) ≡ Some (row_at xs i) =
     look_some mark key (row_at xs) k i (count xs) t.asc l (key_is xs i ∙ h.1) m in
     rw some_row
     (changed i _ t l p (ap key here)
     (live_replace mark key (row_changed read_local 8 l p) t.asc (ap key here) m (rw here m)
     ∙ ap (λ (r : Row). replace key r (live mark (row_at xs) (count xs))) here))
 
-pub remove_to : {xs : List ℕ} (n i k : ℕ) → Table xs → n ≡ count xs → Finds (key_at 8 24 xs) (mark_at 8 24 16 xs) n k (At i)
+pub remove_to : {xs : List ℕ} (n i k : ℕ) → Table xs → n ≡ count xs → Finds (key_at 8 24 xs) (mark_at 8 24 16 xs) n k (Some i)
     → To (put 1 xs (8 + 24 * i + 16) 0) (without key k (entries xs))
 unfolding entries
 remove_to {xs} n i k t e h =

@@ -1,7 +1,6 @@
 -- A table of eight rows of 24 bytes at 8, behind its count: what a user of `table` writes for a row type of its own.
 -- Assumes nothing.
-use Rattle.std.specs.Prelude.{◌≡◌, Bool, true, false, List, [], ◌∷◌, ℕ, ◌≤◌, ◌<◌, length, get_or}
-use Rattle.std.proofs.Math.Option.{Option, none, some}
+use Rattle.std.specs.Prelude.{◌≡◌, Bool, true, false, List, [], ◌∷◌, ℕ, ◌≤◌, ◌<◌, length, get_or, Option, Some, None}
 use Rattle.le.specs.Le.{le}
 use Rattle.le.specs.Row.{gets}
 use Rattle.table.specs.Live.{live, replace, Ascends}
@@ -74,5 +73,5 @@ pub record Place (xs : List ℕ) (n i : ℕ) (r : Row) : Type 0 where
 
 -- l with the value v at the row that was found
 abbrev pub revalued : Option Row → ℕ → List Row → List Row
-revalued none v l = l
-revalued (some r) v l = replace key (record { key = r.key; value = v; mark = r.mark }) l
+revalued None v l = l
+revalued (Some r) v l = replace key (record { key = r.key; value = v; mark = r.mark }) l

@@ -7,7 +7,6 @@ ghost use Rattle.table.specs.Live.{without, look, insert};
 ghost use Rattle.table_test.specs.Test.{widths, values, key, live_row, revalued, row_at, count, entries, Table, To, Did, IsAt, Place};
 
 use std::io;
-use table::Found;
 
 #[derive(Clone, Copy)]
 pub struct Row {
@@ -110,11 +109,11 @@ fn change(m: &mut [u8], k: u64, v: u64) -> bool
 {
     let n = size(m);
     match table::find(m, 8, 24, 16, n, k) {
-        Found::At(i) => {
+        Some(i) => {
             le::put_u64(m, 8 + 24 * i + 8, v);
             true
         }
-        Found::Nothing => false,
+        None => false,
     }
 }
 
@@ -124,11 +123,11 @@ fn remove(m: &mut [u8], k: u64) -> bool
 {
     let n = size(m);
     match table::find(m, 8, 24, 16, n, k) {
-        Found::At(i) => {
+        Some(i) => {
             table::strike(m, 8, 24, 16, i);
             true
         }
-        Found::Nothing => false,
+        None => false,
     }
 }
 

@@ -1,34 +1,27 @@
 -- Orders read from a listing or a checkpoint, and exact totals of what they hold. Assumes nothing.
-use Prim.Native.Nat.{ℕ, zero, suc, ◌+◌, ◌*◌, ◌-◌, ◌≤◌, ◌<◌}
+use Rattle.std.specs.Prelude.{None, is_some}
+use Prim.Native.Nat.{ℕ, zero, suc, ◌+◌, ◌-◌, ◌≤◌, ◌<◌}
 use mathlib.Core.Path.{◌≡◌, refl, sym, ap, subst, ◌∙◌}
-use mathlib.Core.Bool.{Bool, true, false, cond, not, ◌&&◌, false≢true, and-true, and-false}
+use mathlib.Core.Bool.{Bool, true, false, ◌&&◌, and-true, and-false}
 use mathlib.Core.Logic.{⊎_elim}
-use mathlib.Core.Option.{Option, none, some}
 use mathlib.Core.List.{List, [], ◌∷◌, map}
 use native.Mathlib.Nat.{not-suc-le-zero}
 use native.Mathlib.Numerals.{add-one}
 use native.Mathlib.Omega.{arith}
 use borrow.Author.Tests.{eq-eqb, ne_eqb}
-use lib.Dec.{eqb}
 use lib.IntN.{ℤ, pos, ◌+ℤ◌}
 use lib.ListN.{length, get_or, drop, length-map, get_or-map}
 use lib.Seq.{drop-cons, drop-length}
-use Rattle.orderbook.specs.declared.Listed.{Listed}
-use Rattle.orderbook.specs.declared.Side.{Side}
-use Rattle.orderbook.specs.declared.Side.TheVariants.{Buy, Sell}
-use Rattle.accounts.specs.declared.Funds.{Funds}
-use Rattle.words.specs.Words.{base, modulus, int}
+use Rattle.words.specs.Words.{int}
 use Rattle.words.proofs.Int.{int_zero}
 use Rattle.table.proofs.Live.{same?}
-use Rattle.gateway.specs.Basics.{is_some}
 use Rattle.gateway.specs.Limits.{owner_slots, most_orders}
 use Rattle.gateway.specs.Ledger.{Order, order_hold, same_side, held_by, held, fits, wallet_fits}
 use Rattle.gateway.specs.Ledger as Ledger
 use Rattle.gateway.specs.Listing.{live}
 use Rattle.gateway.specs.Bytes.{decode}
 use Rattle.gateway.specs.Start.{funds_in}
-use Rattle.store.specs.View as View
-use Rattle.store.specs.View.{side, maybe_price, listed}
+use Rattle.store.specs.View.{side}
 use Rattle.store.proofs.Listed.{listed_length, listed_at}
 use Rattle.orders.specs.declared.Live.{Live}
 use Rattle.orders.specs.Orders.{order_of}
@@ -37,24 +30,17 @@ use Rattle.live.proofs.Accounts.{hold_is}
 use Rattle.sums.specs.declared.Sum.{Sum}
 use Rattle.sums.specs.Sums.{Sums, HasRoom, Small, Adds, Judges}
 use Rattle.sums.proofs.Laws.{more_sums}
-use Rattle.roster.specs.declared.Slot.{Slot}
 use Rattle.roster.specs.declared.Roster.{Roster}
-use Rattle.roster.specs.Rostered.{no_slot, account_in, account_of}
+use Rattle.roster.specs.Rostered.{account_of}
 use Rattle.listing.specs.declared.Entry.{Entry}
 use Rattle.listing.specs.Rows.{entry, listed_as, rows, row, listing}
 use Rattle.listing.proofs.Listings.{order_is, stop_is, rows_are}
 use Rattle.saved.specs.Contents.{saved_of, no_order, Reads}
 use Rattle.totals.specs.declared.Source.{Source}
 use Rattle.totals.specs.declared.Source.TheVariants.{Listing, Saved}
-use Rattle.totals.specs.Totals.{orders_in, Readable, priced, is_of, both_fit, funds, wallets_fit}
+use Rattle.totals.specs.Totals.{orders_in, Readable, priced, is_of, funds, wallets_fit}
 
 -- ---- one order
-
-pub priced_order : (kind limited : ℕ) → kind ≡ 0 → 1 ≡ priced kind limited
-priced_order kind limited e = rw (eq-eqb kind 0 e) refl
-
-pub priced_stop : (kind limited : ℕ) → (kind ≡ 0 → ⊥) → limited ≡ priced kind limited
-priced_stop kind limited e = rw (ne_eqb kind 0 e) refl
 
 -- the words of a listed order
 abbrev words_of : Entry → Live
@@ -115,12 +101,6 @@ module _ (xs : List ℕ) (s : Source) (h : Readable s xs) where
 -- ---- what it holds
 
 module _ (o : Live) (a z : ℕ) where
-  pub same_account : (b : Bool) → o.account ≡ a → b ≡ same_side (side z) (side o.side) → b ≡ is_of a (side z) (order_of 0 o)
-  same_account b e h = rw (eq-eqb o.account a e) h
-
-  pub other_account : (o.account ≡ a → ⊥) → false ≡ is_of a (side z) (order_of 0 o)
-  other_account e = rw (ne_eqb o.account a e) refl
-
   module _ (b : Bool) (is : b ≡ is_of a (side z) (order_of 0 o)) where
     pub held_own : (fee r : ℕ) → b ≡ true → r ≡ hold_word fee o.side o.priced o.price o.leaves → int r ≡ held_by (int fee) a (side z) (order_of 0 o)
     held_own fee r t e = rw (sym is ∙ t) (ap int e ∙ hold_is fee o.side o.priced o.price o.leaves)
@@ -176,27 +156,6 @@ module _ (fee a z : ℕ) (os : List Order) (n : ℕ) (size : n ≡ length os) (f
 
 -- ---- the wallets
 
-pub sells_decide : (fee : ℤ) (a : ℕ) (os : List Order) (c d : Bool) → c ≡ fits (held fee a (side 0) os) → c ≡ true → d ≡ fits (held fee a (side 1) os) → d ≡ both_fit fee a os
-sells_decide fee a os c d e t f = rw (sym e ∙ t) f
-
-pub buys_fail : (fee : ℤ) (a : ℕ) (os : List Order) (c : Bool) → c ≡ fits (held fee a (side 0) os) → c ≡ false → false ≡ both_fit fee a os
-buys_fail fee a os c e t = rw (sym e ∙ t) refl
-
-module _ (fee : ℤ) (a : ℕ) (s : Slot) (os : List Order) (b : Bool) (is : b ≡ is_some (funds_in (account_in s))) where
-  pub unfunded_fits : b ≡ false → true ≡ wallet_fits fee a (funds_in (account_in s)) os
-  unfunded_fits t = go (funds_in (account_in s)) (sym is ∙ t)
-    where
-      go : (w : Option Funds) → is_some w ≡ false → true ≡ wallet_fits fee a w os
-      go none e = refl
-      go (some f) e = absurd (false≢true (sym e))
-
-  pub funded_fits : (c : Bool) → b ≡ true → c ≡ both_fit fee a os → c ≡ wallet_fits fee a (funds_in (account_in s)) os
-  funded_fits c t h = h ∙ go (funds_in (account_in s)) (sym is ∙ t)
-    where
-      go : (w : Option Funds) → is_some w ≡ true → both_fit fee a os ≡ wallet_fits fee a w os
-      go none e = absurd (false≢true e)
-      go (some f) e = refl
-
 module _ (fee : ℤ) (r : Roster) (os : List Order) where
   pub none_left : wallets_fit fee r owner_slots os ≡ true
   none_left = ap (λ l. Ledger.wallets_fit fee owner_slots l os) (ap (λ n. drop n (funds r)) (sym size) ∙ drop-length (funds r))
@@ -207,8 +166,8 @@ module _ (fee : ℤ) (r : Roster) (os : List Order) where
   -- one wallet more
   slot_more : (i : ℕ) → i < owner_slots → wallets_fit fee r i os ≡ (wallet_fits fee i (funds_in (account_of r i)) os && wallets_fit fee r (i + 1) os)
   slot_more i h =
-      ap (λ l. Ledger.wallets_fit fee i l os) (drop-cons (funds r) i none (rw (listed_length (λ a. funds_in (account_of r a)) owner_slots) h))
-      ∙ ap (λ w. wallet_fits fee i w os && Ledger.wallets_fit fee (suc i) (drop (suc i) (funds r)) os) (listed_at (λ a. funds_in (account_of r a)) owner_slots i none h)
+      ap (λ l. Ledger.wallets_fit fee i l os) (drop-cons (funds r) i None (rw (listed_length (λ a. funds_in (account_of r a)) owner_slots) h))
+      ∙ ap (λ w. wallet_fits fee i w os && Ledger.wallets_fit fee (suc i) (drop (suc i) (funds r)) os) (listed_at (λ a. funds_in (account_of r a)) owner_slots i None h)
       ∙ ap (λ n. wallet_fits fee i (funds_in (account_of r i)) os && wallets_fit fee r n os) (sym (add-one i))
 
   module _ (i : ℕ) (l : 0 < i) (m : i ≤ owner_slots) (h : wallets_fit fee r i os ≡ true) (b : Bool) (is : b ≡ wallet_fits fee (i - 1) (funds_in (account_of r (i - 1))) os) where
@@ -229,4 +188,4 @@ module _ (fee : ℤ) (r : Roster) (os : List Order) where
         go zero k e = sym e
         go (suc n) k e = go n (omega arith) (slot_more n k ∙ ap (λ p. wallet_fits fee n (funds_in (account_of r n)) os && wallets_fit fee r p os) (add-one n) ∙ ap (λ c. wallet_fits fee n (funds_in (account_of r n)) os && c) e ∙ and-false (wallet_fits fee n (funds_in (account_of r n)) os))
 
-pub ruleset laws = (priced_order, priced_stop, listed_reads, in_listing, in_saved, reads_listing, reads_saved, whole, listing_count, listing_few, saved_count, same_account, other_account, held_own, held_none, sells_decide, buys_fail, unfunded_fits, funded_fits, arith)
+pub ruleset laws = (listed_reads, in_listing, in_saved, reads_listing, reads_saved, whole, listing_count, listing_few, saved_count, held_own, held_none, arith)

@@ -1,10 +1,8 @@
 -- The orders that set-up and restore are given, and what those of each wallet hold.
-use Rattle.std.specs.Prelude.{ℕ, ◌≤◌, ◌≡◌, Bool, true, cond, ◌&&◌, List, map, ℤ, eqb, drop}
-use Rattle.std.proofs.Math.Option.{Option}
+use Rattle.std.specs.Prelude.{ℕ, ◌≤◌, ◌≡◌, Bool, true, cond, ◌&&◌, List, map, ℤ, eqb, drop, Option, is_some}
 use Rattle.orderbook.specs.declared.Side.{Side}
 use Rattle.orderbook.specs.declared.Side.TheVariants.{Buy, Sell}
 use Rattle.accounts.specs.declared.Funds.{Funds}
-use Rattle.gateway.specs.Basics.{is_some}
 use Rattle.gateway.specs.Limits.{owner_slots, most_orders}
 use Rattle.gateway.specs.Ledger.{Order, same_side, held, fits}
 use Rattle.gateway.specs.Ledger as Ledger

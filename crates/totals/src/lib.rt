@@ -7,7 +7,6 @@ ghost use Rattle.gateway.specs.Limits.{most_orders};
 ghost use Rattle.gateway.specs.Ledger as Ledger;
 ghost use Rattle.gateway.specs.Start.{funds_in};
 ghost use Rattle.store.specs.View as View;
-ghost use Rattle.roster.specs.Rostered.{account_in};
 ghost use Rattle.orders.specs.Orders.{order_of};
 ghost use Rattle.listing.specs.Rows as Rows;
 ghost use Rattle.listing.specs.Rows.{listing};
@@ -15,8 +14,9 @@ ghost use Rattle.saved.specs.Contents.{Reads, no_order};
 ghost use Rattle.totals.specs.declared.Source.TheVariants.{Listing};
 ghost use Rattle.totals.specs.Totals as P;
 
+use accounts::Account;
 use orders::Live;
-use roster::{Roster, Slot};
+use roster::Roster;
 use store::limits;
 
 // Where orders come from: a book listing, or a checkpoint's bytes.
@@ -104,9 +104,7 @@ fn total_fits(fee: u64, from: Source, list: &[u8], account: u64, side: u64) -> b
 {
     let n = count(from, list);
     let mut s = sums::nothing();
-    let mut j = n;
-    while 0 < j {
-        j -= 1;
+    for j in (0..n).rev() {
         let o = order_at(from, list, j);
         s = sums::add(s, held_by(fee, o, account, side));
     }
@@ -126,10 +124,10 @@ fn both_fit(fee: u64, from: Source, list: &[u8], account: u64) -> bool
     false
 }
 
-// The wallet of a slot's account, where it has one.
-fn slot_fits(fee: u64, from: Source, list: &[u8], s: Slot, account: u64) -> bool
+// The wallet of a slot's account, where there is one and has one.
+fn slot_fits(fee: u64, from: Source, list: &[u8], s: Option<Account>, account: u64) -> bool
     requires { P.Readable from list.now }
-    ensures { result ≡ Ledger.wallet_fits (int fee) account (funds_in (account_in s)) (P.orders_in from list.now) }
+    ensures { result ≡ Ledger.wallet_fits (int fee) account (funds_in s) (P.orders_in from list.now) }
 {
     if roster::is_funded(s) {
         return both_fit(fee, from, list, account);
@@ -142,12 +140,8 @@ pub fn all_fit(fee: u64, from: Source, list: &[u8], accounts: Roster) -> bool
     requires { P.Readable from list.now }
     ensures { result ≡ P.wallets_fit (int fee) accounts 0 (P.orders_in from list.now) }
 {
-    let mut i = limits::OWNER_SLOTS;
-    while 0 < i {
-        i -= 1;
-        let s = accounts.slots[i];
-        let fits = slot_fits(fee, from, list, s, i as u64);
-        if !fits {
+    for i in (0..limits::OWNER_SLOTS).rev() {
+        if !slot_fits(fee, from, list, accounts.slots[i], i as u64) {
             return false;
         }
     }

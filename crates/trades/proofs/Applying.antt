@@ -1,4 +1,5 @@
 -- A trade applied: both fills, the reference price, the depth, the tick and the run. Assumes nothing.
+use Rattle.std.specs.Prelude.{Option}
 use mathlib.Core.Path.{◌≡◌, refl, sym, ap, subst, ◌∙◌}
 use mathlib.Core.Bool.{Bool, true, false, ◌&&◌}
 use mathlib.Core.List.{List, append_assoc, append-nil}
@@ -6,7 +7,6 @@ use Prim.Native.Nat.{ℕ, ◌+◌, ◌≤◌, ◌<◌}
 use native.Mathlib.Omega.{arith}
 use lib.ListN.{length, length-append}
 use Rattle.gateway.specs.Limits.{most_trades, most_notices}
-use Rattle.table.specs.declared.Found.{Found}
 use Rattle.gateway.specs.Ledger.{Change, number_of, paper, change, changes, step}
 use Rattle.gateway.specs.Core.{in_flight}
 use Rattle.gateway.specs.Depth.{resting_number, apply}
@@ -56,7 +56,7 @@ module _ (xs : List ℕ) (d : Deal) (new maker_new : ℕ) (h : CanSettle d new m
     pub maker_hold : NewHold d.maker (maker_fill d) maker_new (ledger (cell ys))
     maker_hold = kept_hold_at d.maker (maker_fill d) maker_new xs h.maker_holds d.taker (taker_fill d) h.two b.becomes
 
-    pub maker_lives : (at : Found) → Sees C.order_live order number_of (cell xs) d.maker at → Sees C.order_live order number_of (cell ys) d.maker at
+    pub maker_lives : (at : Option ℕ) → Sees C.order_live order number_of (cell xs) d.maker at → Sees C.order_live order number_of (cell ys) d.maker at
     maker_lives at = kept_live b d.maker at d.taker (taker_fill d) h.two refl
 
 pub settled_becomes : (xs : List ℕ) {ys zs : List ℕ} (d : Deal) → InPlace xs ys (moved (change_of d.taker (taker_fill d)) (gateway (cell xs))) →
@@ -99,7 +99,7 @@ module _ (xs ys zs : List ℕ) (n : ℕ) (d : Deal) (both : Bool) (can : CanDeal
   still_trades = subst (λ (g : Gateway). CanTrade d.taker d.maker d.qty d.taker_leaves d.maker_leaves g.rest.depth) (sym so_far) can.in_book
 
   -- both rest where they were
-  pub still_rests : (n : ℕ) (at : Found) → Sees C.order_resting resting resting_number (cell xs) n at → Sees C.order_resting resting resting_number (cell zs) n at
+  pub still_rests : (n : ℕ) (at : Option ℕ) → Sees C.order_resting resting resting_number (cell xs) n at → Sees C.order_resting resting resting_number (cell zs) n at
   still_rests n at h = seen_resting k n at refl (seen_resting s n at refl h)
 
   module _ (us : List ℕ) (t : InPlace zs us (with_depth (in_depth d) (gateway (cell zs)))) where

@@ -1,4 +1,5 @@
 -- The call: from the verdict, what was applied and what was sent. Assumes nothing.
+use Rattle.std.specs.Prelude.{Ok, Err, Result}
 use mathlib.Core.Path.{◌≡◌, refl, sym, ap, ap₂, subst, ◌∙◌}
 use mathlib.Core.Bool.{Bool, true, ◌&&◌, and-eq-true_iff}
 use mathlib.Core.List.{List, ◌++◌}
@@ -34,7 +35,8 @@ use Rattle.orders.specs.Orders.{Sees}
 use Rattle.sound.specs.Sound.{Becomes}
 use Rattle.mailbox.specs.Mailbox.{places}
 use Rattle.marketdata.specs.Marketdata.{Roomy}
-use Rattle.outcome.specs.declared.Reply.{Reply}
+use Rattle.outcome.specs.declared.Refusal.{Refusal}
+use Rattle.outcome.specs.Refusals.{refusal_code}
 use Rattle.outcome.specs.Between.{Between}
 use Rattle.outcome.specs.Answers.{verdict, Gives}
 use Rattle.outcome.specs.Parts.{Sends}
@@ -98,23 +100,23 @@ stands w t = record { lives = w.seen.lives; rests = w.seen.rests; weighs = w.wei
 
 -- ---- the call
 
-module _ (xs out : List ℕ) (n : ℕ) (d : Deal) (b : Between xs) (f : EventFits (event_of d)) (t m : Party) (ts : Stands d.taker (taker_fill d) t xs) (ms : Stands d.maker (maker_fill d) m xs) (p v : ℕ)
-    (room : p ≡ places (length out)) (v_is : v ≡ verdict (tests (trade_tests n d t m p (gateway (cell xs))))) where
+module _ (xs out : List ℕ) (n : ℕ) (d : Deal) (b : Between xs) (f : EventFits (event_of d)) (t m : Party) (ts : Stands d.taker (taker_fill d) t xs) (ms : Stands d.maker (maker_fill d) m xs) (p : ℕ)
+    (room : p ≡ places (length out)) where
   abbrev g : Gateway
   g = gateway (cell xs)
 
-  whole : v ≡ verdict (call_tests n (event_of d) (places (length out)) (gateway (cell xs)))
-  whole =
+  whole : (v : ℕ) → v ≡ verdict (tests (trade_tests n d t m p (gateway (cell xs)))) → v ≡ verdict (call_tests n (event_of d) (places (length out)) (gateway (cell xs)))
+  whole v v_is =
       v_is ∙ ap (λ r. verdict (tests (trade_tests n d t m r g))) room
       ∙ judged_is n (event_of d) (places (length out)) g (trade_tests n d t m (places (length out)) g)
       (trade_judges g b.ok n d t m ts.weighs ms.weighs ts.tells ms.tells (places (length out)))
 
-  pub trade_refused : (v ≡ 0 → ⊥) → Gives (call (gateway (cell xs)) (deliver_event n (event_of d) (places (length out)))) (record { code = v; count = 0 }) xs xs out out
-  trade_refused = deliver_refused xs out n (event_of d) f b v whole
+  pub trade_refused : (x : Refusal) → refusal_code x ≡ verdict (tests (trade_tests n d t m p (gateway (cell xs)))) → Gives (call (gateway (cell xs)) (deliver_event n (event_of d) (places (length out)))) (Err x) xs xs out out
+  trade_refused x e = deliver_refused xs out n (event_of d) f b x (whole (refusal_code x) e)
 
-  module _ (z : v ≡ 0) where
+  module _ (z : 0 ≡ verdict (tests (trade_tests n d t m p (gateway (cell xs))))) where
     passed : Pass (tests (trade_tests n d t m p g))
-    passed = passes (tests (trade_tests n d t m p g)) refl (sym z ∙ v_is)
+    passed = passes (tests (trade_tests n d t m p g)) refl z
 
     two : d.taker ≡ d.maker → ⊥
     two = differ n d.taker d.maker passed.1.1.0
@@ -138,14 +140,14 @@ module _ (xs out : List ℕ) (n : ℕ) (d : Deal) (b : Between xs) (f : EventFit
     mail_room = omega (arith, room, leb-true (told_rows t.told + told_rows m.told) p passed.1.1.1.1.1.1.1.1.1.0)
 
     pub trade_done : {ys zs end : List ℕ} (both : Bool) (k : ℕ) → both ≡ t.shift.funded && m.shift.funded → Becomes ys (dealt n d both (gateway (cell xs))) → Reports n d t.told m.told k ys zs out end →
-        Gives (call (gateway (cell xs)) (deliver_event n (event_of d) (places (length out)))) (record { code = 0; count = k }) xs zs out end
+        Gives (call (gateway (cell xs)) (deliver_event n (event_of d) (places (length out)))) (Ok k) xs zs out end
     trade_done {ys} both k both_is s r =
-        deliver_done xs out n (event_of d) f b v whole z (deal_mail n d t.told m.told) (mail_is n d t.told m.told g ts.tells ms.tells) k
+        deliver_done xs out n (event_of d) f b (whole 0 z) (deal_mail n d t.told m.told) (mail_is n d t.told m.told g ts.tells ms.tells) k
         (r.count_is ∙ mail_count n d t.told m.told)
         (subst (Becomes ys) (dealt_after n d both g (both_is ∙ ap₂ ◌&&◌ (sym ts.weighs.paper_is) (sym ms.weighs.paper_is))) s) r.sends
 
 -- the event as it came: a price that is passed on is read back from its bits
-pub as_said : (xs out : List ℕ) {ys end : List ℕ} (n id taker maker : ℕ) (z : Side) (p : ℤ) (q tl ml : ℕ) (d : Deal) (r : Reply) → mag p < half → Says (Trade id taker maker z (to_z w64 (of_z w64 p)) q tl ml) d →
+pub as_said : (xs out : List ℕ) {ys end : List ℕ} (n id taker maker : ℕ) (z : Side) (p : ℤ) (q tl ml : ℕ) (d : Deal) (r : Result ℕ Refusal) → mag p < half → Says (Trade id taker maker z (to_z w64 (of_z w64 p)) q tl ml) d →
     Gives (call (gateway (cell xs)) (deliver_event n (event_of d) (places (length out)))) r xs ys out end →
     Gives (call (gateway (cell xs)) (deliver_event n (Trade id taker maker z p q tl ml) (places (length out)))) r xs ys out end
 as_said xs out {ys} {end} n id taker maker z p q tl ml d r h s =

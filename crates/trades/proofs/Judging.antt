@@ -16,10 +16,9 @@ use Rattle.gateway.specs.Ledger.{mark_by, changes, step}
 use Rattle.gateway.specs.Core.{names_below, numbers_agree, in_flight}
 use Rattle.gateway.specs.Depth.{Depth, apply, depth_agrees, shows}
 use Rattle.gateway.specs.Deliver.{reports, tick_of, notices_of}
-use Rattle.gateway.specs.Invariant.{Ok}
+use Rattle.gateway.specs.Invariant.{GatewayOk}
 use Rattle.gateway.specs.Calls.{Gateway}
 use Rattle.store.specs.Cells as C
-use Rattle.store.specs.Layout.{cell}
 use Rattle.store.specs.View.{Store, word, side, depth, gateway}
 use Rattle.store.proofs.Listed.{listed_length}
 use Rattle.outcome.specs.Answers.{verdict}
@@ -122,7 +121,7 @@ mail_count n d a b =
     let ns = told_mail n d.maker (fill_kind d (opposite_of (side d.side)) d.maker_leaves) b in
     ap₂ ◌+◌ (told_length n d.taker (fill_kind d (side d.side) d.taker_leaves) a) (told_length n d.maker (fill_kind d (opposite_of (side d.side)) d.maker_leaves) b) ∙ sym (length-append ms ns)
 
-module _ (g : Gateway) (ok : Ok g) (n : ℕ) (d : Deal) (a b : Party) (w : Weighs d.taker (taker_fill d) a.shift g) (v : Weighs d.maker (maker_fill d) b.shift g)
+module _ (g : Gateway) (ok : GatewayOk g) (n : ℕ) (d : Deal) (a b : Party) (w : Weighs d.taker (taker_fill d) a.shift g) (v : Weighs d.maker (maker_fill d) b.shift g)
     (t : Tells d.taker a.told g) (u : Tells d.maker b.told g) where
   noticed_is : numbers n d.taker d.maker ≡ true →
       leb (a.shift.notices + b.shift.notices + length g.rest.notices) most_notices ≡ leb (length (g.rest.notices ++ notices_of (changes n (event_of d)) g.core.ledger)) most_notices

@@ -5,7 +5,7 @@ ghost use Rattle.std.specs.Prelude.{◌≡◌, ◌+◌, ◌≤◌, ◌<◌, leng
 ghost use Rattle.orderbook.specs.declared.Event.TheVariants as Event;
 ghost use Rattle.gateway.specs.Depth as D;
 ghost use Rattle.gateway.specs.Ledger.{number_of};
-ghost use Rattle.gateway.specs.Limits.{session_slots, most_trades};
+ghost use Rattle.gateway.specs.Limits.{most_trades};
 ghost use Rattle.gateway.specs.Calls.{call, deliver_event};
 ghost use Rattle.gateway.specs.Fits.{EventFits};
 ghost use Rattle.store.specs.Cells as C;
@@ -15,8 +15,9 @@ ghost use Rattle.orders.specs.Orders.{Sees};
 ghost use Rattle.sound.specs.Sound.{State, Becomes, InPlace};
 ghost use Rattle.mailbox.specs.Mailbox.{places};
 ghost use Rattle.outcome.specs.Between.{Between};
+ghost use Rattle.outcome.specs.Refusals.{code_of};
 ghost use Rattle.outcome.specs.Answers.{verdict, Gives};
-ghost use Rattle.reporting.specs.Reporting.{told_rows};
+ghost use Rattle.reporting.specs.Reporting.{InSlots, told_rows};
 ghost use Rattle.delivery.specs.Delivery as Delivery;
 ghost use Rattle.trades.specs.Trades as P;
 
@@ -24,12 +25,11 @@ use delivery::Tests;
 use holds::Shift;
 use orderbook::Side;
 use orders::Places;
-use outcome::Reply;
+use outcome::Refusal;
 use pending::Trade;
-use protocol::{ReportKind, codes};
+use protocol::ReportKind;
 use reporting::Told;
 use store::{cells, limits};
-use table::Found;
 
 // What a trade says: the side as its code, the price as a word.
 #[derive(Clone, Copy)]
@@ -47,8 +47,8 @@ pub struct Deal {
 // What is found of one of its orders.
 #[derive(Clone, Copy)]
 pub struct Party {
-    pub live: Found,
-    pub resting: Found,
+    pub live: Option<usize>,
+    pub resting: Option<usize>,
     pub shift: Shift,
     pub told: Told,
 }
@@ -66,7 +66,7 @@ pub fn deal_of(
 ) -> Deal
     ensures { P.Says (Event.Trade id taker maker side price qty taker_leaves maker_leaves) result }
 {
-    let code = codes::side_code(side) as u64;
+    let code = side as u64;
     let word = words::of_i64(price);
     Deal {
         id,
@@ -96,7 +96,7 @@ pub fn numbers_agree(n: u64, taker: u64, maker: u64) -> bool
 }
 
 // The trade is at most what each shows, where it rests.
-fn both_show(m: &[u8], d: Deal, maker_at: Found, taker_at: Found) -> bool
+fn both_show(m: &[u8], d: Deal, maker_at: Option<usize>, taker_at: Option<usize>) -> bool
     requires { Between m.now × Sees C.order_resting resting D.resting_number (cell m.now) d.maker maker_at × Sees C.order_resting resting D.resting_number (cell m.now) d.taker taker_at }
     ensures { result ≡ P.both_show d (depth (cell m.now)) }
 {
@@ -122,9 +122,9 @@ fn few_notices(m: &[u8], taker: Shift, maker: Shift) -> bool
     holds::few(m, taker.notices + maker.notices)
 }
 
-fn judge(m: &[u8], n: u64, d: Deal, taker: Party, maker: Party, room: usize) -> u64
+fn judge(m: &[u8], n: u64, d: Deal, taker: Party, maker: Party, room: usize) -> Result<(), Refusal>
     requires { Between m.now × P.Stands d.taker (P.taker_fill d) taker m.now × P.Stands d.maker (P.maker_fill d) maker m.now }
-    ensures { result ≡ verdict (Delivery.tests (P.trade_tests n d taker maker room (gateway (cell m.now)))) }
+    ensures { code_of result ≡ verdict (Delivery.tests (P.trade_tests n d taker maker room (gateway (cell m.now)))) }
 {
     let taker_at = taker.resting;
     let maker_at = maker.resting;
@@ -137,7 +137,7 @@ fn judge(m: &[u8], n: u64, d: Deal, taker: Party, maker: Party, room: usize) -> 
     let few = few_notices(m, taker.shift, maker.shift);
     let first = reporting::rows(taker.told);
     let second = reporting::rows(maker.told);
-    delivery::code_of(Tests {
+    delivery::judge(Tests {
         flying,
         below: true,
         numbers,
@@ -154,7 +154,14 @@ fn judge(m: &[u8], n: u64, d: Deal, taker: Party, maker: Party, room: usize) -> 
 // ---- applied
 
 // The taker before the maker, which its fill leaves where it is.
-fn settle(m: &mut [u8], d: Deal, at: Found, new: u64, maker_at: Found, maker_new: u64)
+fn settle(
+    m: &mut [u8],
+    d: Deal,
+    at: Option<usize>,
+    new: u64,
+    maker_at: Option<usize>,
+    maker_new: u64,
+)
     requires { State m.old × Sees C.order_live order number_of (cell m.old) d.taker at × Sees C.order_live order number_of (cell m.old) d.maker maker_at × P.CanSettle d new maker_new (gateway (cell m.old)) }
     ensures { InPlace m.old m.new (P.settled d (gateway (cell m.old))) }
 {
@@ -238,7 +245,7 @@ fn fill_of(d: Deal, side: Side, leaves: u64) -> ReportKind
 
 // The taker's report, then the maker's: how many rows they are.
 fn tell(m: &mut [u8], out: &mut [u8], n: u64, d: Deal, taker: Told, maker: Told) -> usize
-    requires { State m.old × (taker.to ≤ session_slots) × (maker.to ≤ session_slots) × (told_rows taker + told_rows maker ≤ places (length out.old)) }
+    requires { State m.old × InSlots taker.to × InSlots maker.to × (told_rows taker + told_rows maker ≤ places (length out.old)) }
     ensures { P.Reports n d taker maker result m.old m.new out.old out.new }
 {
     let side = store::side_of(d.side);
@@ -255,14 +262,18 @@ fn tell(m: &mut [u8], out: &mut [u8], n: u64, d: Deal, taker: Told, maker: Told)
 
 // In steps, each a function, so that what is found of the orders is handed on in registers: where they stand (`deliver`), what they hold
 // (`weigh`), whom they are reported to (`find_owners`); then they are judged, applied and reported.
-fn decide(m: &mut [u8], n: u64, d: Deal, taker: Party, maker: Party, out: &mut [u8]) -> Reply
+fn decide(
+    m: &mut [u8],
+    n: u64,
+    d: Deal,
+    taker: Party,
+    maker: Party,
+    out: &mut [u8],
+) -> Result<usize, Refusal>
     requires { Between m.old × EventFits (P.event_of d) × P.Stands d.taker (P.taker_fill d) taker m.old × P.Stands d.maker (P.maker_fill d) maker m.old }
     ensures { Gives (call (gateway (cell m.old)) (deliver_event n (P.event_of d) (places (length out.old)))) result m.old m.new out.old out.new }
 {
-    let code = judge(m, n, d, taker, maker, mailbox::room(out));
-    if code != 0 {
-        return Reply { code, count: 0 };
-    }
+    judge(m, n, d, taker, maker, mailbox::room(out))?;
     apply(
         m,
         n,
@@ -272,7 +283,7 @@ fn decide(m: &mut [u8], n: u64, d: Deal, taker: Party, maker: Party, out: &mut [
         taker.shift.funded & maker.shift.funded,
     );
     let count = tell(m, out, n, d, taker.told, maker.told);
-    Reply { code: 0, count }
+    Ok(count)
 }
 
 fn find_owners(
@@ -284,7 +295,7 @@ fn find_owners(
     maker_at: Places,
     maker_shift: Shift,
     out: &mut [u8],
-) -> Reply
+) -> Result<usize, Refusal>
     requires { Between m.old × EventFits (P.event_of d) × P.Weighed d.taker (P.taker_fill d) at shift m.old × P.Weighed d.maker (P.maker_fill d) maker_at maker_shift m.old }
     ensures { Gives (call (gateway (cell m.old)) (deliver_event n (P.event_of d) (places (length out.old)))) result m.old m.new out.old out.new }
 {
@@ -309,7 +320,14 @@ fn find_owners(
     decide(m, n, d, taker, maker, out)
 }
 
-fn weigh(m: &mut [u8], n: u64, d: Deal, at: Places, maker_at: Places, out: &mut [u8]) -> Reply
+fn weigh(
+    m: &mut [u8],
+    n: u64,
+    d: Deal,
+    at: Places,
+    maker_at: Places,
+    out: &mut [u8],
+) -> Result<usize, Refusal>
     requires { Between m.old × EventFits (P.event_of d) × P.Seen d.taker at m.old × P.Seen d.maker maker_at m.old }
     ensures { Gives (call (gateway (cell m.old)) (deliver_event n (P.event_of d) (places (length out.old)))) result m.old m.new out.old out.new }
 {
@@ -322,7 +340,7 @@ fn weigh(m: &mut [u8], n: u64, d: Deal, at: Places, maker_at: Places, out: &mut 
     find_owners(m, n, d, at, shift, maker_at, maker_shift, out)
 }
 
-fn deliver(m: &mut [u8], n: u64, d: Deal, out: &mut [u8]) -> Reply
+fn deliver(m: &mut [u8], n: u64, d: Deal, out: &mut [u8]) -> Result<usize, Refusal>
     requires { Between m.old × EventFits (P.event_of d) }
     ensures { Gives (call (gateway (cell m.old)) (deliver_event n (P.event_of d) (places (length out.old)))) result m.old m.new out.old out.new }
 {
@@ -343,7 +361,7 @@ pub fn trade(
     taker_leaves: u64,
     maker_leaves: u64,
     out: &mut [u8],
-) -> Reply
+) -> Result<usize, Refusal>
     requires { Between m.old }
     ensures { Gives (call (gateway (cell m.old)) (deliver_event n (Event.Trade id taker maker side price qty taker_leaves maker_leaves) (places (length out.old)))) result m.old m.new out.old out.new }
 {

@@ -1,6 +1,5 @@
 -- What a wallet does, over the integers. A wallet's numbers are those of its balance; what a ledger keeps of it are its funds.
-use Rattle.std.specs.Prelude.{Bool, true, false, ℕ, ℤ, pos, ◌+ℤ◌, ◌-ℤ◌, ◌*ℤ◌}
-use Rattle.std.proofs.Math.Option.{Option, none, some, get_or, map}
+use Rattle.std.specs.Prelude.{Bool, true, false, ℕ, ℤ, pos, ◌+ℤ◌, ◌-ℤ◌, ◌*ℤ◌, Option, Some, None, option_map, unwrap_or}
 use Rattle.std.specs.Int.Signed.{le_z}
 use Rattle.accounts.specs.declared.Funds.{Funds}
 use Rattle.orderbook.specs.declared.Side.{Side}
@@ -8,7 +7,6 @@ use Rattle.orderbook.specs.declared.Side.TheVariants.{Buy, Sell}
 use Rattle.protocol.specs.declared.Balance.{Balance}
 use Rattle.wallet.specs.declared.Wallet.{Wallet}
 use Rattle.words.specs.Words.{most, int, fit, clamp}
-use Rattle.wallet.specs.declared.Changed as C
 
 -- price × qty, if it fits
 abbrev pub cost : ℤ → ℕ → Option ℤ
@@ -35,20 +33,20 @@ hold_of Sell price leaves = fit (pos leaves)
 
 -- what a live order holds: 0 without a price or where the amount does not fit
 abbrev pub held : Side → Option ℤ → ℕ → ℤ
-held side none leaves = pos 0
-held side (some price) leaves = get_or (hold_of side price leaves) (pos 0)
+held side None leaves = pos 0
+held side (Some price) leaves = unwrap_or (hold_of side price leaves) (pos 0)
 
 -- a price as it is kept: a flag, and a number that only counts where the flag is set
 abbrev pub price_of : Bool → ℤ → Option ℤ
-price_of true price = some price
-price_of false price = none
+price_of true price = Some price
+price_of false price = None
 
 -- the cash and the lots of a trade: 2^63 − 1 where they do not fit
 abbrev pub paid : ℤ → ℕ → ℤ
-paid price qty = get_or (cost price qty) most
+paid price qty = unwrap_or (cost price qty) most
 
 abbrev pub lots : ℕ → ℤ
-lots qty = get_or (fit (pos qty)) most
+lots qty = unwrap_or (fit (pos qty)) most
 
 -- a trade moves cash one way and the position the other, saturating
 abbrev pub bought : ℤ → ℤ → Funds → Funds
@@ -99,9 +97,9 @@ covers side amount b = enough (owned_on side b) (held_on side b) amount
 
 -- an order's hold changes from old to new: the exact total decides whether it fits
 abbrev pub hold : Side → ℤ → ℤ → Balance → Option Balance
-hold side old new b = map (λ total. with_held side total b) (fit (held_on side b -ℤ old +ℤ new))
+hold side old new b = option_map (λ total. with_held side total b) (fit (held_on side b -ℤ old +ℤ new))
 
 -- what the code's answer says
-abbrev pub changed : C.Changed → Option Balance
-changed (C.TheVariants.Fits w) = some (balance_of w)
-changed C.TheVariants.TooBig = none
+abbrev pub changed : Option Wallet → Option Balance
+changed (Some w) = Some (balance_of w)
+changed None = None

@@ -2,37 +2,29 @@
 // Numbers are words, `int w`.
 #![tactic(auto)]
 
-ghost use Rattle.std.specs.Prelude.{◌≡◌, ◌<◌, ◌+ℤ◌};
-ghost use Rattle.std.proofs.Math.Option.{get_or, map};
+ghost use Rattle.std.specs.Prelude.{◌≡◌, ◌<◌, ◌+ℤ◌, option_map, unwrap_or};
 ghost use Rattle.words.specs.Words.{int, amount};
 ghost use Rattle.wallet.specs.Wallet as W;
 
 use accounts::Funds;
 use orderbook::Side;
 use protocol::Balance;
-use words::Amount;
 
 // 2^31: the product of two numbers below it fits.
 const SMALL: u64 = 2_147_483_648;
 
 // What qty lots at price + fee cost, if it fits. A sum past 64 bits costs nothing for no lot, and does not fit for any other number of lots.
-fn charge_exactly(fee: u64, price: u64, qty: u64) -> Amount
+fn charge_exactly(fee: u64, price: u64, qty: u64) -> Option<u64>
     ensures { amount result ≡ W.cost (int price +ℤ int fee) qty }
 {
     match words::total(price, 0, fee) {
-        Amount::Fits(sum) => words::narrow(words::signed_mul(sum, qty)),
-        Amount::TooBig => {
-            if qty == 0 {
-                Amount::Fits(0)
-            } else {
-                Amount::TooBig
-            }
-        }
+        Some(sum) => words::narrow(words::signed_mul(sum, qty)),
+        None => { if qty == 0 { Some(0) } else { None } }
     }
 }
 
 // The same. The fee and the price are small where `highest` and `bound` are.
-fn charge_within(highest: u64, bound: u64, fee: u64, price: u64, qty: u64) -> Amount
+fn charge_within(highest: u64, bound: u64, fee: u64, price: u64, qty: u64) -> Option<u64>
     requires fee_small { (highest < W.small → fee < W.small) }
     requires price_small { (bound < W.small → price < W.small) }
     ensures { amount result ≡ W.cost (int price +ℤ int fee) qty }
@@ -41,20 +33,11 @@ fn charge_within(highest: u64, bound: u64, fee: u64, price: u64, qty: u64) -> Am
         if bound < SMALL {
             if qty < SMALL {
                 let amount = (price + fee) * qty;
-                return Amount::Fits(amount);
+                return Some(amount);
             }
         }
     }
     charge_exactly(fee, price, qty)
-}
-
-fn unwrap_or(a: Amount, other: u64) -> u64
-    ensures { int result ≡ get_or (amount a) (int other) }
-{
-    match a {
-        Amount::Fits(w) => w,
-        Amount::TooBig => other,
-    }
 }
 
 // By the side. A choice between two numbers, not a jump: the side cannot be foreseen.
@@ -69,10 +52,10 @@ fn pick(side: Side, buy: u64, sell: u64) -> u64
 
 // What a live order holds: nothing without a price, or where the amount does not fit.
 pub fn held(fee: u64, side: Side, priced: bool, price: u64, leaves: u64) -> u64
-    ensures { int result ≡ W.held side (map (W.charged (int fee) side) (W.price_of priced (int price))) leaves }
+    ensures { int result ≡ W.held side (option_map (W.charged (int fee) side) (W.price_of priced (int price))) leaves }
 {
     if priced {
-        unwrap_or(Wallet::hold_of(fee, side, price, leaves), 0)
+        Wallet::hold_of(fee, side, price, leaves).unwrap_or(0)
     } else {
         0
     }
@@ -91,13 +74,6 @@ pub struct Wallet {
     pub position_held: u64,
 }
 
-// A wallet after a hold changed, if the total fits.
-#[derive(Clone, Copy)]
-pub enum Changed {
-    Fits(Wallet),
-    TooBig,
-}
-
 impl Wallet {
     // A wallet with what funds gives, holding nothing.
     pub fn new(funds: Funds) -> Wallet
@@ -112,7 +88,7 @@ impl Wallet {
     }
 
     // What an order of side with leaves open at price holds: cash for a buy, with the fee, lots for a sell.
-    pub fn hold_of(fee: u64, side: Side, price: u64, leaves: u64) -> Amount
+    pub fn hold_of(fee: u64, side: Side, price: u64, leaves: u64) -> Option<u64>
         ensures { amount result ≡ W.hold_of side (W.charged (int fee) side (int price)) leaves }
     {
         // A lot at price 1 is itself. The price is tested before it is chosen: a word that is read for a choice alone is read behind a jump.
@@ -164,24 +140,21 @@ impl Wallet {
     }
 
     // An order's hold on side changes from old to new.
-    pub fn hold(self, side: Side, old: u64, new: u64) -> Changed
+    pub fn hold(self, side: Side, old: u64, new: u64) -> Option<Wallet>
         ensures { W.changed result ≡ W.hold side (int old) (int new) (W.balance_of self) }
     {
-        match words::total(self.held_on(side), old, new) {
-            Amount::Fits(total) => Changed::Fits(self.with_held(side, total)),
-            Amount::TooBig => Changed::TooBig,
-        }
+        let total = words::total(self.held_on(side), old, new)?;
+        Some(self.with_held(side, total))
     }
 
     // Settles a trade of qty lots at price by an order of side: a buy pays the fee for each lot.
     pub fn settle(self, fee: u64, side: Side, price: u64, qty: u64) -> Wallet
         ensures { W.balance_of result ≡ W.settled side (W.charged (int fee) side (int price)) qty (W.balance_of self) }
     {
-        let amount = unwrap_or(
-            charge_within(fee, price, pick(side, fee, 0), price, qty),
+        let amount = charge_within(fee, price, pick(side, fee, 0), price, qty).unwrap_or(
             words::MOST,
         );
-        let lots = unwrap_or(words::positive(qty), words::MOST);
+        let lots = words::positive(qty).unwrap_or(words::MOST);
         // A buy gives cash for lots, a sell lots for cash.
         let given = words::saturating_sub(
             pick(side, self.cash, self.position),

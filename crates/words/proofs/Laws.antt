@@ -1,7 +1,7 @@
 -- What each function's way through the code shows, one law for each way, for `search`. Assumes nothing.
+use Rattle.std.specs.Prelude.{Option, Some, None}
 use mathlib.Core.Path.{◌≡◌, refl, sym, ◌∙◌, ap}
 use mathlib.Core.Bool.{Bool, true, false}
-use mathlib.Core.Option.{Option, none, some}
 use Prim.Native.Nat.{ℕ, ◌+◌, ◌-◌, ◌*◌, ◌≤◌, ◌<◌}
 use native.Mathlib.Nat.{le_of_lt}
 use native.Mathlib.Omega.{arith}
@@ -22,14 +22,8 @@ high_neg w n f h e = high_is w 0 n f h e ∙ sym (neg_is n)
 abs_is : (p q : ℕ) → nat_abs (p ⊖ q) ≡ p - q + (q - p)
 abs_is p q = ⊖_ind (λ z. nat_abs z ≡ p - q + (q - p)) p q (λ n e. omega arith) (λ n e. omega arith)
 
-apart : (a b u v d : ℕ) → int a ≡ u ⊖ half → int b ≡ v ⊖ half → d ≡ u - v + (v - u) → d ≡ nat_abs (int a -ℤ int b)
+pub apart : (a b u v d : ℕ) → int a ≡ u ⊖ half → int b ≡ v ⊖ half → d ≡ u - v + (v - u) → d ≡ nat_abs (int a -ℤ int b)
 apart a b u v d p q e = e ∙ sym (ap nat_abs (diff2 half u v p q) ∙ abs_is u v)
-
-pub apart_less : (a b u v : ℕ) → int a ≡ u ⊖ half → int b ≡ v ⊖ half → u < v → v - u ≡ nat_abs (int a -ℤ int b)
-apart_less a b u v p q h = apart a b u v (v - u) p q (omega arith)
-
-pub apart_more : (a b u v : ℕ) → int a ≡ u ⊖ half → int b ≡ v ⊖ half → v ≤ u → u - v ≡ nat_abs (int a -ℤ int b)
-apart_more a b u v p q h = apart a b u v (u - v) p q (omega arith)
 
 pub hi_less : (ah al bh bl : ℕ) → al < modulus → ah < bh → true ≡ leb (ah * modulus + al) (bh * modulus + bl)
 hi_less ah al bh bl f h = sym (le-leb (ah * modulus + al) (bh * modulus + bl) (le_of_lt (high_lt modulus ah al bh bl f h)))
@@ -52,19 +46,19 @@ sign w f = go (leb w (half - 1)) refl
     go true e = e ∙ sym (ap (le_z (pos 0)) (low w (omega (arith, leb-true w (half - 1) e))) ∙ le-leb 0 w (omega arith))
     go false e = e ∙ sym (ap (le_z (pos 0)) (high w f (omega (arith, leb-false w (half - 1) e))) ∙ rw (lt-ltb w modulus f) refl)
 
-pub fits_pos : (n : ℕ) → n < half → some (int n) ≡ fit (pos n)
+pub fits_pos : (n : ℕ) → n < half → Some (int n) ≡ fit (pos n)
 fits_pos n h = ap fit_in (lies_in n n 0 (pos_is n n 0 (omega arith)) (low_is n n 0 h (omega arith)) (omega arith) (omega arith))
 
-pub not_pos : (n : ℕ) → half ≤ n → none ≡ fit (pos n)
+pub not_pos : (n : ℕ) → half ≤ n → None ≡ fit (pos n)
 not_pos n h = ap fit_in (lies_above n 0 (pos_is n n 0 (omega arith)) (omega arith))
 
-pub fits_neg : (w n : ℕ) → n ≤ half → int w ≡ (half - n) ⊖ half → some (int w) ≡ fit (neg_ℤ (pos n))
+pub fits_neg : (w n : ℕ) → n ≤ half → int w ≡ (half - n) ⊖ half → Some (int w) ≡ fit (neg_ℤ (pos n))
 fits_neg w n h e = ap fit_in (lies_in w 0 n (neg_is n) (e ∙ ⊖_same (half - n) half 0 n (omega arith)) (omega arith) (omega arith))
 
-pub not_neg : (n : ℕ) → half < n → none ≡ fit (neg_ℤ (pos n))
+pub not_neg : (n : ℕ) → half < n → None ≡ fit (neg_ℤ (pos n))
 not_neg n h = ap fit_in (lies_below 0 n (neg_is n) (omega arith))
 
-pub not_wide : (s : Bool) (h l : ℕ) → (h ≡ 0 → ⊥) → none ≡ fit (signed s (h * modulus + l))
+pub not_wide : (s : Bool) (h l : ℕ) → (h ≡ 0 → ⊥) → None ≡ fit (signed s (h * modulus + l))
 not_wide true h l e = not_neg (h * modulus + l) (omega arith)
 not_wide false h l e = not_pos (h * modulus + l) (omega arith)
 
@@ -105,4 +99,4 @@ less_zero a b = rw int_zero (ap (λ (z : ℤ). z +ℤ int b) (+ℤ_idr (int a)))
 pub plus_zero : (a b : ℕ) → int a -ℤ int b +ℤ int 0 ≡ int a -ℤ int b
 plus_zero a b = rw int_zero (+ℤ_idr (int a -ℤ int b))
 
-pub ruleset laws = (rules, low, sign, apart_less, apart_more, one_moved, fits_pos, not_pos, fits_neg, not_neg, not_wide, one_word, hi_less, hi_more, hi_same, sums_le, product, both_neg, neg_pos, pos_neg, both_pos, both, not_both)
+pub ruleset laws = (rules, low, sign, apart, one_moved, fits_pos, not_pos, fits_neg, not_neg, not_wide, one_word, hi_less, hi_more, hi_same, sums_le, product, both_neg, neg_pos, pos_neg, both_pos, both, not_both)

@@ -1,7 +1,7 @@
 -- Numbers modulo 2^64: the word of a number, and what changes with it. Assumes nothing.
+use Rattle.std.specs.Prelude.{Some, None, unwrap_or}
 use mathlib.Core.Path.{◌≡◌, refl, sym, ap, ◌∙◌}
 use mathlib.Core.Bool.{Bool, true, false}
-use mathlib.Core.Option.{none, some, get_or}
 use Prim.Native.Nat.{ℕ, ◌+◌, ◌-◌, ◌*◌, ◌/◌, ◌%◌, ◌≤◌, ◌<◌}
 use native.Mathlib.Omega.{arith}
 use lib.Dec.{ltb}
@@ -114,18 +114,18 @@ int_least_wraps = ap (λ z. int (wrap z)) (sym int_least) ∙ ap int (wrap_int h
 pub int_zero_wraps : int (wrap (pos 0)) ≡ pos 0
 int_zero_wraps = ap (λ z. int (wrap z)) (sym int_zero) ∙ ap int (wrap_int 0 (omega arith)) ∙ int_zero
 
-pub int_wrap : (z : ℤ) → (fit z ≡ none → ⊥) → int (wrap z) ≡ z
-int_wrap z h = let (p, q, e) = diff_of z in rw e (by_place (λ x. (fit_in x ≡ none → ⊥) → int (wrap (p ⊖ q)) ≡ p ⊖ q) p q (λ f _. f) (λ n. absurd (n refl)) (λ n. absurd (n refl)) (λ x. h (ap fit e ∙ x)))
+pub int_wrap : (z : ℤ) → (fit z ≡ None → ⊥) → int (wrap z) ≡ z
+int_wrap z h = let (p, q, e) = diff_of z in rw e (by_place (λ x. (fit_in x ≡ None → ⊥) → int (wrap (p ⊖ q)) ≡ p ⊖ q) p q (λ f _. f) (λ n. absurd (n refl)) (λ n. absurd (n refl)) (λ x. h (ap fit e ∙ x)))
 
 -- the nearest number that fits, and a number that fits or else d
 pub clamp_wraps : (z : ℤ) → int (wrap (clamp z)) ≡ clamp z
 clamp_wraps z = let (p, q, e) = diff_of z in rw e (by_place (λ x. int (wrap (nearest_to x)) ≡ nearest_to x) p q (λ f. f) int_most_wraps int_least_wraps)
 
-pub fit_wraps : (z d : ℤ) → int (wrap d) ≡ d → int (wrap (get_or (fit z) d)) ≡ get_or (fit z) d
-fit_wraps z d k = let (p, q, e) = diff_of z in rw e (by_place (λ x. int (wrap (get_or (fit_in x) d)) ≡ get_or (fit_in x) d) p q (λ f. f) k k)
+pub fit_wraps : (z d : ℤ) → int (wrap d) ≡ d → int (wrap (unwrap_or (fit z) d)) ≡ unwrap_or (fit z) d
+fit_wraps z d k = let (p, q, e) = diff_of z in rw e (by_place (λ x. int (wrap (unwrap_or (fit_in x) d)) ≡ unwrap_or (fit_in x) d) p q (λ f. f) k k)
 
 -- a word's number fits
-pub fit_int : (w : ℕ) → w < modulus → fit (int w) ≡ some (int w)
+pub fit_int : (w : ℕ) → w < modulus → fit (int w) ≡ Some (int w)
 fit_int w f =
     by_order w half
     (λ l. sym (ap fit_in (lies_in w w 0 (low_is w w 0 l (omega arith)) (low_is w w 0 l (omega arith)) (omega arith) (omega arith))))

@@ -1,13 +1,11 @@
 -- What the words stand for, and what their arithmetic gives, over the integers.
-use Rattle.std.specs.Prelude.{Bool, true, false, cond, ℕ, ◌+◌, ◌-◌, ◌*◌, ◌%◌, ℤ, pos, negsuc, neg_ℤ}
-use Rattle.std.proofs.Math.Option.{Option, none, some}
+use Rattle.std.specs.Prelude.{Bool, true, false, cond, ℕ, ◌+◌, ◌-◌, ◌*◌, ◌%◌, ℤ, pos, negsuc, neg_ℤ, Option, Some, None}
 use Rattle.std.proofs.Math.IntN.{sub_ℕ}
 use Rattle.std.specs.Int.Signed.{le_z}
 use Rattle.std.specs.Int.{w64}
 use Rattle.std.proofs.Common.{of_z, to_z}
 use Rattle.words.specs.declared.Signed128.{Signed128}
 use Rattle.words.specs.declared.Wide.{Wide}
-use Rattle.words.specs.declared.Amount as A
 use Rattle.words.specs.declared.Place as P
 
 -- 2^32 and 2^63
@@ -58,9 +56,9 @@ unfoldable pub place_of : ℤ → Place
 place_of z = cond (le_z least z) (cond (le_z z most) (inside z) above) below
 
 abbrev pub fit_in : Place → Option ℤ
-fit_in (inside z) = some z
-fit_in above = none
-fit_in below = none
+fit_in (inside z) = Some z
+fit_in above = None
+fit_in below = None
 
 abbrev pub nearest_to : Place → ℤ
 nearest_to (inside z) = z
@@ -83,9 +81,9 @@ wrap (pos n) = n % modulus
 wrap (negsuc n) = modulus - 1 - n % modulus
 
 -- what the code's answers say
-abbrev pub amount : A.Amount → Option ℤ
-amount (A.TheVariants.Fits w) = some (int w)
-amount A.TheVariants.TooBig = none
+abbrev pub amount : Option ℕ → Option ℤ
+amount (Some w) = Some (int w)
+amount None = None
 
 abbrev pub placed : P.Place → Place
 placed (P.TheVariants.In w) = inside (int w)

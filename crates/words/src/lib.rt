@@ -13,30 +13,20 @@ const HALF: u64 = 9223372036854775808;
 
 const MAX: u64 = 18446744073709551615;
 
-// -2^63, and the word of 2^63 - 1.
-const LEAST: i64 = -9223372036854775808;
-
+// The word of 2^63 - 1.
 pub const MOST: u64 = HALF - 1;
 
 // An i64 of a caller in, and out.
 pub fn of_i64(x: i64) -> u64
     ensures { int result ≡ x }
 {
-    if x < 0 {
-        (x - LEAST) as u64 + HALF
-    } else {
-        x as u64
-    }
+    x.cast_unsigned()
 }
 
 pub fn to_i64(w: u64) -> i64
     ensures { result ≡ int w }
 {
-    if w < HALF {
-        w as i64
-    } else {
-        (w - HALF) as i64 + LEAST
-    }
+    w.cast_signed()
 }
 
 // A number raised by 2^63, for sums and orders, and lowered again.
@@ -56,9 +46,7 @@ pub fn lowered(u: u64) -> u64
 pub fn distance(a: u64, b: u64) -> u64
     ensures { result ≡ nat_abs (int a -ℤ int b) }
 {
-    let u = raised(a);
-    let v = raised(b);
-    if u < v { v - u } else { u - v }
+    raised(a).abs_diff(raised(b))
 }
 
 // A natural number of two words.
@@ -192,39 +180,28 @@ pub fn at_most(a: Signed128, b: Signed128) -> bool
     }
 }
 
-// A number of 64 bits signed, if it fits.
-#[derive(Clone, Copy)]
-pub enum Amount {
-    Fits(u64),
-    TooBig,
-}
-
-pub fn positive(n: u64) -> Amount
+pub fn positive(n: u64) -> Option<u64>
     ensures { amount result ≡ fit (pos n) }
 {
-    if n < HALF {
-        Amount::Fits(n)
-    } else {
-        Amount::TooBig
-    }
+    if n < HALF { Some(n) } else { None }
 }
 
-fn negative(n: u64) -> Amount
+fn negative(n: u64) -> Option<u64>
     ensures { amount result ≡ fit (neg_ℤ (pos n)) }
 {
     if n <= HALF {
-        Amount::Fits(lowered(HALF - n))
+        Some(lowered(HALF - n))
     } else {
-        Amount::TooBig
+        None
     }
 }
 
 // A number of two words, in one.
-pub fn narrow(s: Signed128) -> Amount
+pub fn narrow(s: Signed128) -> Option<u64>
     ensures { amount result ≡ fit (value s) }
 {
     if s.size.hi != 0 {
-        Amount::TooBig
+        None
     } else if s.neg {
         negative(s.size.lo)
     } else {
@@ -281,18 +258,18 @@ fn place_of(total: u64, old: u64, new: u64) -> Place
     moved(t, o, n)
 }
 
-fn amount_at(p: Place) -> Amount
+fn amount_at(p: Place) -> Option<u64>
     ensures { amount result ≡ fit_in (placed p) }
 {
     match p {
-        Place::In(w) => Amount::Fits(w),
-        Place::Above => Amount::TooBig,
-        Place::Below => Amount::TooBig,
+        Place::In(w) => Some(w),
+        Place::Above => None,
+        Place::Below => None,
     }
 }
 
 // The exact total after one of its parts changes from `old` to `new`.
-pub fn total(total: u64, old: u64, new: u64) -> Amount
+pub fn total(total: u64, old: u64, new: u64) -> Option<u64>
     ensures { amount result ≡ fit (int total -ℤ int old +ℤ int new) }
 {
     amount_at(place_of(total, old, new))
@@ -339,7 +316,7 @@ fn moved_twice(t: u64, old: u64, new: u64, old2: u64, new2: u64) -> Place
 }
 
 // The exact total after two of its parts change: what one change alone gives need not fit.
-pub fn total_of_two(total: u64, old: u64, new: u64, old2: u64, new2: u64) -> Amount
+pub fn total_of_two(total: u64, old: u64, new: u64, old2: u64, new2: u64) -> Option<u64>
     ensures { amount result ≡ fit (int total -ℤ int old +ℤ int new -ℤ int old2 +ℤ int new2) }
 {
     let t = raised(total);
@@ -372,26 +349,9 @@ pub fn saturating_sub(a: u64, b: u64) -> u64
     nearest(place_of(a, b, 0))
 }
 
-// a - b and a + b, modulo 2^64.
-fn wrapping_sub(a: u64, b: u64) -> u64
-    ensures { (result + b) % modulus ≡ a }
-{
-    if b <= a { a - b } else { a + (MAX - b) + 1 }
-}
-
-fn wrapping_add(a: u64, b: u64) -> u64
-    ensures { result ≡ (a + b) % modulus }
-{
-    if a <= MAX - b {
-        a + b
-    } else {
-        a - (MAX - b) - 1
-    }
-}
-
 // A total modulo 2^64 after one of its parts changes from `old` to `new`.
 pub fn shifted(total: u64, old: u64, new: u64) -> u64
     ensures { result ≡ wrap (int total -ℤ int old +ℤ int new) }
 {
-    wrapping_add(wrapping_sub(total, old), new)
+    total.wrapping_sub(old).wrapping_add(new)
 }

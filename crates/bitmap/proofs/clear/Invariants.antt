@@ -7,7 +7,4 @@ use Rattle.bitmap.specs.Bitmap.{emptied}
 use Rattle.bitmap.proofs.clear.Given as goal
 
 abbrev pub invariant-loop-g : goal.invariant-loop-g
-invariant-loop-g l = (l.g ≤ l.k) × Is l.m (emptied l.b l.g (cell l.initial.m)) × (length l.m ≡ length l.initial.m)
-
-abbrev pub decreases-loop-g : goal.decreases-loop-g
-decreases-loop-g l = l.k - l.g
+invariant-loop-g l = Is l.m (emptied l.b l.g (cell l.initial.m))

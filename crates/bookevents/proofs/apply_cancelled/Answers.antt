@@ -6,9 +6,3 @@ retire-requires c = search changing
 
 pub on_cancelled-requires : goal.on_cancelled-requires
 on_cancelled-requires c = search changing
-
-pub land-requires : goal.land-requires
-land-requires c = search changing
-
-pub returns : goal.returns
-returns c = search changing

@@ -6,9 +6,3 @@ reprice-requires c = search changing
 
 pub on_modified-requires : goal.on_modified-requires
 on_modified-requires c = search changing
-
-pub land-requires : goal.land-requires
-land-requires c = search changing
-
-pub returns : goal.returns
-returns c = search changing

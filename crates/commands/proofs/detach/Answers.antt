@@ -1,8 +1,12 @@
-use Rattle.commands.proofs.Departures.{departures, account_small}
+use mathlib.Core.Path.{sym, ◌∙◌}
+use Rattle.commands.proofs.Departures.{account_cast, detach_done}
 use Rattle.commands.proofs.detach.Goals as goal
 
-pub id_of-requires : goal.id_of-requires
-id_of-requires c = account_small _ _ _ c.requires.state c.account_of-a.ensures
+pub returns-in-None : goal.returns-in-None
+returns-in-None c = detach_done c.args.m.now c.args.s _ c.requires (sym c.in-None.is ∙ c.account_of-a.ensures) c.forget.ensures
 
-pub returns : goal.returns
-returns c = search departures
+pub overflow_cast-result : goal.overflow_cast-result
+overflow_cast-result c = record { fits = account_cast c.args.m.now c.args.s _ c.requires.state (sym c.account_of-a.ensures ∙ c.in-Some.is) }
+
+pub returns-in-Some : goal.returns-in-Some
+returns-in-Some c = detach_done c.args.m.now c.args.s _ c.requires (sym c.in-Some.is ∙ c.account_of-a.ensures) c.forget.ensures

@@ -1,8 +1,8 @@
 use Rattle.comparison.proofs.Laws.{laws}
 use Rattle.comparison.proofs.write_amount.Goals as goal
 
-pub returns-in-Fits : goal.returns-in-Fits
-returns-in-Fits c = search laws
+pub returns-in-Some : goal.returns-in-Some
+returns-in-Some c = search laws
 
-pub returns-in-TooBig : goal.returns-in-TooBig
-returns-in-TooBig c = search laws
+pub returns-in-None : goal.returns-in-None
+returns-in-None c = search laws

@@ -1,4 +1,3 @@
-use Prim.Native.Nat.{◌-◌}
 use mathlib.Core.Path.{◌≡◌, ap, ◌∙◌}
 use native.Mathlib.Omega.{arith}
 use lib.ListN.{length}
@@ -9,15 +8,15 @@ use Rattle.deliver.proofs.Phases.{phase_each}
 use Rattle.deliver.proofs.count.Goals as goal
 
 pub loop-s-init : goal.loop-s-init
-loop-s-init c = (steps_first (phase_step _ _) _, omega arith, omega arith)
+loop-s-init c =
+    (steps_first (phase_step _ _) _, omega arith)
 
 pub loop-s-preserved : goal.loop-s-preserved
 loop-s-preserved c =
     let r = c.rows-k.ensures in
-    (steps_count (phase_step _ _) _ c.loop-s.s c.loop-s.k _ c.loop-s.invariant.0 r.0, omega (arith, c.loop-s-test.true), omega (arith, c.loop-s.invariant.2, r.1))
+    (steps_count (phase_step _ _) _ c.loop-s.s c.loop-s.k _ c.loop-s.invariant.0 r.0, omega (arith, c.loop-s.invariant.1, r.1))
 
 pub returns : goal.returns
 returns c =
-    let i = c.loop-s.invariant in
-    let e : c.loop-s.s ≡ session_slots = omega (arith, i.1, c.loop-s-test.false) in
-    i.0 ∙ ap length (phase_each c.args.n c.args.phase c.args.m.now _ e)
+    let e : c.loop-s.s ≡ session_slots = omega (arith, c.loop-s.auto, c.loop-s-test.false) in
+    c.loop-s.invariant.0 ∙ ap length (phase_each c.args.n c.args.phase c.args.m.now _ e)

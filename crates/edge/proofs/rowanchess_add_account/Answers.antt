@@ -8,7 +8,7 @@ pub add_account-requires : goal.add_account-requires
 add_account-requires c = search laws
 
 pub returns-then-is_whole : goal.returns-then-is_whole
-returns-then-is_whole c = search laws
+returns-then-is_whole c = rw c.code_of.ensures (search laws)
 
 pub returns : goal.returns
 returns c = search laws

@@ -5,7 +5,7 @@ pub connect-requires : goal.connect-requires
 connect-requires c = search laws
 
 pub returns-then-m-eq-SIZE : goal.returns-then-m-eq-SIZE
-returns-then-m-eq-SIZE c = search laws
+returns-then-m-eq-SIZE c = rw c.code_of.ensures (search laws)
 
 pub returns : goal.returns
 returns c = search laws

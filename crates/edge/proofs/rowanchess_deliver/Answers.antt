@@ -1,11 +1,11 @@
 use Rattle.edge.proofs.Laws.{laws}
 use Rattle.edge.proofs.rowanchess_deliver.Goals as goal
 
-pub deliver-r-requires : goal.deliver-r-requires
-deliver-r-requires c = search laws
+pub deliver-requires : goal.deliver-requires
+deliver-requires c = search laws
 
 pub returns-then-is_whole : goal.returns-then-is_whole
-returns-then-is_whole c = search laws
+returns-then-is_whole c = rw c.from.ensures (search laws)
 
 pub returns : goal.returns
-returns c = search laws
+returns c = rw c.from-2.ensures (search laws)

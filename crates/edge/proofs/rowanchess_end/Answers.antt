@@ -1,11 +1,11 @@
 use Rattle.edge.proofs.Laws.{laws}
 use Rattle.edge.proofs.rowanchess_end.Goals as goal
 
-pub end-r-requires : goal.end-r-requires
-end-r-requires c = search laws
+pub end-requires : goal.end-requires
+end-requires c = search laws
 
 pub returns-then-is_whole : goal.returns-then-is_whole
-returns-then-is_whole c = search laws
+returns-then-is_whole c = rw c.from.ensures (search laws)
 
 pub returns : goal.returns
-returns c = search laws
+returns c = rw c.from-2.ensures (search laws)

@@ -1,11 +1,11 @@
 use Rattle.edge.proofs.Laws.{laws}
 use Rattle.edge.proofs.rowanchess_publish.Goals as goal
 
-pub publish-r-requires : goal.publish-r-requires
-publish-r-requires c = search laws
+pub publish-requires : goal.publish-requires
+publish-requires c = search laws
 
 pub returns-then-m-eq-SIZE : goal.returns-then-m-eq-SIZE
-returns-then-m-eq-SIZE c = search laws
+returns-then-m-eq-SIZE c = rw c.from.ensures (search laws)
 
 pub returns : goal.returns
-returns c = search laws
+returns c = rw c.from-2.ensures (search laws)

@@ -8,7 +8,7 @@ pub replay_command-requires : goal.replay_command-requires
 replay_command-requires c = search laws
 
 pub returns-then-is_whole : goal.returns-then-is_whole
-returns-then-is_whole c = search laws
+returns-then-is_whole c = rw c.code_of.ensures (search laws)
 
 pub returns : goal.returns
 returns c = search laws

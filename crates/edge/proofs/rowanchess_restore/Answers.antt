@@ -6,7 +6,7 @@ restore-requires c = search begin_laws
 
 pub returns-then-is_whole : goal.returns-then-is_whole
 returns-then-is_whole c =
-    starts_at _ _ _ _ c.are_accounts.ensures c.is_whole.ensures _ _ _ _ _ _ c.if-is_whole.true c.gather-r.ensures c.restore.ensures
+    rw c.code_of.ensures (starts_at _ _ _ _ c.are_accounts.ensures c.is_whole.ensures _ _ _ _ _ _ c.if-is_whole.true c.gather-r.ensures c.restore.ensures)
 
 pub returns : goal.returns
 returns c = search begin_laws

@@ -6,7 +6,7 @@ set_up-requires c = search begin_laws
 
 pub returns-then-is_whole : goal.returns-then-is_whole
 returns-then-is_whole c =
-    starts_at _ _ _ _ c.are_rows.ensures c.is_whole.ensures _ _ _ _ _ _ c.if-is_whole.true c.gather-r.ensures c.set_up.ensures
+    rw c.code_of.ensures (starts_at _ _ _ _ c.are_rows.ensures c.is_whole.ensures _ _ _ _ _ _ c.if-is_whole.true c.gather-r.ensures c.set_up.ensures)
 
 pub returns : goal.returns
 returns c = search begin_laws

@@ -1,11 +1,11 @@
 use Rattle.edge.proofs.Laws.{laws}
 use Rattle.edge.proofs.rowanchess_take_batch.Goals as goal
 
-pub take_batch-r-requires : goal.take_batch-r-requires
-take_batch-r-requires c = search laws
+pub take_batch-requires : goal.take_batch-requires
+take_batch-requires c = search laws
 
 pub returns-then-m-eq-SIZE : goal.returns-then-m-eq-SIZE
-returns-then-m-eq-SIZE c = search laws
+returns-then-m-eq-SIZE c = rw c.from.ensures (search laws)
 
 pub returns : goal.returns
-returns c = search laws
+returns c = rw c.from-2.ensures (search laws)

@@ -1,11 +1,11 @@
 use Rattle.edge.proofs.Laws.{laws}
 use Rattle.edge.proofs.rowanchess_tick.Goals as goal
 
-pub tick-r-requires : goal.tick-r-requires
-tick-r-requires c = search laws
+pub tick-requires : goal.tick-requires
+tick-requires c = search laws
 
 pub returns-then-m-eq-SIZE : goal.returns-then-m-eq-SIZE
-returns-then-m-eq-SIZE c = search laws
+returns-then-m-eq-SIZE c = rw c.from.ensures (search laws)
 
 pub returns : goal.returns
-returns c = search laws
+returns c = rw c.from-2.ensures (search laws)

@@ -1,4 +1,4 @@
-use Prim.Native.Nat.{◌-◌, ◌≤◌}
+use Prim.Native.Nat.{◌≤◌}
 use mathlib.Core.Path.{◌≡◌}
 use lib.ListN.{length}
 use Rattle.store.specs.Layout.{cell}
@@ -8,7 +8,4 @@ use Rattle.feed.specs.Feed.{notice_step}
 use Rattle.feed.proofs.count_balances.Given as goal
 
 abbrev pub invariant-loop-j : goal.invariant-loop-j
-invariant-loop-j l = (l.n ≡ length (steps notice_step (gateway (cell l.m)) l.j)) × (l.j ≤ l.rows) × (l.n ≤ l.j)
-
-abbrev pub decreases-loop-j : goal.decreases-loop-j
-decreases-loop-j l = l.rows - l.j
+invariant-loop-j l = (l.n ≡ length (steps notice_step (gateway (cell l.m)) l.j)) × (l.n ≤ l.j)

@@ -1,7 +1,6 @@
-use Prim.Native.Nat.{◌-◌, ◌*◌, ◌≤◌}
+use Prim.Native.Nat.{◌*◌, ◌≤◌}
 use mathlib.Core.Path.{◌≡◌}
 use lib.ListN.{length}
-use Rattle.gateway.specs.Limits.{session_slots}
 use Rattle.store.specs.Layout.{cell}
 use Rattle.store.specs.View.{gateway}
 use Rattle.outcome.specs.Parts.{steps}
@@ -9,7 +8,4 @@ use Rattle.feed.specs.Feed.{changes_step, most_changes}
 use Rattle.feed.proofs.count_market.Given as goal
 
 abbrev pub invariant-loop-s : goal.invariant-loop-s
-invariant-loop-s l = (l.n ≡ length (steps changes_step (gateway (cell l.m)) l.s)) × (l.s ≤ session_slots) × (l.n ≤ most_changes * l.s)
-
-abbrev pub decreases-loop-s : goal.decreases-loop-s
-decreases-loop-s l = session_slots - l.s
+invariant-loop-s l = (l.n ≡ length (steps changes_step (gateway (cell l.m)) l.s)) × (l.n ≤ most_changes * l.s)

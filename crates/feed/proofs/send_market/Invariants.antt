@@ -1,14 +1,7 @@
-use Prim.Native.Nat.{◌-◌, ◌≤◌}
-use mathlib.Core.Path.{◌≡◌}
-use lib.ListN.{length}
-use Rattle.gateway.specs.Limits.{session_slots}
 use Rattle.outcome.proofs.Steps.{Sent}
 use Rattle.feed.specs.Feed.{changes_step}
 use Rattle.feed.proofs.Stamps.{changes_keeps}
 use Rattle.feed.proofs.send_market.Given as goal
 
 abbrev pub invariant-loop-s : goal.invariant-loop-s
-invariant-loop-s l = Sent changes_step changes_keeps l.initial.m l.initial.out l.i l.m l.out l.n l.s × (l.s ≤ session_slots) × (length l.m ≡ length l.initial.m) × (length l.out ≡ length l.initial.out)
-
-abbrev pub decreases-loop-s : goal.decreases-loop-s
-decreases-loop-s l = session_slots - l.s
+invariant-loop-s l = Sent changes_step changes_keeps l.initial.m l.initial.out l.i l.m l.out l.n l.s

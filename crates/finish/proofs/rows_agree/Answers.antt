@@ -1,7 +1,6 @@
 use mathlib.Core.Path.{◌≡◌, sym}
 use Prim.Native.Nat.{◌-◌, ◌+◌}
 use native.Mathlib.Omega.{arith}
-use borrow.Author.Tests.{not-true, not-false}
 use Rattle.store.specs.Layout.{cell}
 use Rattle.store.specs.View.{ledger}
 use Rattle.finish.proofs.Agreed.{none_agree, more_agree, one_differs}
@@ -9,8 +8,7 @@ use Rattle.finish.proofs.rows_agree.Goals as goal
 
 pub loop-j-init : goal.loop-j-init
 loop-j-init c =
-    let e = c.rows-j.ensures in
-    (omega arith, rw e (none_agree c.args.list.now (ledger (cell c.args.m.now)).orders))
+    let e = c.rows-j.ensures in rw e (none_agree c.args.list.now (ledger (cell c.args.m.now)).orders)
 
 pub row_agrees-requires : goal.row_agrees-requires
 row_agrees-requires c = (c.requires, omega arith)
@@ -21,10 +19,9 @@ returns-then-not-row_agrees c =
 
 pub loop-j-preserved : goal.loop-j-preserved
 loop-j-preserved c =
-    let e : c.loop-j.j - 1 + 1 ≡ c.loop-j.j = omega arith in
-    (omega arith, more_agree _ _ (c.loop-j.j - 1) (omega arith) _ c.row_agrees.ensures c.if-not-row_agrees.false (rw e c.loop-j.invariant.1))
+    let e : c.loop-j.j - 1 + 1 ≡ c.loop-j.j = omega arith in more_agree _ _ (c.loop-j.j - 1) (omega arith) _ c.row_agrees.ensures c.if-not-row_agrees.false (rw e c.loop-j.invariant)
 
 pub returns : goal.returns
 returns c =
     let e : c.loop-j.j ≡ 0 = omega arith in
-    sym (rw e at c.loop-j.invariant.1)
+    sym (rw e at c.loop-j.invariant)

@@ -4,10 +4,7 @@ use Rattle.holds.proofs.change.Goals as goal
 
 pub change_row-requires : goal.change_row-requires
 change_row-requires c =
-    change_needs _ c.requires.0 _ c.args.x _ c.requires.1 _ c.in-At.is _ c.after-new.ensures (search rules)
-
-pub returns-in-At : goal.returns-in-At
-returns-in-At c = search applying
+    change_needs _ c.requires.0 _ c.args.x _ c.requires.1 _ c.in-Some.is _ c.after-new.ensures (search rules)
 
 pub returns-in_default : goal.returns-in_default
 returns-in_default c = search applying

@@ -1,11 +1,5 @@
 use Rattle.holds.proofs.Weighing.{weighing}
 use Rattle.holds.proofs.left.Goals as goal
 
-pub live_at-o-requires : goal.live_at-o-requires
-live_at-o-requires c = search weighing
-
-pub returns-in-At : goal.returns-in-At
-returns-in-At c = search weighing
-
-pub returns : goal.returns
-returns c = search weighing
+pub returns-in-Some : goal.returns-in-Some
+returns-in-Some c = search weighing

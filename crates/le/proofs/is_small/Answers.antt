@@ -1,17 +1,12 @@
-use borrow.Author.Rules.{rules}
-use mathlib.Core.Path.{sym}
 use Rattle.le.proofs.Checked.{width_one}
+use borrow.Author.Rules.{rules}
 use borrow.Author.Tests.{lt-ltb}
+use mathlib.Core.Path.{sym}
+use native.Mathlib.Omega.{arith}
 use Rattle.le.proofs.is_small.Goals as goal
 
-pub returns-then-width-eq8 : goal.returns-then-width-eq8
-returns-then-width-eq8 c = rw c.if-width-eq8.true (sym (lt-ltb c.args.v 18446744073709551616 (search rules)))
+pub returns-in-8 : goal.returns-in-8
+returns-in-8 c = rw c.in-8.is (sym (lt-ltb c.args.v 18446744073709551616 (search rules)))
 
-pub returns-then-width-eq4 : goal.returns-then-width-eq4
-returns-then-width-eq4 c = rw c.if-width-eq4.true
-
-pub returns-then-width-eq2 : goal.returns-then-width-eq2
-returns-then-width-eq2 c = rw c.if-width-eq2.true
-
-pub returns : goal.returns
-returns c = rw (width_one c.if-width-eq8.false c.if-width-eq4.false c.if-width-eq2.false c.requires)
+pub returns-in_default : goal.returns-in_default
+returns-in_default c = rw (width_one {w = c.args.width} (λ e. omega arith) (λ e. omega arith) (λ e. omega arith) c.requires)

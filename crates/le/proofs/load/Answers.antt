@@ -3,10 +3,10 @@ use mathlib.Core.Path.{sym, ◌∙◌}
 use Rattle.le.proofs.load.Goals as goal
 
 pub get-requires : goal.get-requires
-get-requires c = place _ _ _ (sym c.is_inside.ensures ∙ c.if-is_inside.true)
+get-requires c = place _ _ _ (sym c.is_inside.ensures ∙ c.if-not-is_inside.false)
 
-pub returns-then-is_inside : goal.returns-then-is_inside
-returns-then-is_inside c = rw (← c.is_inside.ensures, c.if-is_inside.true, c.get.ensures)
+pub returns-then-not-is_inside : goal.returns-then-not-is_inside
+returns-then-not-is_inside c = rw (← c.is_inside.ensures, c.if-not-is_inside.true)
 
 pub returns : goal.returns
-returns c = rw (← c.is_inside.ensures, c.if-is_inside.false)
+returns c = rw (← c.is_inside.ensures, c.if-not-is_inside.false, c.get.ensures)

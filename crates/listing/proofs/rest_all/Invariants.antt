@@ -1,16 +1,10 @@
-use mathlib.Core.Path.{◌≡◌}
-use Prim.Native.Nat.{◌-◌, ◌≤◌}
-use lib.ListN.{length}
 use Rattle.gateway.specs.Listing.{listed_depth}
 use Rattle.store.specs.Layout.{cell}
 use Rattle.store.specs.View.{gateway}
 use Rattle.sound.specs.Sound.{Becomes}
 use Rattle.marketdata.specs.Marketdata.{with_depth}
-use Rattle.listing.specs.Rows.{rows, from}
+use Rattle.listing.specs.Rows.{from}
 use Rattle.listing.proofs.rest_all.Given as goal
 
 abbrev pub invariant-loop-j : goal.invariant-loop-j
-invariant-loop-j l = (l.j ≤ rows l.list) × Becomes l.m (with_depth (λ _. listed_depth (from l.j l.list)) (gateway (cell l.initial.m))) × (length l.m ≡ length l.initial.m)
-
-abbrev pub decreases-loop-j : goal.decreases-loop-j
-decreases-loop-j l = l.j
+invariant-loop-j l = Becomes l.m (with_depth (λ _. listed_depth (from l.j l.list)) (gateway (cell l.initial.m)))

@@ -1,12 +1,8 @@
 use mathlib.Core.Path.{◌≡◌}
-use Prim.Native.Nat.{◌-◌, ◌≤◌}
 use Rattle.store.specs.View.{listed}
 use Rattle.roster.specs.Rostered.{nobody, entered}
 use Rattle.script.specs.Records.{account_rows, account_at}
 use Rattle.lists.proofs.gather.Given as goal
 
 abbrev pub invariant-loop-j : goal.invariant-loop-j
-invariant-loop-j l = (l.n ≡ account_rows l.accounts) × (l.j ≤ l.n) × (l.r ≡ entered l.limit nobody (listed (account_at l.accounts) l.j))
-
-abbrev pub decreases-loop-j : goal.decreases-loop-j
-decreases-loop-j l = l.n - l.j
+invariant-loop-j l = (l.n ≡ account_rows l.accounts) × (l.r ≡ entered l.limit nobody (listed (account_at l.accounts) l.j))

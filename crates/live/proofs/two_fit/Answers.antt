@@ -3,4 +3,4 @@ use Rattle.live.proofs.Laws.{both_fit}
 use Rattle.live.proofs.two_fit.Goals as goal
 
 pub returns : goal.returns
-returns c = both_fit (cell c.args.m.now) c.args.account c.args.side _ c.held_at-held.ensures c.total_of_two-total.result _ c.is_fit.ensures _ _ _ _ c.total_of_two-total.ensures
+returns c = both_fit (cell c.args.m.now) c.args.account c.args.side _ c.held_at-held.ensures c.total_of_two.result _ c.is_some.ensures _ _ _ _ c.total_of_two.ensures

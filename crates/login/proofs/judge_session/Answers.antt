@@ -1,8 +1,5 @@
-use Rattle.login.proofs.Entered.{laws}
+use Rattle.login.proofs.Judging.{session_judged}
 use Rattle.login.proofs.judge_session.Goals as goal
 
-pub returns-then-session_of-eq0 : goal.returns-then-session_of-eq0
-returns-then-session_of-eq0 c = search laws
-
 pub returns : goal.returns
-returns c = search laws
+returns c = session_judged c.args.m.now c.args.a c.requires.0 c.requires.1 _ c.session_of.ensures _ (rw c.is_some.ensures at c.then_some.ensures)

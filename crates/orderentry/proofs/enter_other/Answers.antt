@@ -14,7 +14,7 @@ push-requires c = let p = c.requires.0 in
     (p.between.state, p.slot, slot (exists p), can, c.requires.1)
 
 pub returns-in-Some : goal.returns-in-Some
-returns-in-Some c = other_refused c.args.m.now c.args.out.now c.args.s c.args.a c.args.allowed c.args.k c.args.time _ _ c.take_token-t.ensures c.judge_other-v.ensures _ _ _ _ c.in-Some.is c.refuse.ensures
+returns-in-Some c = other_refused c.args.m.now c.args.out.now c.args.s c.args.a c.args.allowed c.args.k c.args.time _ _ c.take_token-t.ensures c.judge_other-v.ensures c.refuse.new.m c.refuse.new.out c.in-Some.why c.refuse.result c.in-Some.is c.refuse.ensures
 
 pub returns-in-None : goal.returns-in-None
 returns-in-None c = other_done c.args.m.now c.args.out.now c.args.s c.args.a c.args.allowed c.args.k c.args.time _ _ c.take_token-t.ensures c.judge_other-v.ensures c.in-None.is c.push.ensures

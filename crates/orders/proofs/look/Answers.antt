@@ -10,8 +10,8 @@ half-live-requires c = search laws
 pub half-resting-requires : goal.half-resting-requires
 half-resting-requires c = search laws
 
-pub returns-in-At : goal.returns-in-At
-returns-in-At c = search laws
+pub returns-in-Some : goal.returns-in-Some
+returns-in-Some c = search laws
 
 pub returns : goal.returns
 returns c = search laws

@@ -7,7 +7,4 @@ use Rattle.orders.specs.Orders.{map_words}
 use Rattle.orders.proofs.map_words.Given as goal
 
 abbrev pub invariant-loop-g : goal.invariant-loop-g
-invariant-loop-g l = (l.g ≤ 32) × Is l.m (map_words l.g l.n (cell l.initial.m)) × (length l.m ≡ length l.initial.m)
-
-abbrev pub decreases-loop-g : goal.decreases-loop-g
-decreases-loop-g l = 32 - l.g
+invariant-loop-g l = Is l.m (map_words l.g l.n (cell l.initial.m))

@@ -7,13 +7,14 @@ use Rattle.orders.proofs.Laws.{map_none, map_more, map_all}
 use Rattle.orders.proofs.remap.Goals as goal
 
 pub loop-i-init : goal.loop-i-init
-loop-i-init c = (omega arith, map_none _ c.requires, refl)
+loop-i-init c =
+    map_none _ c.requires
 
 pub loop-i-preserved : goal.loop-i-preserved
 loop-i-preserved c =
-    (omega arith, map_more _ _ _ c.loop-i.i (omega arith) c.loop-i.invariant.1 c.map_row.ensures, search rules)
+    map_more _ _ _ c.loop-i.i (omega arith) c.loop-i.invariant c.map_row.ensures
 
 pub returns : goal.returns
 returns c =
     let e : c.loop-i.i ≡ order_room = omega arith in
-    map_all _ _ (rw e at c.loop-i.invariant.1)
+    map_all _ _ (rw e at c.loop-i.invariant)

@@ -7,7 +7,4 @@ use Rattle.orders.specs.Orders.{map_rows}
 use Rattle.orders.proofs.remap.Given as goal
 
 abbrev pub invariant-loop-i : goal.invariant-loop-i
-invariant-loop-i l = (l.i ≤ order_room) × Is l.m (map_rows l.i (cell l.initial.m)) × (length l.m ≡ length l.initial.m)
-
-abbrev pub decreases-loop-i : goal.decreases-loop-i
-decreases-loop-i l = order_room - l.i
+invariant-loop-i l = Is l.m (map_rows l.i (cell l.initial.m))

@@ -12,7 +12,7 @@ returns-then-not-agrees c = search laws
 
 pub loop-a-preserved : goal.loop-a-preserved
 loop-a-preserved c =
-    (omega arith, alike_more _ _ _ _ _ _ c.standing-first.ensures c.standing-second.ensures c.agrees.ensures.tells c.loop-a.invariant.1 c.if-not-agrees.false)
+    alike_more _ _ _ _ _ _ c.standing-first.ensures c.standing-second.ensures c.agrees.ensures.tells c.loop-a.invariant c.if-not-agrees.false
 
 pub returns : goal.returns
 returns c = search laws

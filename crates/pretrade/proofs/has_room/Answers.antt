@@ -6,9 +6,3 @@ can_number-requires c = search testing
 
 pub has_place-requires : goal.has_place-requires
 has_place-requires c = search testing
-
-pub returns-then-can_number : goal.returns-then-can_number
-returns-then-can_number c = search testing
-
-pub returns : goal.returns
-returns c = search testing

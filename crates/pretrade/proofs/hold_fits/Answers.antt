@@ -8,8 +8,8 @@ is_funded-requires c = row_needs c.requires
 pub total_fits-requires : goal.total_fits-requires
 total_fits-requires c = row_needs c.requires
 
-pub returns-then-is_funded : goal.returns-then-is_funded
-returns-then-is_funded c = search testing
+pub returns-else-not-is_funded : goal.returns-else-not-is_funded
+returns-else-not-is_funded c = search testing
 
-pub returns : goal.returns
-returns c = search testing
+pub returns-then-not-is_funded : goal.returns-then-not-is_funded
+returns-then-not-is_funded c = search testing

@@ -1,4 +1,5 @@
 use native.Mathlib.Omega.{arith}
+use borrow.Author.Rules.{rules}
 use Rattle.pretrade.proofs.Testing.{stands}
 use Rattle.pretrade.proofs.live_of.Goals as goal
 
@@ -7,4 +8,4 @@ returns c = let w = c.price_word.ensures in
     let x = c.well_formed.1.0.1.1 in
     let u = x.0 in
     let v = x.1.1.0 in
-    stands c.args.a c.args.order _ _ _ _ c.price_of-price.ensures c.side_code-code.ensures c.price_flag.ensures w.0 w.1 (omega (arith, u)) (omega (arith, v))
+    stands c.args.a c.args.order _ _ _ _ c.price_of-price.ensures (search rules) c.price_flag.ensures w.0 w.1 (omega (arith, u)) (omega (arith, v))

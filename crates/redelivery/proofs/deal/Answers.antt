@@ -1,15 +1,13 @@
+use Rattle.std.proofs.lemmas.Result.{err_from_is_err_and}
 use mathlib.Core.Path.{refl}
-use Rattle.redelivery.proofs.Orders.{trade_flying, trade_stands, trade_done, orders}
+use Rattle.redelivery.proofs.Orders.{trade_done, trade_refused}
 use Rattle.redelivery.proofs.deal.Goals as goal
 
-pub returns-then-code-ne0 : goal.returns-then-code-ne0
-returns-then-code-ne0 c = search orders
-
-pub apply_trade-requires : goal.apply_trade-requires
-apply_trade-requires c =
-    let stands = trade_stands c.args.m.now c.requires.0 c.args.n c.args.d c.requires.1 _ _ c.weigh_move-taker.ensures c.weigh_move-maker.ensures _ c.judge_trade-code.ensures c.if-code-ne0.false in
-    (c.requires.0.state, stands _ _ c.find_live-at.ensures c.find_live-maker_at.ensures, trade_flying c.args.m.now c.requires.0 c.args.n c.args.d c.requires.1 _ _ c.weigh_move-taker.ensures c.weigh_move-maker.ensures _ c.judge_trade-code.ensures c.if-code-ne0.false)
+pub returns-in_err-judge_trade : goal.returns-in_err-judge_trade
+returns-in_err-judge_trade c =
+    let p = err_from_is_err_and c.from_residual.result c.from_residual.ensures.1 in
+    rw (p.1, p.2) (trade_refused c.args.m.now c.requires.0 c.args.n c.args.d c.requires.1 _ _ c.weigh_move-taker.ensures c.weigh_move-maker.ensures _ c.in_err-judge_trade.ensures)
 
 pub returns : goal.returns
 returns c =
-    trade_done c.args.m.now c.requires.0 c.args.n c.args.d c.requires.1 _ _ c.weigh_move-taker.ensures c.weigh_move-maker.ensures _ c.judge_trade-code.ensures _ refl c.if-code-ne0.false c.apply_trade.ensures
+    trade_done c.args.m.now c.requires.0 c.args.n c.args.d c.requires.1 _ _ c.weigh_move-taker.ensures c.weigh_move-maker.ensures _ refl c.in_ok-judge_trade.ensures c.apply_trade.ensures

@@ -4,12 +4,6 @@ use Rattle.redelivery.proofs.replay_event.Goals as goal
 pub returns-in-Accepted : goal.returns-in-Accepted
 returns-in-Accepted c = search kinds
 
-pub returns-in-Rejected : goal.returns-in-Rejected
-returns-in-Rejected c = search kinds
-
-pub returns-in-Trade : goal.returns-in-Trade
-returns-in-Trade c = search kinds
-
 pub returns-in-Rested : goal.returns-in-Rested
 returns-in-Rested c = search kinds
 
@@ -27,9 +21,6 @@ returns-in-StopPlaced c = search kinds
 
 pub returns-in-Triggered : goal.returns-in-Triggered
 returns-in-Triggered c = search kinds
-
-pub returns-in-MassCancelled : goal.returns-in-MassCancelled
-returns-in-MassCancelled c = search kinds
 
 pub returns-in-PhaseChanged : goal.returns-in-PhaseChanged
 returns-in-PhaseChanged c = search kinds

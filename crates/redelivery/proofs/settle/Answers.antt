@@ -3,6 +3,3 @@ use Rattle.redelivery.proofs.settle.Goals as goal
 
 pub change-requires-2 : goal.change-requires-2
 change-requires-2 c = search orders
-
-pub returns : goal.returns
-returns c = search orders

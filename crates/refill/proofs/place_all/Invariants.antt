@@ -1,5 +1,4 @@
-use Prim.Native.Nat.{◌-◌, ◌≤◌}
-use mathlib.Core.Path.{◌≡◌}
+use Prim.Native.Nat.{◌≤◌}
 use lib.ListN.{length}
 use Rattle.gateway.specs.Limits.{most_orders}
 use Rattle.saved.specs.Contents.{saved_of}
@@ -9,7 +8,4 @@ use Rattle.refill.proofs.place_all.Given as goal
 
 abbrev pub invariant-loop-j : goal.invariant-loop-j
 invariant-loop-j l =
-    (e : Empty (saved_of l.bytes) l.initial.m) × (f : Fits (saved_of l.bytes)) × (few : length (saved_of l.bytes).orders ≤ most_orders) × Placed l.bytes l.initial.m e f few l.j l.m × (length l.m ≡ length l.initial.m)
-
-abbrev pub decreases-loop-j : goal.decreases-loop-j
-decreases-loop-j l = l.n - l.j
+    (e : Empty (saved_of l.bytes) l.initial.m) × (f : Fits (saved_of l.bytes)) × (few : length (saved_of l.bytes).orders ≤ most_orders) × Placed l.bytes l.initial.m e f few l.j l.m

@@ -21,10 +21,6 @@ overflow_mul-sum c = omega (arith, gain c)
 pub overflow_add-sum : goal.overflow_add-sum
 overflow_add-sum c = omega (arith, gain c)
 
-pub returns-then-sum-burst : goal.returns-then-sum-burst
+pub returns : goal.returns
 unfolding filled
-returns-then-sum-burst c = omega arith
-
-pub returns-else-sum-burst : goal.returns-else-sum-burst
-unfolding filled
-returns-else-sum-burst c = omega arith
+returns c = omega arith

@@ -1,10 +1,7 @@
-use Rattle.std.proofs.Common.{◌≡◌, ◌-◌, length, take}
+use Rattle.std.proofs.Common.{◌≡◌, take}
 use Rattle.roster.specs.Rostered.{nobody, entered}
 use Rattle.roster.proofs.gather.Given as goal
 
--- the accounts before i have been entered
-abbrev pub invariant-loop-i : goal.invariant-loop-i
-invariant-loop-i l = l.r ≡ entered l.limit nobody (take l.i l.accounts)
-
-abbrev pub decreases-loop-i : goal.decreases-loop-i
-decreases-loop-i l = length l.accounts - l.i
+-- the accounts before it have been entered
+abbrev pub invariant-loop-a : goal.invariant-loop-a
+invariant-loop-a l = l.r ≡ entered l.limit nobody (take l.a-index l.accounts)

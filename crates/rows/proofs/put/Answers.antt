@@ -7,13 +7,13 @@ use Rattle.rows.proofs.Laws.{row_none, row_step, row_all}
 use Rattle.rows.proofs.put.Goals as goal
 
 pub loop-j-init : goal.loop-j-init
-loop-j-init c = (omega arith, row_none c.args.out.now c.args.o c.args.row.now, refl)
+loop-j-init c =
+    row_none c.args.out.now c.args.o c.args.row.now
 
 pub loop-j-preserved : goal.loop-j-preserved
 loop-j-preserved c =
-    let e = c.put_u64.ensures in
-    (omega arith, row_step c.args.out.now c.args.o c.args.row.now c.loop-j.j c.loop-j.out _ (omega arith) c.loop-j.invariant.1 e, ap length e ∙ simp length_put c.loop-j.invariant.2)
+    let e = c.put_u64.ensures in row_step c.args.out.now c.args.o c.args.row.now c.loop-j.j c.loop-j.out _ (omega arith) c.loop-j.invariant e
 
 pub returns : goal.returns
 returns c =
-    row_all c.args.out.now c.args.o c.args.row.now c.loop-j.j c.loop-j.out (omega arith) c.loop-j.invariant.1
+    row_all c.args.out.now c.args.o c.args.row.now c.loop-j.j c.loop-j.out (omega arith) c.loop-j.invariant

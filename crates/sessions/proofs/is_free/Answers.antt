@@ -3,6 +3,3 @@ use Rattle.sessions.proofs.is_free.Goals as goal
 
 pub returns-then-s-lt-SESSION_SLOTS : goal.returns-then-s-lt-SESSION_SLOTS
 returns-then-s-lt-SESSION_SLOTS c = search laws
-
-pub returns : goal.returns
-returns c = search laws

@@ -1,7 +1,5 @@
 use mathlib.Core.Path.{refl}
-use Prim.Native.Nat.{◌-◌}
 use native.Mathlib.Omega.{arith}
-use lib.ListN.{length-set}
 use Rattle.store.specs.View.{listed}
 use Rattle.store.proofs.Places.{spot_fits}
 use Rattle.store.proofs.Rows.{cell_in}
@@ -10,7 +8,8 @@ use Rattle.store.proofs.read.Goals as goal
 
 pub loop-j-init : goal.loop-j-init
 unfolding listed
-loop-j-init c = (omega arith, refl, refl)
+loop-j-init c =
+    refl
 
 pub overflow_add-k : goal.overflow_add-k
 overflow_add-k c =
@@ -22,8 +21,8 @@ get-requires c =
 
 pub loop-j-preserved : goal.loop-j-preserved
 loop-j-preserved c =
-    (simp length-set (omega arith), front_more _ c.loop-j.vs c.loop-j.j _ c.loop-j-test.true c.loop-j.invariant.1 c.get.ensures, simp length-set c.loop-j.invariant.2)
+    front_more _ c.loop-j.vs c.loop-j.j _ (omega arith) c.loop-j.invariant c.get.ensures
 
 pub returns : goal.returns
 returns c =
-    front_all _ c.loop-j.vs c.loop-j.j _ c.loop-j-test.false c.loop-j.invariant.1 (omega arith)
+    front_all _ c.loop-j.vs c.loop-j.j _ (omega arith) c.loop-j.invariant (omega arith)

@@ -1,8 +1,7 @@
-use Rattle.stored.proofs.Laws.{laws}
+use Rattle.std.proofs.Common.{rules}
+use Rattle.stored.specs.Rows as R
 use Rattle.stored.proofs.load.Goals as goal
 
-pub returns-in-Value : goal.returns-in-Value
-returns-in-Value c = search laws
-
-pub returns-in-Refused : goal.returns-in-Refused
-returns-in-Refused c = search laws
+pub returns : goal.returns
+unfolding R.load_at
+returns c = search rules

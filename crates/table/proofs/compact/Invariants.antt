@@ -3,7 +3,4 @@ use Prim.Native.Nat.{◌-◌, ◌≤◌}
 use Rattle.table.proofs.compact.Given as goal
 
 abbrev pub invariant-loop-i : goal.invariant-loop-i
-invariant-loop-i l = (l.i ≤ l.n) × Compacted l.base l.stride l.mark l.i l.w l.initial.m l.m
-
-abbrev pub decreases-loop-i : goal.decreases-loop-i
-decreases-loop-i l = l.n - l.i
+invariant-loop-i l = Compacted l.base l.stride l.mark l.i l.w l.initial.m l.m

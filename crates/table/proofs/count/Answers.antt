@@ -4,9 +4,11 @@ use native.Mathlib.Omega.{arith}
 use Prim.Native.Nat.{◌+◌, ◌*◌, ◌-◌, ◌≤◌, ◌<◌}
 use mathlib.Core.Path.{◌≡◌}
 use Rattle.table.proofs.count.Goals as goal
+use Rattle.table.proofs.count.Goals.{then-key_at-key, else-key_at-key}
 
 pub loop-i-init : goal.loop-i-init
-loop-i-init c = (omega arith, counted_none _ _ _)
+loop-i-init c =
+    counted_none _ _ _
 
 pub overflow_mul-at : goal.overflow_mul-at
 overflow_mul-at c =
@@ -29,22 +31,19 @@ key_at-requires c =
     let r = c.requires.0.room in
     omega (arith, row_in r (c.args.lo + c.args.w * c.loop-i.i + (c.args.w - 1)) (omega (arith, step c.args.w h)), r.wide)
 
-pub loop-i-preserved-then-key_at-key : goal.loop-i-preserved-then-key_at-key
-loop-i-preserved-then-key_at-key c =
-    let h : c.loop-i.i + 1 ≤ c.args.many = omega arith in (
-      h,
-      counted_more c.args.key c.args.lo c.args.w c.loop-i.i c.loop-i.c c.requires.0.asc c.requires.1 (omega (arith, mono c.args.w h)) c.loop-i.invariant.1
-          (rw c.key_at.ensures at c.if-key_at-key.true),
-    )
-
 pub loop-i-preserved : goal.loop-i-preserved
-loop-i-preserved c = (
-  omega arith,
-  counted_stop c.args.key c.args.lo c.args.w c.loop-i.i c.loop-i.c c.loop-i.invariant.1 (rw c.key_at.ensures at c.if-key_at-key.false),
-)
+loop-i-preserved c =
+    let h : c.loop-i.i + 1 ≤ c.args.many = omega arith in
+    elim c.if-key_at-key.branch [
+      | then-key_at-key w ↦
+          rw w.c-is
+          (counted_more c.args.key c.args.lo c.args.w c.loop-i.i c.loop-i.c c.requires.0.asc c.requires.1 (omega (arith, mono c.args.w h)) c.loop-i.invariant (rw c.key_at.ensures at w.if-key_at-key.true))
+      | else-key_at-key w ↦
+          rw w.c-is (counted_stop c.args.key c.args.lo c.args.w c.loop-i.i c.loop-i.c c.loop-i.invariant (rw c.key_at.ensures at w.if-key_at-key.false))
+    ]
 
 pub returns : goal.returns
 returns c =
     let l = c.loop-i in
     let e : l.i ≡ c.args.many = omega arith in
-    rw e at l.invariant.1
+    rw e at l.invariant

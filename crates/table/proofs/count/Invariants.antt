@@ -3,7 +3,4 @@ use Prim.Native.Nat.{◌-◌, ◌≤◌}
 use Rattle.table.proofs.count.Given as goal
 
 abbrev pub invariant-loop-i : goal.invariant-loop-i
-invariant-loop-i l = (l.i ≤ l.many) × Counted (key_at l.base l.stride l.m) l.key l.lo l.w l.i l.c
-
-abbrev pub decreases-loop-i : goal.decreases-loop-i
-decreases-loop-i l = l.many - l.i
+invariant-loop-i l = Counted (key_at l.base l.stride l.m) l.key l.lo l.w l.i l.c

@@ -11,8 +11,8 @@ pub overflow_add-base-then-w-i : goal.overflow_add-base-then-w-i
 overflow_add-base-then-w-i c =
     omega (arith, step c.args.stride c.if-w-i.true, next c.args.stride c.args.i)
 
-pub move_down-requires : goal.move_down-requires
-move_down-requires c =
+pub move_bytes-requires : goal.move_bytes-requires
+move_bytes-requires c =
     omega (arith, step c.args.stride c.if-w-i.true, next c.args.stride c.args.i)
 
 pub returns-else-w-i : goal.returns-else-w-i

@@ -27,10 +27,10 @@ pub overflow_sub-end-2 : goal.overflow_sub-end-2
 overflow_sub-end-2 c =
     omega (arith, mono c.args.stride c.requires.1)
 
-pub move_up-requires : goal.move_up-requires
-move_up-requires c =
+pub move_bytes-requires : goal.move_bytes-requires
+move_bytes-requires c =
     omega (arith, mono c.args.stride c.requires.1)
 
 pub returns : goal.returns
 returns c =
-    opened _ _ _ _ c.requires.1 c.move_up.ensures
+    opened _ _ _ _ c.requires.1 c.move_bytes.ensures

@@ -3,6 +3,3 @@ use Rattle.trades.proofs.judge.Goals as goal
 
 pub few_notices-few-requires : goal.few_notices-few-requires
 few_notices-few-requires c = search judging
-
-pub returns : goal.returns
-returns c = search judging

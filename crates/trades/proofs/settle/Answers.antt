@@ -1,4 +1,4 @@
-use Rattle.trades.proofs.Applying.{applying, taker_room, maker_room, maker_hold, maker_lives}
+use Rattle.trades.proofs.Applying.{taker_room, maker_room, maker_hold, maker_lives}
 use Rattle.trades.proofs.settle.Goals as goal
 
 pub fill-requires : goal.fill-requires
@@ -9,6 +9,3 @@ pub fill-requires-2 : goal.fill-requires-2
 fill-requires-2 c =
     let b = c.fill.ensures in
     (b.becomes.state, maker_lives _ c.args.d _ _ c.requires.3 b _ c.requires.2, maker_hold _ c.args.d _ _ c.requires.3 b, maker_room _ c.args.d _ _ c.requires.3 b)
-
-pub returns : goal.returns
-returns c = search applying

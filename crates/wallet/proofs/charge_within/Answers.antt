@@ -1,4 +1,4 @@
-use mathlib.Core.Option.{some}
+use Rattle.std.specs.Prelude.{Some}
 use mathlib.Core.Path.{◌≡◌, sym, ◌∙◌}
 use Prim.Native.Nat.{ℕ, ◌+◌, ◌*◌, ◌<◌, ◌≤◌}
 use native.Mathlib.Nat.{mul-le-mul}
@@ -15,7 +15,7 @@ small p f q h g k =
     let most : (p + f) * q ≤ 4294967294 * 2147483647 = mul-le-mul {n₂ = 4294967294} {m₂ = 2147483647} (omega arith) (omega arith) in
     omega (arith, most)
 
-fits : (p f q : ℕ) → p < W.small → f < W.small → q < W.small → some (int ((p + f) * q)) ≡ fit ((int p +ℤ int f) *ℤ pos q)
+fits : (p f q : ℕ) → p < W.small → f < W.small → q < W.small → Some (int ((p + f) * q)) ≡ fit ((int p +ℤ int f) *ℤ pos q)
 fits p f q h g k = fits_pos ((p + f) * q) (small p f q h g k) ∙ (λ i. fit ((sym (low p (omega arith)) i +ℤ sym (low f (omega arith)) i) *ℤ pos q))
 
 pub overflow_add-amount : goal.overflow_add-amount

@@ -5,6 +5,3 @@ use Rattle.levels.proofs.listed.best_first.Given as goal
 
 abbrev pub invariant-loop-i : goal.invariant-loop-i
 invariant-loop-i l = Filled l.side (cell l.m) l.n l.i l.k l.row
-
-abbrev pub decreases-loop-i : goal.decreases-loop-i
-decreases-loop-i l = l.n - l.i

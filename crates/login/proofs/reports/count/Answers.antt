@@ -1,12 +1,11 @@
 use mathlib.Core.Path.{◌≡◌, ◌∙◌}
-use Prim.Native.Nat.{◌-◌}
 use native.Mathlib.Omega.{arith}
 use Rattle.store.specs.Layout.{cell}
 use Rattle.login.proofs.Told.{count_first, count_next, count_all, small_row}
 use Rattle.login.proofs.reports.count.Goals as goal
 
 pub loop-j-init : goal.loop-j-init
-loop-j-init c = (count_first (cell c.args.m.now) c.args.a c.word_at-delivered.result, omega arith, omega arith)
+loop-j-init c = (count_first (cell c.args.m.now) c.args.a c.word_at-delivered.result, omega arith)
 
 pub rows-n-requires : goal.rows-n-requires
 rows-n-requires c =
@@ -14,7 +13,7 @@ rows-n-requires c =
 
 pub loop-j-preserved : goal.loop-j-preserved
 loop-j-preserved c =
-    (count_next (cell c.args.m.now) c.args.a c.word_at-delivered.result c.loop-j.j c.loop-j.n c.rows-n.result c.loop-j.invariant.0 c.rows-n.ensures.0, omega (arith, c.rows-n.ensures.1), omega arith)
+    (count_next (cell c.args.m.now) c.args.a c.word_at-delivered.result c.loop-j.j c.loop-j.n c.rows-n.result c.loop-j.invariant.0 c.rows-n.ensures.0, omega (arith, c.rows-n.ensures.1))
 
 pub returns : goal.returns
 returns c =

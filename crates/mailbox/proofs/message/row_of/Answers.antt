@@ -4,17 +4,8 @@ use Rattle.mailbox.proofs.message.row_of.Goals as goal
 pub returns-in-LoginAccepted : goal.returns-in-LoginAccepted
 returns-in-LoginAccepted c = rw c.in-LoginAccepted.is refl
 
-pub returns-in-LoginRejected : goal.returns-in-LoginRejected
-returns-in-LoginRejected c = rw (c.in-LoginRejected.is, c.login_error_code-w.ensures) refl
-
 pub returns-in-Heartbeat : goal.returns-in-Heartbeat
 returns-in-Heartbeat c = rw c.in-Heartbeat.is refl
-
-pub returns-in-Logout : goal.returns-in-Logout
-returns-in-Logout c = rw (c.in-Logout.is, c.logout_code-w.ensures) refl
-
-pub returns-in-Reject : goal.returns-in-Reject
-returns-in-Reject c = rw (c.in-Reject.is, c.reject_code-w.ensures) refl
 
 pub returns-in-Report : goal.returns-in-Report
 returns-in-Report c = rw c.in-Report.is c.report.ensures

@@ -1,11 +1,7 @@
-use mathlib.Core.Path.{refl, ◌∙◌}
+use mathlib.Core.Path.{◌∙◌}
 use Rattle.words.proofs.Int.{read}
-use borrow.Author.Tests.{eq-eqb, ne_eqb}
+use borrow.Author.Rules.{rules}
 use Rattle.pending.proofs.batch.price_of.Goals as goal
 
-pub returns-then-there-eq0 : goal.returns-then-there-eq0
-returns-then-there-eq0 c = rw (eq-eqb c.args.there 0 c.if-there-eq0.true) refl
-
-pub returns-else-there-eq0 : goal.returns-else-there-eq0
-returns-else-there-eq0 c =
-    rw (ne_eqb c.args.there 0 c.if-there-eq0.false, read {x = c.to_i64.result} c.to_i64.type_inv ∙ c.to_i64.ensures) refl
+pub returns : goal.returns
+returns c = rw (c.then_some.ensures, read {x = c.to_i64.result} c.to_i64.type_inv ∙ c.to_i64.ensures) (search rules)

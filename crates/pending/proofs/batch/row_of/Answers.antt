@@ -1,20 +1,17 @@
 use native.Mathlib.Omega.{arith}
 use Rattle.gateway.specs.Ledger.{owner_of}
-use mathlib.Core.Path.{refl, ap, ◌∙◌}
-use Rattle.words.proofs.Int.{read}
+use mathlib.Core.Path.{refl}
 use borrow.Author.Rules.{rules}
-use Rattle.words.specs.Words.{word_of}
 use Rattle.pending.proofs.batch.row_of.Goals as goal
 
 pub returns-in-Limit : goal.returns-in-Limit
 unfolding owner_of
 returns-in-Limit c =
-    rw (c.in-Limit.is, c.side_code-s.ensures, c.word_of-p.ensures ∙ ap word_of (read {x = c.in-Limit.price} (search rules)), c.tif_code-t.ensures, c.qty_flag-f.ensures, c.qty_word-d.ensures)
-    (refl, record { owner_fits = omega arith; prices_fit = record { sfits = (search rules) } })
+    rw c.in-Limit.is (search rules, record { owner_fits = omega arith; prices_fit = record { sfits = (search rules) } })
 
 pub returns-in-Market : goal.returns-in-Market
 unfolding owner_of
-returns-in-Market c = rw (c.in-Market.is, c.side_code-s-in-Market.ensures) (refl, record { owner_fits = omega arith; prices_fit = tt })
+returns-in-Market c = rw c.in-Market.is (search rules, record { owner_fits = omega arith; prices_fit = tt })
 
 pub returns-in-Cancel : goal.returns-in-Cancel
 unfolding owner_of
@@ -23,14 +20,12 @@ returns-in-Cancel c = rw c.in-Cancel.is (refl, record { owner_fits = omega arith
 pub returns-in-Modify : goal.returns-in-Modify
 unfolding owner_of
 returns-in-Modify c =
-    rw (c.in-Modify.is, c.word_of-p-in-Modify.ensures ∙ ap word_of (read {x = c.in-Modify.price} (search rules)))
-    (refl, record { owner_fits = omega arith; prices_fit = record { sfits = (search rules) } })
+    rw c.in-Modify.is (search rules, record { owner_fits = omega arith; prices_fit = record { sfits = (search rules) } })
 
 pub returns-in-Stop : goal.returns-in-Stop
 unfolding owner_of
 returns-in-Stop c =
-    rw (c.in-Stop.is, c.side_code-s-in-Stop.ensures, c.word_of-t.ensures ∙ ap word_of (read {x = c.in-Stop.trigger} (search rules)), c.price_flag-f.ensures, c.price_word-l.ensures.0)
-    (refl, record { owner_fits = omega arith; prices_fit = (record { sfits = (search rules) }, c.price_word-l.ensures.1) })
+    rw (c.in-Stop.is, c.price_flag-flag.ensures, c.price_word-word.ensures.0) (search rules, record { owner_fits = omega arith; prices_fit = (record { sfits = (search rules) }, c.price_word-word.ensures.1) })
 
 pub returns-in-CancelAll : goal.returns-in-CancelAll
 unfolding owner_of

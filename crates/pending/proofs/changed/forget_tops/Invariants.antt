@@ -7,7 +7,4 @@ use Rattle.pending.specs.Pending.{forget_tops}
 use Rattle.pending.proofs.changed.forget_tops.Given as goal
 
 abbrev pub invariant-loop-i : goal.invariant-loop-i
-invariant-loop-i l = (l.i ≤ l.n) × Is l.m (forget_tops l.i (cell l.initial.m)) × (length l.m ≡ length l.initial.m)
-
-abbrev pub decreases-loop-i : goal.decreases-loop-i
-decreases-loop-i l = l.n - l.i
+invariant-loop-i l = Is l.m (forget_tops l.i (cell l.initial.m))

@@ -1,4 +1,3 @@
-use Prim.Native.Nat.{◌-◌, ◌≤◌}
 use mathlib.Core.Bool.{true}
 use Rattle.gateway.specs.Bytes.{wallet_widths}
 use Rattle.saved.specs.Parts.{wallets_start}
@@ -6,7 +5,4 @@ use Rattle.saved.proofs.Rising.{Passed}
 use Rattle.saved.proofs.checks.wallets_rise.Given as goal
 
 abbrev pub invariant-loop-j : goal.invariant-loop-j
-invariant-loop-j l = Passed (λ x. true) wallet_widths l.xs wallets_start l.n l.j × (l.j ≤ l.n)
-
-abbrev pub decreases-loop-j : goal.decreases-loop-j
-decreases-loop-j l = l.n - l.j
+invariant-loop-j l = Passed (λ x. true) wallet_widths l.xs wallets_start l.n l.j

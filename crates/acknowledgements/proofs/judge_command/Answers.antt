@@ -1,5 +1,0 @@
-use Rattle.acknowledgements.proofs.Refusing.{refusing}
-use Rattle.acknowledgements.proofs.judge_command.Goals as goal
-
-pub returns : goal.returns
-returns c = search refusing

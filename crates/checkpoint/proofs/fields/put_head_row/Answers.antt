@@ -1,5 +1,0 @@
-use Rattle.checkpoint.proofs.Calls.{laws}
-use Rattle.checkpoint.proofs.fields.put_head_row.Goals as goal
-
-pub returns : goal.returns
-returns c = search laws

@@ -1,8 +1,0 @@
-use Rattle.lists.proofs.Laws.{laws}
-use Rattle.lists.proofs.entry_fits.Goals as goal
-
-pub returns-then-at_most : goal.returns-then-at_most
-returns-then-at_most c = search laws
-
-pub returns : goal.returns
-returns c = search laws

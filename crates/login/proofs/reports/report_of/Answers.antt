@@ -1,5 +1,0 @@
-use Rattle.words.proofs.Int.{read}
-use Rattle.login.proofs.reports.report_of.Goals as goal
-
-pub returns : goal.returns
-returns c = let w = c.to_i64 in cc (read {x = w.result} w.type_inv)

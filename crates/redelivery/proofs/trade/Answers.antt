@@ -1,5 +1,0 @@
-use Rattle.redelivery.proofs.Events.{kinds}
-use Rattle.redelivery.proofs.trade.Goals as goal
-
-pub returns : goal.returns
-returns c = search kinds

@@ -1,8 +1,0 @@
-use Rattle.script.proofs.Laws.{laws}
-use Rattle.script.proofs.phase.Goals as goal
-
-pub returns-in-Some : goal.returns-in-Some
-returns-in-Some c = search laws
-
-pub returns-in-None : goal.returns-in-None
-returns-in-None c = search laws
