@@ -283,7 +283,7 @@ impl Session {
     }
 
     // The account that it is logged in for, plus one; 0 for none.
-    fn logged_in(self) -> u64
+    pub fn account_of(self) -> u64
         ensures { P.AccountOf self result }
     {
         if self.connected == 0 { 0 } else { self.account }
@@ -293,7 +293,7 @@ impl Session {
     pub fn is_open(self) -> bool
         ensures { result ≡ is_open (P.session_in self) }
     {
-        if self.logged_in() == 0 {
+        if self.account_of() == 0 {
             false
         } else {
             self.is_present()
@@ -360,7 +360,7 @@ pub fn account_of(m: &[u8], s: usize) -> Option<usize>
     requires { Holds m.now }
     ensures { result ≡ account_of (session_at s (gateway (cell m.now)).rest) }
 {
-    minus_one(find_session(m, s).logged_in())
+    minus_one(find_session(m, s).account_of())
 }
 
 // The session logged in for an account.
@@ -461,7 +461,7 @@ pub fn forget(m: &mut [u8], s: usize)
     requires { Holds m.old × (s < session_slots) × P.Linked (cell m.old) }
     ensures { Is m.new (P.forget s (cell m.old)) }
 {
-    let a = session_at(m, s).logged_in();
+    let a = session_at(m, s).account_of();
     leave(m, a);
     set_cell(m, store::SESSIONS, s, cells::SESSION_CONNECTED, 0);
 }

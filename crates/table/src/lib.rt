@@ -151,19 +151,34 @@ fn move_bytes(m: &mut [u8], from: usize, to: usize, len: usize)
     m.copy_within(from..from + len, to);
 }
 
-// Rows of 32 bytes have functions of their own: with the distance known there, the loop is compiled to moves of many bytes at once.
+// Over the bytes that it touches and no others, a move by a known distance is compiled to a call of memmove.
+fn move_up(m: &mut [u8], from: usize, by: usize, len: usize)
+    requires { from + by + len ≤ length m.old }
+    ensures { Moved m.old m.new from (from + by) len }
+{
+    m[from..from + by + len].copy_within(0..len, by);
+}
+
+fn move_down(m: &mut [u8], to: usize, by: usize, len: usize)
+    requires { to + by + len ≤ length m.old }
+    ensures { Moved m.old m.new (to + by) to len }
+{
+    m[to..to + by + len].copy_within(by..by + len, 0);
+}
+
+// Rows of 32 bytes have functions of their own, where the distance is known.
 fn up_32(m: &mut [u8], from: usize, len: usize)
     requires { from + 32 + len ≤ length m.old }
     ensures { Moved m.old m.new from (from + 32) len }
 {
-    move_bytes(m, from, from + 32, len);
+    move_up(m, from, 32, len);
 }
 
 fn down_32(m: &mut [u8], to: usize, len: usize)
     requires { to + 32 + len ≤ length m.old }
     ensures { Moved m.old m.new (to + 32) to len }
 {
-    move_bytes(m, to + 32, to, len);
+    move_down(m, to, 32, len);
 }
 
 // Room for a row at i, which the caller writes: the rows from i on move one place up.
@@ -172,13 +187,12 @@ pub fn open_at(m: &mut [u8], base: usize, stride: usize, n: usize, i: usize)
     ensures { Opened base stride n i m.old m.new }
 {
     let from = base + stride * i;
-    let to = from + stride;
     let end = base + stride * n;
     if stride == 32 {
         up_32(m, from, end - from);
         return;
     }
-    move_bytes(m, from, to, end - from);
+    move_up(m, from, stride, end - from);
 }
 
 // The row i goes: those behind it move one place down.
@@ -193,7 +207,7 @@ pub fn close_at(m: &mut [u8], base: usize, stride: usize, n: usize, i: usize)
         down_32(m, to, end - from);
         return;
     }
-    move_bytes(m, from, to, end - from);
+    move_down(m, to, stride, end - from);
 }
 
 pub fn strike(m: &mut [u8], base: usize, stride: usize, mark: usize, i: usize)

@@ -27,10 +27,10 @@ pub overflow_sub-end-2 : goal.overflow_sub-end-2
 overflow_sub-end-2 c =
     omega (arith, step c.args.stride c.requires.1)
 
-pub move_bytes-requires : goal.move_bytes-requires
-move_bytes-requires c =
+pub move_down-requires : goal.move_down-requires
+move_down-requires c =
     omega (arith, step c.args.stride c.requires.1)
 
 pub returns : goal.returns
 returns c =
-    closed _ _ _ _ c.requires.1 c.move_bytes.ensures
+    closed _ _ _ _ c.requires.1 c.move_down.ensures

@@ -8,9 +8,6 @@ overflow_mul-from c = omega (arith, mono c.args.stride c.requires.1)
 pub overflow_add-from : goal.overflow_add-from
 overflow_add-from c = omega (arith, mono c.args.stride c.requires.1)
 
-pub overflow_add-to : goal.overflow_add-to
-overflow_add-to c = omega (arith, mono c.args.stride c.requires.1)
-
 pub overflow_sub-end : goal.overflow_sub-end
 overflow_sub-end c =
     omega (arith, mono c.args.stride c.requires.1)
@@ -27,10 +24,10 @@ pub overflow_sub-end-2 : goal.overflow_sub-end-2
 overflow_sub-end-2 c =
     omega (arith, mono c.args.stride c.requires.1)
 
-pub move_bytes-requires : goal.move_bytes-requires
-move_bytes-requires c =
+pub move_up-requires : goal.move_up-requires
+move_up-requires c =
     omega (arith, mono c.args.stride c.requires.1)
 
 pub returns : goal.returns
 returns c =
-    opened _ _ _ _ c.requires.1 c.move_bytes.ensures
+    opened _ _ _ _ c.requires.1 c.move_up.ensures

@@ -1,5 +1,5 @@
 use Rattle.clients.proofs.Laws.{no_account, its_account}
-use Rattle.clients.proofs.Session.logged_in.Goals as goal
+use Rattle.clients.proofs.Session.account_of.Goals as goal
 
 pub returns-then-self-eq0 : goal.returns-then-self-eq0
 returns-then-self-eq0 c = no_account c.args.self c.if-self-eq0.true
